@@ -3,7 +3,7 @@ use Rattle.std.proofs.Common.{arith, ◌≡◌, ℕ, List, [], ◌∷◌, ◌⊎
 use Rattle.btree_range_map.specs.AnyRange.{AnyRange}
 use Rattle.btree_range_map.specs.Order.{KeyOrder}
 use Rattle.line_program.specs.Listing.{SpellsEach}
-use Rattle.address_sets.specs.declared.prefix.Prefix.{Prefix}
+use Rattle.address_prefixes.specs.declared.prefix.Prefix.{Prefix}
 use Rattle.address_text.specs.Texts.{prefix_line}
 use Rattle.address_text.specs.declared.family.Family.{Family}
 use Rattle.address_lists.specs.Printed.{ArePrinted, IsPrinted, prefix_of}

@@ -2,14 +2,12 @@
 
 ghost use Rattle.std.specs.Prelude.{◌^◌, OnOk};
 ghost use Rattle.std.specs.Io.KnownBytes.{Appends};
+ghost use Rattle.btree_range_map.specs.Holding.{box_items};
 ghost use Rattle.line_program.specs.Listing.{Writes};
 ghost use Rattle.address_lists.specs.Counted.{IsCountLine, IsCounted, count_line};
 
 use crate::addresses::Addresses;
-use address_sets::{Address, address_count};
-use btree_range_map::AnyRange;
-use btree_range_map::generic::set::RangeSet;
-use btree_range_map::storage::{Item, Storage};
+use address_sets::{Address, AddressSet, address_count};
 use std::io::{self, Write};
 
 fn write_number<W: Write>(before: &str, family: &str, count: u128, out: &mut W) -> io::Result<()>
@@ -30,14 +28,14 @@ fn write_all<W: Write>(before: &str, family: &str, out: &mut W) -> io::Result<()
     )
 }
 
-fn write_count<A: Address, C: Storage<Item<AnyRange<A>, ()>>, W: Write>(
+fn write_count<A: Address, W: Write>(
     before: &str,
     family: &str,
-    set: &RangeSet<A, C>,
+    set: &AddressSet<A>,
     out: &mut W,
 ) -> io::Result<()>
     ensures { OnOk result (Writes (W.contents out.old) (W.contents out.new)
-        (IsCountLine before.now family.now A.order (C.items set.now))) }
+        (IsCountLine before.now family.now A.order (box_items set.now))) }
 {
     match address_count(set) {
         Some(count) => write_number(before, family, count, out),

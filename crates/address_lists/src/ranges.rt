@@ -1,8 +1,7 @@
 //! The ranges of a list, each on a line, and its addresses one by one.
 
-ghost use Rattle.std.specs.Prelude.{◌≡◌, ◌+◌, ◌-◌, ◌≤◌, ◌<◌, ◌^◌, OnOk};
+ghost use Rattle.std.specs.Prelude.{◌≡◌, ◌+◌, ◌-◌, ◌≤◌, ◌<◌, ◌^◌, ℕ, OnOk};
 ghost use Rattle.std.specs.List.{AllByRecursion};
-ghost use Rattle.address_sets.specs.Runs.{IsSpan};
 ghost use Rattle.line_program.specs.Listing.{SpellsEach, Writes};
 ghost use Rattle.address_text.specs.Texts.{address_line, width};
 ghost use Rattle.address_lists.specs.Ranges.{IsPrintedAs, IsRangeText};
@@ -13,8 +12,6 @@ use crate::addresses::Addresses;
 use address_sets::{Address, Runs, runs_of};
 use address_text::Family;
 use address_text::write::{write_address_line, write_span_line};
-use btree_range_map::AnyRange;
-use btree_range_map::storage::{Item, Storage};
 use std::io::{self, Write};
 
 /// How the addresses of a range are printed.
@@ -47,7 +44,7 @@ fn write_range<W: Write>(
     range: (u128, u128),
     out: &mut W,
 ) -> io::Result<()>
-    requires { IsSpan (width family) range }
+    requires { (range.0 ≤ range.1) × (range.1 < 2 ^ width family) }
     ensures { OnOk result (Writes (W.contents out.old) (W.contents out.new)
         (IsRangeText spelling family range)) }
 {
@@ -58,13 +55,14 @@ fn write_range<W: Write>(
     }
 }
 
-fn write_all<'a, A: Address + 'a, C: Storage<Item<AnyRange<A>, ()>> + 'a, W: Write>(
+fn write_all<'a, A: Address + 'a, W: Write>(
     spelling: Spelling,
     family: Family,
-    mut ranges: Runs<'a, A, C>,
+    mut ranges: Runs<'a, A>,
     out: &mut W,
 ) -> io::Result<()>
-    requires { AllByRecursion (IsSpan (width family)) ranges }
+    requires { AllByRecursion (λ (range : ℕ × ℕ). (range.0 ≤ range.1)
+        × (range.1 < 2 ^ width family)) ranges }
     ensures { OnOk result (Writes (W.contents out.old) (W.contents out.new)
         (SpellsEach (IsRangeText spelling family) ranges.entry)) }
 {

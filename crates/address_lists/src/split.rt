@@ -3,20 +3,18 @@
 ghost use Rattle.std.specs.Prelude.{◌≡◌, ◌+◌, ◌-◌, ◌≤◌, ◌<◌, ◌^◌, OnOk};
 ghost use Rattle.std.specs.List.{AllByRecursion};
 ghost use Rattle.btree_range_map.specs.FreeRanges.{item_ranges};
+ghost use Rattle.btree_range_map.specs.Holding.{box_items};
 ghost use Rattle.line_program.specs.Listing.{SpellsEach, Writes};
-ghost use Rattle.address_sets.specs.Prefixes.{IsPrefix};
+ghost use Rattle.address_prefixes.specs.Prefixes.{IsPrefix};
 ghost use Rattle.address_text.specs.Texts.{width};
 ghost use Rattle.address_lists.specs.Split.{AreSplit, IsPrintedSplit, IsSplit, IsSplitText, part_lines};
 
 use crate::addresses::Addresses;
 use crate::print::FamilyAddress;
 use address_prefixes::prefix::greatest_of;
-use address_sets::{Prefix, PrefixSet, Prefixes};
+use address_sets::{AddressSet, Prefix, PrefixSet, Prefixes};
 use address_text::Family;
 use address_text::write::write_prefix_line;
-use btree_range_map::AnyRange;
-use btree_range_map::generic::set::RangeSet;
-use btree_range_map::storage::{Item, Storage};
 use std::io::{self, Write};
 
 /// Writes the prefixes of a length that have the addresses of a shorter one.
@@ -81,8 +79,8 @@ fn write_split_prefix<A: FamilyAddress, W: Write>(
     write_split(A::family(), prefix.length, (first, last), length, out)
 }
 
-fn write_all<'a, A: FamilyAddress + 'a, C: Storage<Item<AnyRange<A>, ()>> + 'a, W: Write>(
-    mut prefixes: Prefixes<'a, A, C>,
+fn write_all<'a, A: FamilyAddress + 'a, W: Write>(
+    mut prefixes: Prefixes<'a, A>,
     length: u8,
     out: &mut W,
 ) -> io::Result<()>
@@ -96,14 +94,14 @@ fn write_all<'a, A: FamilyAddress + 'a, C: Storage<Item<AnyRange<A>, ()>> + 'a, 
     Ok(())
 }
 
-fn write_set<A: FamilyAddress, C: Storage<Item<AnyRange<A>, ()>>, W: Write>(
-    set: &RangeSet<A, C>,
+fn write_set<A: FamilyAddress, W: Write>(
+    set: &AddressSet<A>,
     length: u8,
     out: &mut W,
 ) -> io::Result<()>
     ensures { OnOk result (Writes (W.contents out.old) (W.contents out.new)
         (AreSplit A.its_family A.number length A.order A.WIDTH
-        (item_ranges (C.items set.now)))) }
+        (item_ranges (box_items set.now)))) }
 {
     write_all(set.prefixes(), length, out)
 }

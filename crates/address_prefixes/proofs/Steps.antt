@@ -1,5 +1,5 @@
 -- The prefixes of a range: the first, and those of what is left.
-use Rattle.std.proofs.Common.{◌≡◌, ℕ, zero, suc, ◌+◌, ◌-◌, ◌^◌, ◌≤◌, ◌<◌, true, false, Bool, nat_lt, List, [], ◌∷◌, refl, sym, ap, ◌∙◌, arith}
+use Rattle.std.proofs.Common.{◌≡◌, ℕ, zero, suc, ◌+◌, ◌-◌, ◌^◌, ◌≤◌, ◌<◌, true, false, Bool, nat_lt, List, [], ◌∷◌, refl, sym, ap, subst, ◌∙◌, arith}
 use Rattle.std.proofs.Math.Pow.{pow_mono, pow_pos}
 use Rattle.std.proofs.lemmas.Bool.Decides.{nat_tests}
 use Rattle.address_prefixes.specs.Tiles.{all_tiles, prefix_at, tiles, widest}
@@ -72,47 +72,36 @@ module _ {A : Type 0} (at : ℕ → A) (width : ℕ) where
       ∙ ap (λ l. prefix_at at width from (widest width from past) ∷ l)
       (enough (past - from) (past - k) k past (omega (arith, h, some)) (omega (arith, h, some)))
 
+-- numbers from the first to the last, and how many bits are free in the widest block at the first
+module _ {width told first last free : ℕ} (le : first ≤ last) (is_width : told ≡ width)
+    (is : free ≡ widest told first (last + 1)) where
+  is_widest : free ≡ widest width first (last + 1)
+  is_widest = subst (λ w. free ≡ widest w first (last + 1)) is_width is
+
+  pub is_bounded : free ≤ width
+  is_bounded =
+      let bounded = (widest_is width first (last + 1) (omega (arith, le))).bounded in
+      let same = is_widest in omega (arith, bounded, same)
+
+  pub is_inside : (rest : ℕ) → rest + 1 ≡ 2 ^ free → first + rest ≤ last
+  is_inside rest size =
+      let best = widest_is width first (last + 1) (omega (arith, le)) in
+      let inside : first + 2 ^ free ≤ last + 1 = rw is_widest best.inside in
+      omega (arith, inside, size)
+
   -- what is shown next, and what is left
-  pub part_is : (first last free end : ℕ) → first ≤ last → free ≡ widest width first (last + 1)
-      → end + 1 ≡ first + 2 ^ free → all_tiles at width first (last + 1)
-      ≡ (record { network = at first; last = at end; length = width - free })
-      ∷ all_tiles at width (end + 1) (last + 1)
-  part_is first last free end le is ends =
+  pub divided : {A : Type 0} (at : ℕ → A) (rest : ℕ) {length : ℕ} {network end : A}
+      → rest + 1 ≡ 2 ^ free
+      → network ≡ at first → end ≡ at (first + rest) → length ≡ width - free
+      → all_tiles at width first (last + 1)
+      ≡ (record { network = network; last = end; length = length })
+      ∷ all_tiles at width (first + rest + 1) (last + 1)
+  divided at rest size n l e =
       let k : ℕ = widest width first (last + 1) in
-      let past : end + 1 ≡ first + 2 ^ k = ends ∙ ap (λ f. first + 2 ^ f) is in
-      let some = pow_pos k in
-      let same : first + 2 ^ k - 1 ≡ end = omega (arith, past) in
-      next_tile first (last + 1) (omega (arith, le))
-      ∙ ap (λ e. (record { network = at first; last = at e; length = width - k })
-      ∷ all_tiles at width (first + 2 ^ k) (last + 1)) same
-      ∙ ap (λ f. (record { network = at first; last = at end; length = width - f })
-      ∷ all_tiles at width (first + 2 ^ k) (last + 1)) (sym is)
-      ∙ ap (λ p. (record { network = at first; last = at end; length = width - free })
-      ∷ all_tiles at width p (last + 1)) (sym past)
-
-  -- the same prefix in other words
-  pub shown : (first end free length : ℕ) (network last : A) (rest : List (Prefix A))
-      → network ≡ at first → last ≡ at end → length ≡ width - free
-      → ((record { network = at first; last = at end; length = width - free }) ∷ rest)
-      ≡ (record { network = network; last = last; length = length }) ∷ rest
-  shown first end free length network last rest n l e =
-      ap (λ x. (record { network = x; last = at end; length = width - free }) ∷ rest) (sym n)
-      ∙ ap (λ x. (record { network = network; last = x; length = width - free }) ∷ rest) (sym l)
-      ∙ ap (λ x. (record { network = network; last = last; length = x }) ∷ rest) (sym e)
-
-pub is_inside : (width first last free : ℕ) → first ≤ last
-    → free ≡ widest width first (last + 1) → (rest : ℕ) → rest + 1 ≡ 2 ^ free
-    → first + rest ≤ last
-is_inside width first last free le is rest size =
-    let best = widest_is width first (last + 1) (omega (arith, le)) in
-    let inside : first + 2 ^ free ≤ last + 1 = rw is best.inside in
-    omega (arith, inside, size)
-
-pub is_bounded : (width first last free : ℕ) → first ≤ last
-    → free ≡ widest width first (last + 1) → free ≤ width
-is_bounded width first last free le is =
-    let bounded = (widest_is width first (last + 1) (omega (arith, le))).bounded in
-    omega (arith, bounded, is)
+      let power : rest + 1 ≡ 2 ^ k = size ∙ ap (λ f. 2 ^ f) is_widest in
+      let past : first + rest + 1 ≡ first + 2 ^ k = omega (arith, power) in
+      let same : first + rest ≡ first + 2 ^ k - 1 = omega (arith, power) in
+      rw (n, l, e, past, same, is_widest) (next_tile at width first (last + 1) (omega (arith, le)))
 
 pub powers_fit : (width n : ℕ) → width ≤ 128 → n < 2 ^ width → n < 2 ^ 128
 powers_fit width n small h = let p : 2 ^ width ≤ 2 ^ 128 = pow_mono small in omega (arith, p, h)

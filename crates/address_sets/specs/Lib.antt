@@ -1,4 +1,4 @@
--- What a set of addresses has.
+-- What a set of addresses has, and its prefixes and runs.
 pub mod Counts
 pub use Rattle.address_prefixes.specs.Prefixes
 pub use Rattle.address_prefixes.specs.Runs

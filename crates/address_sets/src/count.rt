@@ -1,25 +1,29 @@
 //! How many addresses a set has.
 
-ghost use Rattle.std.specs.Prelude.{◌≡◌, ◌≤◌, ◌^◌, MatchOption};
+ghost use Rattle.std.specs.Prelude.{◌≡◌, ◌≤◌, ◌^◌, map, MatchOption};
 ghost use Rattle.std.specs.List.{AllByRecursion};
 ghost use Rattle.btree_range_map.specs.KeySets.{HoldsKey};
 ghost use Rattle.btree_range_map.specs.Numbers.{IsNumberOfKeys};
-ghost use Rattle.address_prefixes.specs.Runs.{IsSpan};
+ghost use Rattle.address_prefixes.specs.Spans.{HasSpan, span};
 ghost use Rattle.address_sets.specs.Counts.{total};
 
-use crate::runs::{Runs, runs_of};
 use address_keys::Address;
+use address_prefixes::span::span_of;
 use btree_range_map::AnyRange;
-use btree_range_map::generic::set::RangeSet;
+use btree_range_map::generic::set::{self, RangeSet};
 use btree_range_map::storage::{Item, Storage};
 
-/// How many addresses some runs have together, if they are fewer than 2^128.
-fn counted<A: Address, C: Storage<Item<AnyRange<A>, ()>>>(mut runs: Runs<'_, A, C>) -> Option<u128>
-    requires { AllByRecursion (IsSpan A.WIDTH) runs }
-    ensures { MatchOption result (2 ^ 128 ≤ total runs.entry) (λ n. n ≡ total runs.entry) }
+/// How many addresses some ranges of a set have together, if they are fewer than 2^128.
+fn counted<A: Address, C: Storage<Item<AnyRange<A>, ()>>>(
+    mut ranges: set::Iter<'_, A, C>,
+) -> Option<u128>
+    requires { AllByRecursion (HasSpan A.number A.WIDTH) ranges }
+    ensures { MatchOption result (2 ^ 128 ≤ total (map (span A.number A.WIDTH) ranges.entry))
+        (λ n. n ≡ total (map (span A.number A.WIDTH) ranges.entry)) }
 {
     let mut count = 0u128;
-    while let Some((first, last)) = runs.next() {
+    while let Some(range) = ranges.next() {
+        let (first, last) = span_of(range);
         count = count.checked_add(last - first)?.checked_add(1)?;
     }
     Some(count)
@@ -40,5 +44,5 @@ pub fn address_count<A: Address, C: Storage<Item<AnyRange<A>, ()>>>(
         (IsNumberOfKeys A.order (HoldsKey A.order (C.items set.now)) (2 ^ 128))
         (λ n. IsNumberOfKeys A.order (HoldsKey A.order (C.items set.now)) n) }
 {
-    counted(runs_of(set))
+    counted(set.iter())
 }

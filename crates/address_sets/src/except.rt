@@ -1,13 +1,13 @@
 //! A set but for the addresses of another.
 
 ghost use Rattle.std.specs.Prelude.{OnOk};
+ghost use Rattle.btree_range_map.specs.Holding.{box_items};
 ghost use Rattle.btree_range_map.specs.Range.{ClonesAreEqual};
 ghost use Rattle.btree_range_map.specs.TwoSets.{HoldsFirstAlone};
 
+use crate::AddressSet;
 use address_keys::Address;
-use btree_range_map::generic::set::RangeSet;
-use btree_range_map::storage::{Item, Storage};
-use btree_range_map::{AnyRange, MapError};
+use btree_range_map::MapError;
 
 /// Takes exceptions out of a set: it keeps just the addresses that they do not have.
 ///
@@ -19,13 +19,13 @@ use btree_range_map::{AnyRange, MapError};
 /// take_out(&mut set, &exceptions)?;
 /// assert!(rt; address_count(&set) == Some(5));
 /// ```
-pub fn take_out<A: Address, C: Storage<Item<AnyRange<A>, ()>>>(
-    set: &mut RangeSet<A, C>,
-    exceptions: &RangeSet<A, C>,
+pub fn take_out<A: Address>(
+    set: &mut AddressSet<A>,
+    exceptions: &AddressSet<A>,
 ) -> Result<(), MapError>
     requires { ClonesAreEqual A.is_clone A.eq }
-    ensures { OnOk result (HoldsFirstAlone A.order (C.items set.old) (C.items exceptions.now)
-        (C.items set.new)) }
+    ensures { OnOk result (HoldsFirstAlone A.order (box_items set.old) (box_items exceptions.now)
+        (box_items set.new)) }
 {
     set.remove_all(exceptions)
 }

@@ -4,6 +4,7 @@ ghost use Rattle.std.specs.Prelude.{◌≡◌, ◌++◌, [], None, IfSome};
 ghost use Rattle.std.specs.Iterator.{YieldsFirst, item_count};
 ghost use Rattle.std.specs.List.{AllByRecursion};
 ghost use Rattle.btree_range_map.specs.FreeRanges.{item_ranges};
+ghost use Rattle.btree_range_map.specs.Holding.{box_items};
 ghost use Rattle.address_prefixes.specs.Prefixes.{AreAscending, AreFewest, HaveJust, IsPrefix};
 ghost use Rattle.address_prefixes.specs.Runs.{IsSpan};
 ghost use Rattle.address_prefixes.specs.Tiles.{part_tiles, run_tiles};
@@ -12,21 +13,19 @@ use crate::runs::{Runs, runs_of};
 use address_keys::Address;
 use address_prefixes::Prefix;
 use address_prefixes::divide::divide;
-use btree_range_map::AnyRange;
-use btree_range_map::generic::set::RangeSet;
-use btree_range_map::storage::{Item, Storage};
+use btree_range_map::RangeSet;
 use std::marker::Model;
 
 /// The prefixes of a set that are left, in order. A contract sees their list.
 ///
 /// Each costs some steps for each bit of an address. Allocates nothing.
 #[derive(Drop)]
-pub struct Prefixes<'a, A: Address + 'a, C: Storage<Item<AnyRange<A>, ()>> + 'a> {
-    runs: Runs<'a, A, C>,
+pub struct Prefixes<'a, A: Address + 'a> {
+    runs: Runs<'a, A>,
     part: Option<(u128, u128)>,
 }
 
-impl<'a, A: Address + 'a, C: Storage<Item<AnyRange<A>, ()>> + 'a> Model for Prefixes<'a, A, C> {
+impl<'a, A: Address + 'a> Model for Prefixes<'a, A> {
     ghost use Rattle.std.specs.Prelude.{◌++◌, List, IfSome};
     ghost use Rattle.std.specs.List.{AllByRecursion};
     ghost use Rattle.address_prefixes.specs.declared.prefix.Prefix.{Prefix};
@@ -42,10 +41,7 @@ impl<'a, A: Address + 'a, C: Storage<Item<AnyRange<A>, ()>> + 'a> Model for Pref
 }
 
 /// The first and last number of what is next to be divided into prefixes.
-fn next_part<A: Address, C: Storage<Item<AnyRange<A>, ()>>>(
-    part: Option<(u128, u128)>,
-    runs: &mut Runs<'_, A, C>,
-) -> Option<(u128, u128)>
+fn next_part<A: Address>(part: Option<(u128, u128)>, runs: &mut Runs<'_, A>) -> Option<(u128, u128)>
     requires part { IfSome part (IsSpan A.WIDTH) }
     requires runs { AllByRecursion (IsSpan A.WIDTH) runs.old }
     ensures part { IfSome result (IsSpan A.WIDTH) }
@@ -60,7 +56,7 @@ fn next_part<A: Address, C: Storage<Item<AnyRange<A>, ()>>>(
     }
 }
 
-impl<'a, A: Address + 'a, C: Storage<Item<AnyRange<A>, ()>> + 'a> Iterator for Prefixes<'a, A, C> {
+impl<'a, A: Address + 'a> Iterator for Prefixes<'a, A> {
     type Item = Prefix<A>;
 
     ghost next_gives = { YieldsFirst (λ rest. rest) };
@@ -76,7 +72,7 @@ impl<'a, A: Address + 'a, C: Storage<Item<AnyRange<A>, ()>> + 'a> Iterator for P
 }
 
 /// What a set of addresses is as prefixes.
-pub trait PrefixSet<A: Address, C: Storage<Item<AnyRange<A>, ()>>> {
+pub trait PrefixSet<A: Address> {
     /// The prefixes that have just the addresses of the set, in ascending order and as few as can
     /// be. Allocates nothing.
     ///
@@ -84,16 +80,16 @@ pub trait PrefixSet<A: Address, C: Storage<Item<AnyRange<A>, ()>>> {
     /// // of a set of the addresses 10.0.0.0 to 10.0.0.5
     /// assert!(rt; set.prefixes().count() == 2); // 10.0.0.0/30 and 10.0.0.4/31
     /// ```
-    fn prefixes(&self) -> Prefixes<'_, A, C>;
+    fn prefixes(&self) -> Prefixes<'_, A>;
 }
 
-impl<A: Address, C: Storage<Item<AnyRange<A>, ()>>> PrefixSet<A, C> for RangeSet<A, C> {
-    fn prefixes(&self) -> Prefixes<'_, A, C>
-        ensures exact { HaveJust A.number A.order result (item_ranges (C.items self.now)) }
+impl<A: Address> PrefixSet<A> for RangeSet<A> {
+    fn prefixes(&self) -> Prefixes<'_, A>
+        ensures exact { HaveJust A.number A.order result (item_ranges (box_items self.now)) }
         ensures whole { AllByRecursion (IsPrefix A.number A.WIDTH) result }
         ensures ascending { AreAscending A.number result }
         ensures fewest { AreFewest A.number A.order A.WIDTH result
-            (item_ranges (C.items self.now)) }
+            (item_ranges (box_items self.now)) }
     {
         Prefixes {
             runs: runs_of(self),

@@ -1,6 +1,5 @@
 use Rattle.std.proofs.Common.{◌≡◌, ℕ, ◌^◌, ◌≤◌, ◌<◌, List, [], subst}
 use Rattle.std.specs.List.{AllByRecursion}
-use Rattle.address_sets.specs.Runs.{IsSpan}
 use Rattle.address_text.specs.Texts.{width}
 use Rattle.line_program.proofs.Listing.{HasShown, shown_all, shown_more, shown_none}
 use Rattle.address_lists.specs.Ranges.{IsRangeText}
@@ -16,7 +15,7 @@ loop-range-init g c = (
 pub write_range-requires : goal.write_range-requires
 write_range-requires g c =
     (subst (λ left. AllByRecursion
-    (IsSpan (width c.args.family)) left)
+    (λ (range : ℕ × ℕ). (range.0 ≤ range.1) × (range.1 < 2 ^ width c.args.family)) left)
     c.in-Some.ensures.steps c.loop-range.invariant.1).0
 
 pub loop-range-preserved : goal.loop-range-preserved
@@ -31,7 +30,7 @@ loop-range-preserved g c =
           (subst (λ left. HasShown Spells all left before now) c.in-Some.ensures.steps
           c.loop-range.invariant.0) c.in_ok-write_range.ensures,
       (subst (λ left. AllByRecursion
-          (IsSpan (width c.args.family)) left)
+          (λ (range : ℕ × ℕ). (range.0 ≤ range.1) × (range.1 < 2 ^ width c.args.family)) left)
           c.in-Some.ensures.steps c.loop-range.invariant.1).1,
     )
 

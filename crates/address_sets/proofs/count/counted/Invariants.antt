@@ -1,12 +1,14 @@
-use Rattle.std.specs.Prelude.{◌≡◌, ◌+◌, length}
+use Rattle.std.specs.Prelude.{◌≡◌, ◌+◌, length, map}
 use Rattle.std.specs.List.{AllByRecursion}
-use Rattle.address_prefixes.specs.Runs.{IsSpan}
+use Rattle.address_prefixes.specs.Spans.{HasSpan, span}
 use Rattle.address_sets.specs.Counts.{total}
 use Rattle.address_sets.proofs.count.counted.Given as goal
 
-abbrev pub invariant-loop-first : goal.invariant-loop-first
-invariant-loop-first g l =
-    AllByRecursion (IsSpan g.A.Address.WIDTH) l.runs × (l.count + total l.runs ≡ total l.fn.runs)
+abbrev pub invariant-loop-range : goal.invariant-loop-range
+invariant-loop-range g l =
+    AllByRecursion (HasSpan g.A.Address.number g.A.Address.WIDTH) l.ranges
+    × (l.count + total (map (span g.A.Address.number g.A.Address.WIDTH) l.ranges)
+    ≡ total (map (span g.A.Address.number g.A.Address.WIDTH) l.fn.ranges))
 
-abbrev pub decreases-loop-first : goal.decreases-loop-first
-decreases-loop-first g l = length l.runs
+abbrev pub decreases-loop-range : goal.decreases-loop-range
+decreases-loop-range g l = length l.ranges

@@ -1,4 +1,5 @@
 use Rattle.btree_range_map.specs.HeldKeys.{held_by_ranges}
+use Rattle.btree_range_map.specs.Holding.{box_items}
 use Rattle.btree_range_map.specs.KeySets.{HoldsKey}
 use Rattle.address_prefixes.proofs.FewestOfRuns.{are_fewest}
 use Rattle.address_prefixes.proofs.RunTiles.{are_ascending, are_prefixes, have_just}
@@ -14,7 +15,7 @@ invariant_of-result g c = (
 pub returns : goal.returns
 returns g c =
     let family = g.met.A.Address.family in
-    let items = g.C.Storage.items c.args.self.now in
+    let items = box_items c.args.self.now in
     let held = HoldsKey g.A.MaybeBounded.order items in
     let runs = c.runs_of.result in
     let are = c.runs_of.ensures in
