@@ -49,10 +49,11 @@ halve first block half free h e =
     e ∙ ap (λ x. x * 2 ^ free) h ∙ same ∙ sym (ap (λ x. half * x) (double free))
 
 -- what the search has found when it stops is the widest
-pub found : (width first last block spare free : ℕ) → first ≤ last → free ≤ width
+pub found : {width first last : ℕ} (block spare : ℕ) {free : ℕ} → first ≤ last → free ≤ width
     → first ≡ block * 2 ^ free → spare + 1 ≡ 2 ^ free → first + spare ≤ last
     → Stops width (last - first) block spare free → free ≡ widest width first (last + 1)
-found width first last block spare free le bounded e s fits stops =
+found {width = width} {first = first} {last = last} block spare {free = free} le bounded e s fits
+    stops =
     let best = widest_is width first (last + 1) (omega (arith, le)) in
     let low : free ≤ widest width first (last + 1) =
     best.greatest free bounded (block, e) (omega (arith, s, fits)) in

@@ -270,13 +270,6 @@ fn form_of(name: &str, found: &ArgMatches<'_>) -> Form {
     }
 }
 
-fn output_of(name: &str, found: &ArgMatches<'_>) -> Output {
-    Output {
-        only: family_of(found),
-        form: form_of(name, found),
-    }
-}
-
 /// What a command makes of its lists.
 fn command_of(name: &str) -> Command {
     match name {
@@ -321,8 +314,11 @@ fn task_of<'a>(alloc: Global, name: &str, found: &ArgMatches<'a>) -> Result<Task
             Ok(Task::LookUp(*list, addresses_of(alloc, words)?))
         }
         _ => {
-            let files = names_of(alloc, found)?;
-            Ok(Task::Combine(command_of(name), files, output_of(name, found)))
+            let output = Output {
+                only: family_of(found),
+                form: form_of(name, found),
+            };
+            Ok(Task::Combine(command_of(name), names_of(alloc, found)?, output))
         }
     }
 }

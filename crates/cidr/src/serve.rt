@@ -231,14 +231,11 @@ fn kept(alloc: Global, list: Addresses, only: Option<Family>) -> Addresses
     ensures { HasJust result (Kept only (Has list)) }
 {
     let Addresses { v4, v6 } = list;
-    let Addresses {
-        v4: no_v4,
-        v6: no_v6,
-    } = Addresses::new(alloc);
+    let none = Addresses::new(alloc);
     match only {
         None => Addresses { v4, v6 },
-        Some(Family::V4) => Addresses { v4, v6: no_v6 },
-        Some(Family::V6) => Addresses { v4: no_v4, v6 },
+        Some(Family::V4) => Addresses { v4, v6: none.v6 },
+        Some(Family::V6) => Addresses { v4: none.v4, v6 },
     }
 }
 

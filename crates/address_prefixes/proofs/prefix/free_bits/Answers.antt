@@ -15,17 +15,14 @@ loop-free-preserved c =
 pub returns-else-spare-room : goal.returns-else-spare-room
 returns-else-spare-room c =
     let i = c.loop-free.invariant in
-    found c.args.width c.args.first c.args.last c.loop-free.block c.loop-free.spare c.loop-free.free
-    c.requires i.0 i.1 i.2 (omega arith) (inr (inr (omega arith)))
+    found c.loop-free.block c.loop-free.spare c.requires i.0 i.1 i.2 (omega arith) (inr (inr (omega arith)))
 
 pub returns-else-block-eq0 : goal.returns-else-block-eq0
 returns-else-block-eq0 c =
     let i = c.loop-free.invariant in
-    found c.args.width c.args.first c.args.last c.loop-free.block c.loop-free.spare c.loop-free.free
-    c.requires i.0 i.1 i.2 (omega arith) (inr (inl c.if-block-eq0.false))
+    found c.loop-free.block c.loop-free.spare c.requires i.0 i.1 i.2 (omega arith) (inr (inl c.if-block-eq0.false))
 
 pub returns-after-loop-free : goal.returns-after-loop-free
 returns-after-loop-free c =
     let i = c.loop-free.invariant in
-    found c.args.width c.args.first c.args.last c.loop-free.block c.loop-free.spare c.loop-free.free
-    c.requires i.0 i.1 i.2 (omega arith) (inl (omega arith))
+    found c.loop-free.block c.loop-free.spare c.requires i.0 i.1 i.2 (omega arith) (inl (omega arith))
