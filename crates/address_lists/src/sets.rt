@@ -2,7 +2,7 @@
 //!
 //! Each function is one call of the library, proved once for both families.
 
-ghost use Rattle.std.specs.Prelude.{◌≡◌, ◌↔◌, [], IfOk, IsTrue, OnOk};
+ghost use Rattle.std.specs.Prelude.{◌↔◌, IfOk, IsTrue, OnOk};
 ghost use Rattle.btree_range_map.specs.Holding.{box_items};
 ghost use Rattle.btree_range_map.specs.KeySets.{HoldsAlso, HoldsTheOthers};
 ghost use Rattle.btree_range_map.specs.Names.{range_inclusive};
@@ -12,14 +12,6 @@ ghost use Rattle.btree_range_map.specs.TwoSets.{HoldsBoth, HoldsEither, HoldsJus
 
 use address_sets::{Address, AddressSet};
 use btree_range_map::MapError;
-use std::alloc::Global;
-
-/// A set without an address.
-pub(crate) fn empty<A: Address>(alloc: Global) -> AddressSet<A>
-    ensures { box_items result ≡ [] }
-{
-    AddressSet::new(alloc)
-}
 
 /// Adds the addresses from the first to the last.
 pub(crate) fn insert<A: Address>(set: &mut AddressSet<A>, first: A, last: A) -> Result<(), MapError>
