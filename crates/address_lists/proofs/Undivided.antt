@@ -1,5 +1,5 @@
 -- Prefixes split at length 0 are whole, since none is shorter.
-use Rattle.std.proofs.Common.{arith, ◌≡◌, ℕ, List, [], ◌∷◌, ◌⊎◌, inl, inr}
+use Rattle.std.proofs.Common.{arith, ◌≡◌, ℕ, List, [], ◌∷◌, inl, inr}
 use Rattle.btree_range_map.specs.AnyRange.{AnyRange}
 use Rattle.btree_range_map.specs.Order.{KeyOrder}
 use Rattle.line_program.specs.Listing.{SpellsEach}

@@ -211,10 +211,6 @@ fn command<'a>(usage: &Usage, alloc: Global) -> Result<clap::Command<'a>, AllocE
         .args(args)
 }
 
-fn usages() -> &'static [Usage] {
-    &COMMANDS
-}
-
 fn commands<'a>(usages: &[Usage], alloc: Global) -> Result<Vec<clap::Command<'a>>, AllocError> {
     let mut commands = Vec::new(alloc);
     for usage in usages {
@@ -225,7 +221,7 @@ fn commands<'a>(usages: &[Usage], alloc: Global) -> Result<Vec<clap::Command<'a>
 
 /// What the program can be asked.
 fn program<'a>(alloc: Global) -> Result<clap::Command<'a>, AllocError> {
-    let commands = commands(usages(), alloc)?;
+    let commands = commands(&COMMANDS, alloc)?;
     clap::Command::new(alloc, "cidr")
         .about(ABOUT)
         .after_help(EXAMPLES)
