@@ -22,8 +22,7 @@ module _ {A : Type 0} {order : KeyOrder A} {number : A → ℕ} {at : ℕ → A}
   low_is run [] each rising n (inr none) = absurd none
   low_is run (next ∷ runs) each rising n (inr later) =
       let low = low_is next runs each.1 rising.1 n later in
-      let ordered = each.0.0 in
-      let after = rising.0 in omega (arith, low, ordered, after)
+      omega (arith, low, each.0.0, rising.0)
 
   -- a prefix that lies before a border, or after it with such addresses alone
   record Sits (border : ℕ) (q : Prefix A) : Type 0 where

@@ -35,9 +35,7 @@ module _ {A : Type 0} {order : KeyOrder A} {number : A → ℕ} {at : ℕ → A}
   pub run_are : (run : ℕ × ℕ) → IsSpan width run
       → AreWidest family run.0 (run.1 + 1) (all_tiles at width run.0 (run.1 + 1))
   run_are run is =
-      let ordered = is.0 in
-      let fits = is.1 in
-      all_tiles_are family run.0 (run.1 + 1) (omega (arith, ordered)) (omega (arith, fits))
+      all_tiles_are family run.0 (run.1 + 1) (omega (arith, is.0)) (omega (arith, is.1))
 
   -- they have the addresses whose numbers are in the runs
   has_is : (runs : List (ℕ × ℕ)) → AreSpans width runs → (a : A)
@@ -51,13 +49,12 @@ module _ {A : Type 0} {order : KeyOrder A} {number : A → ℕ} {at : ℕ → A}
         λ some. elim (split.0 some) [
           | inl h ↦
               let lies = of_some family run.0 (run.1 + 1) own a widest h in
-              let below = lies.1 in inl (lies.0, omega (arith, below))
+              inl (lies.0, omega (arith, lies.1))
           | inr h ↦ inr (later.0 h)
         ],
         λ h. split.1 (elim h [
           | inl is ↦
-              let below = is.1 in
-              inl (some_of family run.0 (run.1 + 1) own a widest is.0 (omega (arith, below)))
+              inl (some_of family run.0 (run.1 + 1) own a widest is.0 (omega (arith, is.1)))
           | inr others ↦ inr (later.1 others)
         ]),
       )
@@ -109,10 +106,8 @@ module _ {A : Type 0} {order : KeyOrder A} {number : A → ℕ} {at : ℕ → A}
       → BeforeFirst (λ _ q. run.1 + 1 ≤ number q.network) x (Tiles runs)
   before_first x run [] spans rising = tt
   before_first x run (next ∷ runs) spans rising =
-      let ordered = spans.0.0 in
-      let after = rising.0 in
       first_from (run.1 + 1) next.0 (next.1 + 1) x (all_tiles at width next.0 (next.1 + 1))
-      (Tiles runs) (run_are next spans.0) (omega (arith, ordered)) (omega (arith, after))
+      (Tiles runs) (run_are next spans.0) (omega (arith, spans.0.0)) (omega (arith, rising.0))
 
   all_ascending : (runs : List (ℕ × ℕ)) → AreSpans width runs → AreRising runs
       → AreAscending number (Tiles runs)

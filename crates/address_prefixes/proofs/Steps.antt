@@ -1,6 +1,7 @@
 -- The prefixes of a range: the first, and those of what is left.
-use Rattle.std.proofs.Common.{◌≡◌, ℕ, zero, suc, ◌+◌, ◌-◌, ◌^◌, ◌≤◌, ◌<◌, true, false, Bool, nat_lt, List, [], ◌∷◌, refl, sym, ap, subst, ◌∙◌, arith}
+use Rattle.std.proofs.Common.{◌≡◌, ℕ, zero, suc, ◌+◌, ◌-◌, ◌^◌, ◌≤◌, ◌<◌, true, false, nat_lt, List, [], ◌∷◌, inl, inr, refl, sym, ap, subst, ◌∙◌, arith}
 use Rattle.std.proofs.Math.Pow.{pow_mono, pow_pos}
+use Rattle.std.proofs.lemmas.Bool.{cases_lt}
 use Rattle.std.proofs.lemmas.Bool.Decides.{nat_tests}
 use Rattle.address_prefixes.specs.Tiles.{all_tiles, prefix_at, tiles, widest}
 use Rattle.address_prefixes.specs.declared.prefix.Prefix.{Prefix}
@@ -10,45 +11,21 @@ module _ {A : Type 0} (at : ℕ → A) (width : ℕ) where
   abbrev Tiles : ℕ → ℕ → ℕ → List (Prefix A)
   Tiles n from past = tiles at width n from past
 
-  none_by : (n from past : ℕ) (t : Bool) → nat_lt from past ≡ t → past ≤ from
-      → Tiles (suc n) from past ≡ []
-  unfolding tiles
-  none_by n from past true e le = absurd (let h : from < past = grind (arith, nat_tests) in omega (arith, h, le))
-  none_by n from past false e le = rw e refl
-
   none_left : (n from past : ℕ) → past ≤ from → Tiles n from past ≡ []
   unfolding tiles
   none_left zero from past le = refl
-  none_left (suc n) from past le = none_by n from past (nat_lt from past) refl le
+  none_left (suc n) from past le =
+      let e : nat_lt from past ≡ false = grind (arith, nat_tests) in rw e refl
 
   pub no_tiles : (from past : ℕ) → past ≤ from → all_tiles at width from past ≡ []
   no_tiles from past le = none_left (past - from) from past le
 
-  first_by : (n from past : ℕ) (t : Bool) → nat_lt from past ≡ t → from < past
-      → Tiles (suc n) from past ≡ prefix_at at width from (widest width from past)
-      ∷ Tiles n (from + 2 ^ widest width from past) past
-  unfolding tiles
-  first_by n from past true e h = rw e refl
-  first_by n from past false e h = absurd (let le : past ≤ from = grind (arith, nat_tests) in omega (arith, h, le))
-
   first_tile : (n from past : ℕ) → from < past
       → Tiles (suc n) from past ≡ prefix_at at width from (widest width from past)
       ∷ Tiles n (from + 2 ^ widest width from past) past
-  first_tile n from past h = first_by n from past (nat_lt from past) refl h
-
-  enough_by : (n m from past : ℕ) → past ≤ from + suc n → past ≤ from + suc m
-      → ((from : ℕ) → past ≤ from + n → past ≤ from + m → Tiles n from past ≡ Tiles m from past)
-      → (t : Bool) → nat_lt from past ≡ t → Tiles (suc n) from past ≡ Tiles (suc m) from past
-  enough_by n m from past h g same true e =
-      let less : from < past = grind (arith, nat_tests) in
-      let some = pow_pos (widest width from past) in
-      first_tile n from past less
-      ∙ ap (λ l. prefix_at at width from (widest width from past) ∷ l)
-      (same (from + 2 ^ widest width from past) (omega (arith, h, some)) (omega (arith, g, some)))
-      ∙ sym (first_tile m from past less)
-  enough_by n m from past h g same false e =
-      let le : past ≤ from = grind (arith, nat_tests) in
-      none_left (suc n) from past le ∙ sym (none_left (suc m) from past le)
+  unfolding tiles
+  first_tile n from past h =
+      let e : nat_lt from past ≡ true = grind (arith, nat_tests) in rw e refl
 
   enough : (n m from past : ℕ) → past ≤ from + n → past ≤ from + m
       → Tiles n from past ≡ Tiles m from past
@@ -56,8 +33,16 @@ module _ {A : Type 0} (at : ℕ → A) (width : ℕ) where
       none_left zero from past (omega (arith, h)) ∙ sym (none_left m from past (omega (arith, h)))
   enough (suc n) zero from past h g =
       none_left (suc n) from past (omega (arith, g)) ∙ sym (none_left zero from past (omega (arith, g)))
-  enough (suc n) (suc m) from past h g =
-      enough_by n m from past h g (λ from h g. enough n m from past h g) (nat_lt from past) refl
+  enough (suc n) (suc m) from past h g = elim (cases_lt from past) [
+    | inl less ↦
+        let some = pow_pos (widest width from past) in
+        first_tile n from past less
+        ∙ ap (λ l. prefix_at at width from (widest width from past) ∷ l)
+        (enough n m (from + 2 ^ widest width from past) past (omega (arith, h, some))
+        (omega (arith, g, some)))
+        ∙ sym (first_tile m from past less)
+    | inr le ↦ none_left (suc n) from past le ∙ sym (none_left (suc m) from past le)
+  ]
 
   pub next_tile : (from past : ℕ) → from < past
       → all_tiles at width from past

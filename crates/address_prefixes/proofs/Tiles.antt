@@ -1,5 +1,5 @@
 -- The prefixes of a range: each is the widest at its place, and they have just its addresses.
-use Rattle.std.proofs.Common.{◌≡◌, ℕ, zero, suc, ◌+◌, ◌-◌, ◌*◌, ◌^◌, ◌≤◌, ◌<◌, Bool, true, false, nat_lt, List, [], ◌∷◌, inl, inr, refl, sym, subst, arith}
+use Rattle.std.proofs.Common.{◌≡◌, ℕ, zero, suc, ◌+◌, ◌-◌, ◌*◌, ◌^◌, ◌≤◌, ◌<◌, true, false, nat_lt, List, [], ◌∷◌, inl, inr, sym, subst, arith}
 use Rattle.std.proofs.Math.Pow.{pow_pos, pow_mono, pow-add}
 use Rattle.std.proofs.lemmas.Bool.{cases_lt}
 use Rattle.std.proofs.lemmas.Bool.Decides.{nat_tests}
@@ -59,45 +59,33 @@ module _ {A : Type 0} {order : KeyOrder A} {number : A → ℕ} {at : ℕ → A}
         widest = λ j a i. rw same (found.greatest j (narrow from past j top i) a i);
       }
 
-  tiles_by : (n from past : ℕ) (t : Bool) → nat_lt from past ≡ t → from ≤ past
-      → past ≤ 2 ^ width
-      → (from < past → AreWidest (from + 2 ^ widest width from past) past
-      (tiles at width n (from + 2 ^ widest width from past) past))
-      → AreWidest from past (tiles at width (suc n) from past)
-  unfolding tiles
-  tiles_by n from past true e le top rest =
-      let h : from < past = grind (arith, nat_tests) in
-      let bounded = (widest_is width from past h).bounded in
-      let same : width - (width - widest width from past) ≡ widest width from past =
-      omega (arith, bounded) in
-      rw e (
-        is_widest from past h top,
-        subst (λ k. AreWidest (from + 2 ^ k) past
-            (tiles at width n (from + 2 ^ widest width from past) past)) (sym same) (rest h),
-      )
-  tiles_by n from past false e le top rest = rw e (let h : past ≤ from = grind (arith, nat_tests) in omega (arith, le, h))
-
   tiles_are : (n from past : ℕ) → from ≤ past → past ≤ from + n → past ≤ 2 ^ width
       → AreWidest from past (tiles at width n from past)
   unfolding tiles
   tiles_are zero from past le enough top = omega (arith, le, enough)
-  tiles_are (suc n) from past le enough top =
-      tiles_by n from past (nat_lt from past) refl le top (λ h.
-      let found = widest_is width from past h in
-      let inside = found.inside in
-      let some = pow_pos (widest width from past) in
-      tiles_are n (from + 2 ^ widest width from past) past inside (omega (arith, enough, some))
-      top)
+  tiles_are (suc n) from past le enough top = elim (cases_lt from past) [
+    | inl h ↦
+        let e : nat_lt from past ≡ true = grind (arith, nat_tests) in
+        let found = widest_is width from past h in
+        let bounded = found.bounded in
+        let some = pow_pos (widest width from past) in
+        let same : width - (width - widest width from past) ≡ widest width from past =
+        omega (arith, bounded) in
+        rw e (
+          is_widest from past h top,
+          subst (λ k. AreWidest (from + 2 ^ k) past
+              (tiles at width n (from + 2 ^ widest width from past) past)) (sym same)
+              (tiles_are n (from + 2 ^ widest width from past) past found.inside
+              (omega (arith, enough, some)) top),
+        )
+    | inr not ↦
+        let e : nat_lt from past ≡ false = grind (arith, nat_tests) in
+        rw e (omega (arith, le, not))
+  ]
 
   pub all_tiles_are : (from past : ℕ) → from ≤ past → past ≤ 2 ^ width
       → AreWidest from past (all_tiles at width from past)
   all_tiles_are from past le top = tiles_are (past - from) from past le (omega (arith, le)) top
-
-  pub rises : (from past : ℕ) (ps : List (Prefix A)) → AreWidest from past ps → from ≤ past
-  rises from past [] e = omega arith
-  rises from past (p ∷ ps) e =
-      let h = rises (from + size number width p) past ps e.1 in
-      omega (arith, h)
 
   pub of_some : (from past : ℕ) (ps : List (Prefix A)) (a : A) → AreWidest from past ps
       → SomeHasAddress number ps a → (from ≤ number a) × (number a < past)
