@@ -5,6 +5,5 @@ mod Lines
 mod Lookups
 mod Reading
 mod Relations
-mod RunsFit
 mod Series
 mod Undivided

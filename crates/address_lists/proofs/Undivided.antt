@@ -1,9 +1,9 @@
 -- Prefixes split at length 0 are whole, since none is shorter.
-use Rattle.std.proofs.Common.{arith, ◌≡◌, ℕ, List, [], ◌∷◌, ◌⊎◌, inl, inr}
+use Rattle.std.proofs.Common.{arith, ◌≡◌, ℕ, List, [], ◌∷◌, inl, inr}
 use Rattle.btree_range_map.specs.AnyRange.{AnyRange}
 use Rattle.btree_range_map.specs.Order.{KeyOrder}
 use Rattle.line_program.specs.Listing.{SpellsEach}
-use Rattle.address_sets.specs.declared.prefix.Prefix.{Prefix}
+use Rattle.address_prefixes.specs.declared.prefix.Prefix.{Prefix}
 use Rattle.address_text.specs.Texts.{prefix_line}
 use Rattle.address_text.specs.declared.family.Family.{Family}
 use Rattle.address_lists.specs.Printed.{ArePrinted, IsPrinted, prefix_of}

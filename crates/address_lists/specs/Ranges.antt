@@ -1,7 +1,7 @@
 -- The ranges of a list as they are printed, and its addresses one by one.
 use Rattle.std.specs.Prelude.{◌≡◌, ℕ, ◌+◌, ◌-◌, ◌^◌, List, ◌++◌}
 use Rattle.line_program.specs.Listing.{SpellsEach}
-use Rattle.address_sets.specs.Runs.{AreRuns}
+use Rattle.address_prefixes.specs.Runs.{AreRuns}
 use Rattle.address_text.specs.Texts.{address_line, span_line, width}
 use Rattle.address_text.specs.declared.family.Family.{Family}
 use Rattle.address_text.specs.declared.family.Family.TheVariants.{V4, V6}

@@ -7,8 +7,8 @@ use Rattle.btree_range_map.specs.Holding.{box_items}
 use Rattle.btree_range_map.specs.Order.{KeyOrder}
 use Rattle.line_program.specs.Listing.{SpellsEach}
 use Rattle.address_keys.specs.Addresses.{ipv4_number, ipv4_order, ipv6_number, ipv6_order}
-use Rattle.address_sets.specs.Prefixes.{AreAscending, AreFewest, HaveJust, IsPrefix}
-use Rattle.address_sets.specs.declared.prefix.Prefix.{Prefix}
+use Rattle.address_prefixes.specs.Prefixes.{AreAscending, AreFewest, HaveJust, IsPrefix}
+use Rattle.address_prefixes.specs.declared.prefix.Prefix.{Prefix}
 use Rattle.address_text.specs.Texts.{prefix_line, width}
 use Rattle.address_text.specs.declared.family.Family.{Family}
 use Rattle.address_text.specs.declared.family.Family.TheVariants.{V4, V6}

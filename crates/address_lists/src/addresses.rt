@@ -6,7 +6,7 @@ ghost use Rattle.address_text.specs.Lines.{AreAddresses, SaysAddress};
 ghost use Rattle.address_lists.specs.Lists.{Has, HasAllOf, HasJust, ShareNone};
 
 use crate::sets;
-use address_sets::{AddressSet, Ipv4, Ipv6, take_out};
+use address_sets::{Address, AddressSet, Ipv4, Ipv6, take_out};
 use address_text::{Family, Line};
 use btree_range_map::MapError;
 use std::alloc::Global;
@@ -20,6 +20,13 @@ pub struct Addresses {
     pub v6: AddressSet<Ipv6>,
 }
 
+/// No addresses of one family. Allocates nothing.
+pub fn empty_set<A: Address>(alloc: Global) -> AddressSet<A>
+    ensures { box_items result ≡ [] }
+{
+    AddressSet::new(alloc)
+}
+
 impl Addresses {
     /// No addresses. Allocates nothing.
     pub fn new(alloc: Global) -> Addresses
@@ -27,8 +34,8 @@ impl Addresses {
         ensures v6 { box_items result.v6 ≡ [] }
     {
         Addresses {
-            v4: AddressSet::new(alloc),
-            v6: AddressSet::new(alloc),
+            v4: empty_set(alloc),
+            v6: empty_set(alloc),
         }
     }
 

@@ -6,12 +6,13 @@ ghost use Rattle.serde_json.specs.View.{view};
 ghost use Rattle.btree_range_map.specs.Faults.{IsSetRead};
 ghost use Rattle.btree_range_map.specs.Holding.{box_items};
 ghost use Rattle.btree_range_map.specs.Range.{ClonesAreEqual};
+ghost use Rattle.btree_range_map.specs.Shapes.{set_shape};
 ghost use Rattle.address_lists.specs.Json.{IsDocument, IsJsonReason, IsListRead, IsSetReason, IsValueReason, list_shape, list_text};
 
 use crate::addresses::Addresses;
 use crate::print::FamilyAddress;
 use crate::read::ListError;
-use address_sets::{AddressSet, Ipv4, Ipv6};
+use address_sets::{Address, AddressSet, Ipv4, Ipv6};
 use address_text::Family;
 use btree_range_map::json::{Json, JsonError, set_from_json, set_to_json};
 use serde_json::{Map, Value};
@@ -48,13 +49,20 @@ impl fmt::Display for JsonFault {
     }
 }
 
+/// The set of one family as a JSON value.
+fn set_value<A: Address + Json>(alloc: Global, set: &AddressSet<A>) -> Result<Value, AllocError>
+    ensures { IfOk result (λ value. view value ≡ set_shape A.shape (box_items set.now)) }
+{
+    set_to_json(alloc, set)
+}
+
 /// The list as a JSON value. Allocates; fails where an allocation fails.
 pub fn list_to_json(alloc: Global, list: &Addresses) -> Result<Value, AllocError>
     ensures { IfOk result (λ value. view value ≡ list_shape list.now) }
 {
     let mut members = Map::new(alloc);
-    serde_json::put(&mut members, alloc, "IPv4", set_to_json(alloc, &list.v4)?)?;
-    serde_json::put(&mut members, alloc, "IPv6", set_to_json(alloc, &list.v6)?)?;
+    serde_json::put(&mut members, alloc, "IPv4", set_value(alloc, &list.v4)?)?;
+    serde_json::put(&mut members, alloc, "IPv6", set_value(alloc, &list.v6)?)?;
     Ok(Value::Object(members))
 }
 

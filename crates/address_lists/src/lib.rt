@@ -27,7 +27,7 @@ mod sets;
 pub mod split;
 mod waiting;
 
-pub use addresses::Addresses;
+pub use addresses::{Addresses, empty_set};
 pub use count::write_counts;
 pub use file::read_addresses;
 pub use json::{JsonFault, list_from_json, list_to_json, list_to_text, read_json};

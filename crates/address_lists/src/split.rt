@@ -5,13 +5,13 @@ ghost use Rattle.std.specs.List.{AllByRecursion};
 ghost use Rattle.btree_range_map.specs.FreeRanges.{item_ranges};
 ghost use Rattle.btree_range_map.specs.Holding.{box_items};
 ghost use Rattle.line_program.specs.Listing.{SpellsEach, Writes};
-ghost use Rattle.address_sets.specs.Prefixes.{IsPrefix};
+ghost use Rattle.address_prefixes.specs.Prefixes.{IsPrefix};
 ghost use Rattle.address_text.specs.Texts.{width};
 ghost use Rattle.address_lists.specs.Split.{AreSplit, IsPrintedSplit, IsSplit, IsSplitText, part_lines};
 
 use crate::addresses::Addresses;
 use crate::print::FamilyAddress;
-use address_sets::prefix::greatest_of;
+use address_prefixes::prefix::greatest_of;
 use address_sets::{AddressSet, Prefix, PrefixSet, Prefixes};
 use address_text::Family;
 use address_text::write::write_prefix_line;

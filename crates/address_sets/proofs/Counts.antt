@@ -1,20 +1,19 @@
--- A set has as many addresses as there are numbers in its ranges.
-use Rattle.std.proofs.Common.{◌≡◌, ℕ, zero, suc, ◌+◌, ◌-◌, ◌^◌, ◌≤◌, ◌<◌, ◌++◌, ◌↔◌, ◌⊎◌, List, [], ◌∷◌, length, Option, None, Some, MatchOption, true, inl, inr, refl, sym, subst, ◌∙◌, arith, length-append}
+-- As many addresses are in runs as there are numbers in them.
+use Rattle.std.proofs.Common.{◌≡◌, ℕ, zero, suc, ◌+◌, ◌-◌, ◌^◌, ◌≤◌, ◌<◌, ◌++◌, ◌↔◌, ◌⊎◌, List, [], ◌∷◌, length, Option, None, Some, MatchOption, inl, inr, refl, sym, subst, ◌∙◌, arith, length-append}
 use Rattle.std.specs.Cmp.{ranked, nat_cmp_is}
 use Rattle.std.specs.List.{AllByRecursion}
 use Rattle.std.specs.declared.cmp.Ordering.TheVariants.{Equal}
 use Rattle.std.proofs.lemmas.Bool.{cases_lt}
 use Rattle.std.proofs.Math.Pow.{pow_mono}
-use Rattle.btree_range_map.specs.Counted.{counted_lawful}
-use Rattle.btree_range_map.specs.FreeRanges.{item_ranges}
-use Rattle.btree_range_map.specs.HeldKeys.{held_later_is_above}
+use Rattle.btree_range_map.specs.Intervals.{Any}
 use Rattle.btree_range_map.specs.KeyNumbers.{number_fits}
-use Rattle.btree_range_map.specs.KeySets.{HoldsKey}
-use Rattle.btree_range_map.specs.Numbers.{AreRising, IsNumberOfKeys, Lists}
+use Rattle.btree_range_map.specs.Numbers.{AreRising as AreRisingKeys, IsNumberOfKeys, Lists}
 use Rattle.btree_range_map.specs.Order.{Below, KeyOrder}
-use Rattle.address_sets.specs.Counts.{total}
 use Rattle.address_keys.specs.Families.{IsFamily}
-use Rattle.address_sets.proofs.Sets.{Coarse, Known, Stored, below_number, coarse_rest, first_held, from_of, holds_is, last_held, number_below, past_of, some_by, top_by}
+use Rattle.address_prefixes.specs.Runs.{IsIn}
+use Rattle.address_prefixes.proofs.Runs.{AreRising, AreSpans, Runs, StartFrom, are_spans, in_runs, later_start}
+use Rattle.address_sets.specs.Counts.{total}
+use Rattle.address_sets.proofs.Sets.{number_below}
 
 all_append : {X : Type 0} (P : X → Type 0) (xs ys : List X) → AllByRecursion P xs
     → AllByRecursion P ys → AllByRecursion P (xs ++ ys)
@@ -68,16 +67,16 @@ module _ {A : Type 0} {order : KeyOrder A} {number : A → ℕ} {at : ℕ → A}
       let here = all.0 in
       (number_below family a k (omega (arith, here, less)), all_above a b keys less all.1)
 
-  rising : (n from : ℕ) (more : List A) → from + n ≤ 2 ^ width → AreFrom (from + n) more
-      → AreRising order more → AreRising order (addresses_from n from ++ more)
-  rising zero from more fits later rest = rest
-  rising (suc n) from more fits later rest =
+  rising_append : (n from : ℕ) (more : List A) → from + n ≤ 2 ^ width → AreFrom (from + n) more
+      → AreRisingKeys order more → AreRisingKeys order (addresses_from n from ++ more)
+  rising_append zero from more fits later rest = rest
+  rising_append (suc n) from more fits later rest =
       let e = family.at_number from (omega (arith, fits)) in
       let past : AreFrom (from + 1 + n) more =
       from_less (from + suc n) (from + 1 + n) more (omega arith) later in (
         all_above (at from) (from + 1) (addresses_from n (from + 1) ++ more) (omega (arith, e))
             (from_append n (from + 1) (from + 1) more (omega arith) (omega (arith, fits)) past),
-        rising n (from + 1) more (omega (arith, fits)) past rest,
+        rising_append n (from + 1) more (omega (arith, fits)) past rest,
       )
 
   listed : (n from : ℕ) (k : A) → from + n ≤ 2 ^ width → Lists order (addresses_from n from) k
@@ -120,125 +119,98 @@ module _ {A : Type 0} {order : KeyOrder A} {number : A → ℕ} {at : ℕ → A}
         ],
       )
 
-  -- those of the ranges of a set
-  abbrev held_addresses : List (Stored family) → List A
+  -- those of all runs
+  abbrev held_addresses : List (ℕ × ℕ) → List A
   held_addresses [] = []
-  held_addresses (i ∷ items) =
-      addresses_from (past_of family i.key - from_of family i.key) (from_of family i.key)
-      ++ held_addresses items
+  held_addresses (run ∷ runs) = addresses_from (run.1 + 1 - run.0) run.0 ++ held_addresses runs
 
-  abbrev total_of : List (Stored family) → ℕ
-  total_of items = total number at width (item_ranges items)
-
-  all_many : (items : List (Stored family)) → length (held_addresses items) ≡ total_of items
+  all_many : (runs : List (ℕ × ℕ)) → length (held_addresses runs) ≡ total runs
   all_many [] = refl
-  all_many (i ∷ items) =
-      let n : ℕ = past_of family i.key - from_of family i.key in
-      let own = addresses_from n (from_of family i.key) in
-      let here = many n (from_of family i.key) in
-      let later = all_many items in
-      let split = length-append own (held_addresses items) in omega (arith, here, later, split)
+  all_many (run ∷ runs) =
+      let n : ℕ = run.1 + 1 - run.0 in
+      let own = addresses_from n run.0 in
+      let here = many n run.0 in
+      let later = all_many runs in
+      let split = length-append own (held_addresses runs) in omega (arith, here, later, split)
 
-  all_in_type : (items : List (Stored family)) → Known family items → Coarse family items
-      → AllByRecursion order.is_key (held_addresses items)
-  all_in_type [] known coarse = tt
-  all_in_type (i ∷ items) known coarse =
-      let some = some_by family i.key coarse.keyed.0 in
-      let top = top_by family i.key.end known.0.1 in
-      let n : ℕ = past_of family i.key - from_of family i.key in
-      all_append order.is_key (addresses_from n (from_of family i.key)) (held_addresses items)
-      (in_type n (from_of family i.key) (omega (arith, some, top)))
-      (all_in_type items known.1 (coarse_rest family i items coarse))
+  all_in_type : (runs : List (ℕ × ℕ)) → AreSpans width runs
+      → AllByRecursion order.is_key (held_addresses runs)
+  all_in_type [] spans = tt
+  all_in_type (run ∷ runs) spans =
+      let ordered = spans.0.0 in
+      let fits = spans.0.1 in
+      let n : ℕ = run.1 + 1 - run.0 in
+      all_append order.is_key (addresses_from n run.0) (held_addresses runs)
+      (in_type n run.0 (omega (arith, ordered, fits))) (all_in_type runs spans.1)
 
-  -- what later ranges hold lies past the first
-  later_past : (i : Stored family) (items : List (Stored family)) → Known family (i ∷ items)
-      → Coarse family (i ∷ items) → (a : A) → order.is_key a → HoldsKey order items a
-      → past_of family i.key ≤ number a
-  later_past i items known coarse a key later =
-      let last = last_held family i.key known.0 coarse.keyed.0 in
-      let h = below_number family last.0 a (held_later_is_above order
-      (counted_lawful family.counted) (λ _ _. true) i items coarse last.0 a last.1 key last.2
-      later) in omega (arith, h, last.3)
+  all_from : (b : ℕ) (runs : List (ℕ × ℕ)) → AreSpans width runs → AreRising runs
+      → StartFrom b runs → AreFrom b (held_addresses runs)
+  all_from b [] spans rising low = tt
+  all_from b (run ∷ runs) spans rising low =
+      let ordered = spans.0.0 in
+      let fits = spans.0.1 in
+      let n : ℕ = run.1 + 1 - run.0 in
+      from_append n run.0 b (held_addresses runs) low (omega (arith, ordered, fits))
+      (from_less (run.1 + 1) (run.0 + n) (held_addresses runs) (omega (arith, ordered))
+      (all_from (run.1 + 1) runs spans.1 rising.1 (later_start run runs rising)))
 
-  all_from : (b : ℕ) (items : List (Stored family)) → Known family items → Coarse family items
-      → ((a : A) → order.is_key a → HoldsKey order items a → b ≤ number a)
-      → AreFrom b (held_addresses items)
-  all_from b [] known coarse low = tt
-  all_from b (i ∷ items) known coarse low =
-      let some = some_by family i.key coarse.keyed.0 in
-      let top = top_by family i.key.end known.0.1 in
-      let first = first_held family i.key known.0 coarse.keyed.0 in
-      let up : b ≤ from_of family i.key =
-      let h = low first.0 first.1 (inl first.2) in omega (arith, h, first.3) in
-      let n : ℕ = past_of family i.key - from_of family i.key in
-      from_append n (from_of family i.key) b (held_addresses items) up (omega (arith, some, top))
-      (all_from (from_of family i.key + n) items known.1 (coarse_rest family i items coarse)
-      (λ a key later.
-      let past = later_past i items known coarse a key later in omega (arith, past, some)))
+  all_rising : (runs : List (ℕ × ℕ)) → AreSpans width runs → AreRising runs
+      → AreRisingKeys order (held_addresses runs)
+  all_rising [] spans rising = tt
+  all_rising (run ∷ runs) spans rising =
+      let ordered = spans.0.0 in
+      let fits = spans.0.1 in
+      let n : ℕ = run.1 + 1 - run.0 in
+      rising_append n run.0 (held_addresses runs) (omega (arith, ordered, fits))
+      (from_less (run.1 + 1) (run.0 + n) (held_addresses runs) (omega (arith, ordered))
+      (all_from (run.1 + 1) runs spans.1 rising.1 (later_start run runs rising)))
+      (all_rising runs spans.1 rising.1)
 
-  all_rising : (items : List (Stored family)) → Known family items → Coarse family items
-      → AreRising order (held_addresses items)
-  all_rising [] known coarse = tt
-  all_rising (i ∷ items) known coarse =
-      let some = some_by family i.key coarse.keyed.0 in
-      let top = top_by family i.key.end known.0.1 in
-      let n : ℕ = past_of family i.key - from_of family i.key in
-      rising n (from_of family i.key) (held_addresses items) (omega (arith, some, top))
-      (all_from (from_of family i.key + n) items known.1 (coarse_rest family i items coarse)
-      (λ a key later.
-      let past = later_past i items known coarse a key later in omega (arith, past, some)))
-      (all_rising items known.1 (coarse_rest family i items coarse))
-
-  all_listed : (items : List (Stored family)) → Known family items → Coarse family items
-      → (k : A) → order.is_key k → HoldsKey order items k ↔ Lists order (held_addresses items) k
-  all_listed [] known coarse k key = (λ h. h, λ h. h)
-  all_listed (i ∷ items) known coarse k key =
-      let some = some_by family i.key coarse.keyed.0 in
-      let top = top_by family i.key.end known.0.1 in
-      let n : ℕ = past_of family i.key - from_of family i.key in
-      let own = addresses_from n (from_of family i.key) in
-      let split = lists_append own (held_addresses items) k in
-      let here = listed n (from_of family i.key) k (omega (arith, some, top)) in
-      let held = holds_is family i.key k key in
-      let later = all_listed items known.1 (coarse_rest family i items coarse) k key in (
+  all_listed : (runs : List (ℕ × ℕ)) → AreSpans width runs → (k : A)
+      → Any (IsIn (number k)) runs ↔ Lists order (held_addresses runs) k
+  all_listed [] spans k = (λ h. h, λ h. h)
+  all_listed (run ∷ runs) spans k =
+      let ordered = spans.0.0 in
+      let fits = spans.0.1 in
+      let n : ℕ = run.1 + 1 - run.0 in
+      let own = addresses_from n run.0 in
+      let split = lists_append own (held_addresses runs) k in
+      let here = listed n run.0 k (omega (arith, ordered, fits)) in
+      let later = all_listed runs spans.1 k in (
         λ h. split.1 (elim h [
-          | inl holds ↦
-              let l = held.0 holds in
-              let low = l.0 in
-              let high = l.1 in inl (here.1 (low, omega (arith, high, some)))
+          | inl is ↦ let high = is.1 in inl (here.1 (is.0, omega (arith, high, ordered)))
           | inr others ↦ inr (later.0 others)
         ]),
         λ h. elim (split.0 h) [
           | inl mine ↦
-              let l = here.0 mine in
-              let low = l.0 in
-              let high = l.1 in inl (held.1 (low, omega (arith, high, some)))
+              let l = here.0 mine in let high = l.1 in inl (l.0, omega (arith, high, ordered))
           | inr others ↦ inr (later.1 others)
         ],
       )
 
-  number_of : (items : List (Stored family)) → Known family items → Coarse family items
-      → IsNumberOfKeys order (HoldsKey order items) (total_of items)
-  number_of items known coarse = record {
-    keys = held_addresses items;
-    in_type = all_in_type items known coarse;
-    rising = all_rising items known coarse;
-    listed = all_listed items known coarse;
-    many = all_many items;
-  }
+  module _ (Q : A → Type 0) (runs : List (ℕ × ℕ)) (are : Runs family Q runs) where
+    number_of : IsNumberOfKeys order Q (total runs)
+    number_of =
+        let spans = are_spans (λ n. Q (at n)) width runs are in
+        record {
+          keys = held_addresses runs;
+          in_type = all_in_type runs spans;
+          rising = all_rising runs spans are.ascending;
+          listed =
+              λ k key.
+              let is = in_runs family Q runs are k key in
+              let lists = all_listed runs spans k in
+              (λ q. lists.0 (is.1 q), λ l. is.0 (lists.1 l));
+          many = all_many runs;
+        }
 
-  -- the sum of a set's ranges is how many addresses it has, if it is below 2^128; else it is that
-  pub count_is : (items : List (Stored family)) → Known family items → Coarse family items
-      → (count : Option ℕ)
-      → MatchOption count (2 ^ 128 ≤ total_of items) (λ n. n ≡ total_of items)
-      → MatchOption count (IsNumberOfKeys order (HoldsKey order items) (2 ^ 128))
-      (λ n. IsNumberOfKeys order (HoldsKey order items) n)
-  count_is items known coarse None full =
-      let found = number_of items known coarse in
-      let most = number_fits family.counted (HoldsKey order items) (total_of items) found in
-      let fits : 2 ^ width ≤ 2 ^ 128 = pow_mono family.small in
-      let same : total_of items ≡ 2 ^ 128 = omega (arith, full, most, fits) in
-      subst (λ n. IsNumberOfKeys order (HoldsKey order items) n) same found
-  count_is items known coarse (Some n) same =
-      subst (λ n. IsNumberOfKeys order (HoldsKey order items) n) (sym same)
-      (number_of items known coarse)
+    -- the sum of the runs is how many addresses there are, if it is below 2^128; else it is that
+    pub count_is : (count : Option ℕ)
+        → MatchOption count (2 ^ 128 ≤ total runs) (λ n. n ≡ total runs)
+        → MatchOption count (IsNumberOfKeys order Q (2 ^ 128)) (λ n. IsNumberOfKeys order Q n)
+    count_is None full =
+        let most = number_fits family.counted Q (total runs) number_of in
+        let fits : 2 ^ width ≤ 2 ^ 128 = pow_mono family.small in
+        let same : total runs ≡ 2 ^ 128 = omega (arith, full, most, fits) in
+        subst (λ n. IsNumberOfKeys order Q n) same number_of
+    count_is (Some n) same = subst (λ n. IsNumberOfKeys order Q n) (sym same) number_of

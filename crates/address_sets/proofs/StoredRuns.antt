@@ -1,22 +1,20 @@
 -- The addresses of a set that follow each other without a gap.
-use Rattle.std.proofs.Common.{◌≡◌, ◌≢◌, ℕ, ◌+◌, ◌-◌, ◌^◌, ◌≤◌, ◌<◌, ◌⊎◌, List, [], ◌∷◌, true, inl, inr, ap, refl, sym, subst, ◌∙◌, arith}
-use Rattle.std.specs.Cmp.{nat_cmp_is}
+use Rattle.std.proofs.Common.{◌≡◌, ℕ, ◌+◌, ◌-◌, ◌^◌, ◌≤◌, ◌<◌, List, [], ◌∷◌, map, true, inl, inr, refl, sym, subst, arith}
 use Rattle.std.specs.List.{AllByRecursion}
-use Rattle.std.specs.declared.cmp.Ordering.TheVariants.{Equal}
 use Rattle.std.proofs.lemmas.Bool.{cases_lt}
 use Rattle.btree_range_map.specs.AnyRange.{AnyRange}
 use Rattle.btree_range_map.specs.Counted.{counted_lawful}
 use Rattle.btree_range_map.specs.FreeRanges.{item_ranges}
 use Rattle.btree_range_map.specs.HeldKeys.{held_interval_is_in_one_range, held_later_is_above}
 use Rattle.btree_range_map.specs.Intervals.{Any}
-use Rattle.btree_range_map.specs.Item.{Item}
 use Rattle.btree_range_map.specs.KeySets.{HoldsKey}
 use Rattle.btree_range_map.specs.Neighbours.{BeforeFirst, EachNext}
 use Rattle.btree_range_map.specs.Order.{KeyOrder}
 use Rattle.btree_range_map.specs.Range.{Holds, IsKeyless, IsKnownRange}
 use Rattle.address_keys.specs.Families.{IsFamily}
-use Rattle.address_sets.specs.Runs.{AreRuns, IsIn, IsRun, IsRunAround, range_runs}
-use Rattle.address_sets.specs.Tiles.{past_number, start_number}
+use Rattle.address_prefixes.specs.Runs.{AreRuns, IsIn, IsRun, IsRunAround}
+use Rattle.address_prefixes.specs.Spans.{HasSpan, span}
+use Rattle.address_prefixes.proofs.Runs.{same_address}
 use Rattle.address_sets.proofs.Sets.{Coarse, Known, Stored, below_number, coarse_rest, first_held, from_of, holds_is, last_held, not_above_number, number_not_above, past_of, some_by, top_by}
 
 module _ {A : Type 0} {order : KeyOrder A} {number : A → ℕ} {at : ℕ → A} {width : ℕ}
@@ -34,10 +32,10 @@ module _ {A : Type 0} {order : KeyOrder A} {number : A → ℕ} {at : ℕ → A}
       is_range items r known.1 (coarse_rest family i items coarse) later
 
   -- a stored range has an address, and addresses alone
-  pub range_bounds : (items : List (Stored family)) (r : AnyRange A) → Known family items
+  pub has_span : (items : List (Stored family)) (r : AnyRange A) → Known family items
       → Coarse family items → IsStoredRange items r
-      → (from_of family r < past_of family r) × (past_of family r ≤ 2 ^ width)
-  range_bounds items r known coarse at =
+      → HasSpan number width r
+  has_span items r known coarse at =
       let is = is_range items r known coarse at in
       (some_by family r is.1, top_by family r.end is.0.1)
 
@@ -83,97 +81,67 @@ module _ {A : Type 0} {order : KeyOrder A} {number : A → ℕ} {at : ℕ → A}
   same_range (i ∷ items) r coarse a b key (inr later) has (inr there) =
       same_range items r (coarse_rest family i items coarse) a b key later has there
 
-  same_address : (a b : A) → number a ≡ number b → a ≡ b
-  same_address a b e =
-      family.counted.same a b
-      (family.by_number a b ∙ sym (nat_cmp_is (number a) (number b) Equal e))
+  -- a range that holds one of two addresses that follow each other holds both
+  held_together : (items : List (Stored family)) → Coarse family items → (a b : A)
+      → order.is_key a → order.is_key b → number b ≡ number a + 1 → HoldsKey order items a
+      → HoldsKey order items b → HoldsBoth items a b
+  held_together items coarse a b p q next has_a has_b =
+      held_interval_is_in_one_range order (counted_lawful family.counted) items coarse a b p q
+      (number_not_above family a b (omega (arith, next)))
+      (λ k key low high.
+      let from = not_above_number family a k low in
+      let to = not_above_number family k b high in
+      elim (cases_lt (number a) (number k)) [
+        | inl more ↦ subst (HoldsKey order items)
+            (same_address family b k (omega (arith, next, to, more))) has_b
+        | inr not ↦
+            subst (HoldsKey order items) (same_address family a k (omega (arith, from, not))) has_a
+      ])
 
-  -- a set that holds an address beside a stored range holds it in this range
-  module _ (items : List (Stored family)) (r : AnyRange A) (coarse : Coarse family items)
-      (stored : IsStoredRange items r) where
-    held_or_it : (k b : A) → order.is_key k → HoldsKey order items b
-        → (number k ≢ number b → Holds order r k) → HoldsKey order items k
-    held_or_it k b key held other = elim (cases_lt (number k) (number b)) [
-      | inl less ↦ in_set items r k stored (other (λ e. omega (arith, e, less)))
-      | inr not ↦ elim (cases_lt (number b) (number k)) [
-        | inl more ↦ in_set items r k stored (other (λ e. omega (arith, e, more)))
-        | inr le ↦ subst (HoldsKey order items) (same_address b k (omega (arith, not, le))) held
-      ]
-    ]
-
-    held_before : (a b : A) → order.is_key a → order.is_key b → number b ≤ number a
-        → Holds order r a → HoldsKey order items b
-        → ((k : A) → order.is_key k → number b < number k → number k ≤ number a → Holds order r k)
-        → Holds order r b
-    held_before a b p q le has held others =
-        same_range items r coarse a b p stored has
-        (turned items b a (held_interval_is_in_one_range order (counted_lawful family.counted) items
-        coarse b a q p (number_not_above family b a le)
-        (λ k key low high.
-        let from = not_above_number family b k low in
-        let to = not_above_number family k a high in
-        held_or_it k b key held (λ ne. others k key (omega (arith, from, ne)) to))))
-
-    held_after : (a b : A) → order.is_key a → order.is_key b → number a ≤ number b
-        → Holds order r a → HoldsKey order items b
-        → ((k : A) → order.is_key k → number a ≤ number k → number k < number b → Holds order r k)
-        → Holds order r b
-    held_after a b p q le has held others =
-        same_range items r coarse a b p stored has
-        (held_interval_is_in_one_range order (counted_lawful family.counted) items coarse a b p q
-        (number_not_above family a b le)
-        (λ k key low high.
-        let from = not_above_number family a k low in
-        let to = not_above_number family k b high in
-        held_or_it k b key held (λ ne. others k key from (omega (arith, to, ne)))))
-
-    -- the range that holds an address is a run of those that the set holds
-    pub run_is : (a : A) (first last : ℕ) → Known family items → order.is_key a → Holds order r a
-        → first ≡ from_of family r → last + 1 ≡ past_of family r
-        → IsRunAround (λ n. HoldsKey order items (at n)) (2 ^ width) (number a) (first, last)
-    run_is a first last known p has starts ends =
-        let bounds = range_bounds items r known coarse stored in
-        let lies = (holds_is family r a p).0 has in
-        let at_is : (n : ℕ) → n < 2 ^ width → number (at n) ≡ n =
-        λ n h. family.at_number n h in
-        let key_at : (n : ℕ) → n < 2 ^ width → order.is_key (at n) =
-        λ n h. let e = at_is n h in family.is_address (at n) (omega (arith, e, h)) in
-        let within : (k : A) → order.is_key k → first ≤ number k → number k ≤ last
-        → Holds order r k =
-        λ k key from to. (holds_is family r k key).1
-        (omega (arith, from, starts), omega (arith, to, ends)) in (
-          (omega (arith, lies.0, starts), omega (arith, lies.1, ends)),
-          record {
-            fits = omega (arith, ends, bounds.1);
-            each =
-                λ n is. let small : n < 2 ^ width = omega (arith, is.1, ends, bounds.1) in
-                let e = at_is n small in
-                in_set items r (at n) stored
-                (within (at n) (key_at n small) (omega (arith, e, is.0)) (omega (arith, e, is.1)));
-            starts =
-                λ n next held.
-                let small : n < 2 ^ width = omega (arith, next, starts, bounds.0, bounds.1) in
-                let e = at_is n small in
-                let key = key_at n small in
-                let there = (holds_is family r (at n) key).0
-                (held_before a (at n) p key (omega (arith, e, next, starts, lies.0)) has held
-                (λ k k_key from to. within k k_key (omega (arith, from, e, next))
-                (omega (arith, to, lies.1, ends)))) in
-                omega (arith, there.0, e, next, starts);
-            ends =
-                λ small held.
-                let e = at_is (last + 1) small in
-                let key = key_at (last + 1) small in
-                let there = (holds_is family r (at (last + 1)) key).0
-                (held_after a (at (last + 1)) p key (omega (arith, e, ends, lies.1)) has held
-                (λ k k_key from to. within k k_key (omega (arith, from, starts, lies.0))
-                (omega (arith, to, e)))) in
-                omega (arith, there.1, e, ends);
-          },
-        )
+  -- the range that holds an address is a run of those that the set holds
+  pub run_is : (items : List (Stored family)) (r : AnyRange A) (a : A) → Known family items
+      → Coarse family items → IsStoredRange items r → order.is_key a → Holds order r a
+      → IsRunAround (λ n. HoldsKey order items (at n)) (2 ^ width) (number a) (span number width r)
+  run_is items r a known coarse stored p has =
+      let is = is_range items r known coarse stored in
+      let bounds = has_span items r known coarse stored in
+      let first = first_held family r is.0 is.1 in
+      let last = last_held family r is.0 is.1 in
+      let lies = (holds_is family r a p).0 has in
+      let key_at : (n : ℕ) → n < 2 ^ width → order.is_key (at n) =
+      λ n h. let e = family.at_number n h in family.is_address (at n) (omega (arith, e, h)) in (
+        (lies.0, omega (arith, lies.1)),
+        record {
+          fits = omega (arith, bounds.0, bounds.1);
+          each =
+              λ n is_in. let small : n < 2 ^ width = omega (arith, is_in.1, bounds.0, bounds.1) in
+              let e = family.at_number n small in
+              in_set items r (at n) stored ((holds_is family r (at n) (key_at n small)).1
+              (omega (arith, e, is_in.0), omega (arith, e, is_in.1, bounds.0)));
+          starts =
+              λ n next held.
+              let small : n < 2 ^ width = omega (arith, next, bounds.0, bounds.1) in
+              let e = family.at_number n small in
+              let key = key_at n small in
+              let there = (holds_is family r (at n) key).0
+              (same_range items r coarse first.0 (at n) first.1 stored first.2
+              (turned items (at n) first.0 (held_together items coarse (at n) first.0 key first.1
+              (omega (arith, e, next, first.3)) held (in_set items r first.0 stored first.2)))) in
+              omega (arith, there.0, e, next);
+          ends =
+              λ small held.
+              let e = family.at_number (past_of family r - 1 + 1) small in
+              let key = key_at (past_of family r - 1 + 1) small in
+              let there = (holds_is family r (at (past_of family r - 1 + 1)) key).0
+              (same_range items r coarse last.0 (at (past_of family r - 1 + 1)) last.1 stored last.2
+              (held_together items coarse last.0 (at (past_of family r - 1 + 1)) last.1 key
+              (omega (arith, e, last.3, bounds.0)) (in_set items r last.0 stored last.2) held)) in
+              omega (arith, there.1, e, bounds.0);
+        },
+      )
 
   abbrev Runs : List (Stored family) → List (ℕ × ℕ)
-  Runs items = range_runs number at width (item_ranges items)
+  Runs items = map (span number width) (item_ranges items)
 
   each_run : (items : List (Stored family)) → Known family items → Coarse family items
       → (left : List (Stored family)) → Known family left → Coarse family left
@@ -184,11 +152,10 @@ module _ {A : Type 0} {order : KeyOrder A} {number : A → ℕ} {at : ℕ → A}
   each_run items known coarse (i ∷ left) left_known left_coarse stored =
       let here = stored i.key (inl refl) in
       let first = first_held family i.key left_known.0 left_coarse.keyed.0 in
-      let some = (range_bounds items i.key known coarse here).0 in (
+      let some = (has_span items i.key known coarse here).0 in (
         (
           omega (arith, some),
-          (run_is items i.key coarse here first.0 (from_of family i.key)
-              (past_of family i.key - 1) known first.1 first.2 refl (omega (arith, some))).1,
+          (run_is items i.key first.0 known coarse here first.1 first.2).1,
         ),
         each_run items known coarse left left_known.1 (coarse_rest family i left left_coarse)
             (λ r at. stored r (inr at)),
@@ -230,15 +197,3 @@ module _ {A : Type 0} {order : KeyOrder A} {number : A → ℕ} {at : ℕ → A}
     all = some_run items;
     ascending = rising_runs items known coarse;
   }
-
--- the first of the runs of some ranges
-pub first_run : {A : Type 0} (number : A → ℕ) (at : ℕ → A) (width : ℕ) (r : AnyRange A)
-    (ranges all : List (AnyRange A)) (first last : ℕ) → all ≡ r ∷ ranges
-    → first ≡ start_number number at width r.start → last + 1 ≡ past_number number at width r.end
-    → range_runs number at width all ≡ (first, last) ∷ range_runs number at width ranges
-first_run number at width r ranges all first last same starts ends =
-    let end : past_number number at width r.end - 1 ≡ last = omega (arith, ends) in
-    ap (range_runs number at width) same
-    ∙ ap (λ n. (n, past_number number at width r.end - 1) ∷ range_runs number at width ranges)
-    (sym starts)
-    ∙ ap (λ n. (first, n) ∷ range_runs number at width ranges) end

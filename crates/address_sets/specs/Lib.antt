@@ -1,6 +1,5 @@
--- Prefixes, and what a set of addresses has.
+-- What a set of addresses has, and its prefixes and runs.
 pub mod Counts
-pub mod Left
-pub mod Prefixes
-pub mod Runs
-pub mod Tiles
+pub use Rattle.address_prefixes.specs.Prefixes
+pub use Rattle.address_prefixes.specs.Runs
+pub use Rattle.address_prefixes.specs.declared.prefix.Prefix

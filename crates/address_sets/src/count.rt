@@ -1,29 +1,30 @@
 //! How many addresses a set has.
 
-ghost use Rattle.std.specs.Prelude.{◌≡◌, ◌≤◌, ◌^◌, MatchOption};
+ghost use Rattle.std.specs.Prelude.{◌≡◌, ◌≤◌, ◌^◌, map, MatchOption};
+ghost use Rattle.std.specs.List.{AllByRecursion};
 ghost use Rattle.btree_range_map.specs.KeySets.{HoldsKey};
 ghost use Rattle.btree_range_map.specs.Numbers.{IsNumberOfKeys};
+ghost use Rattle.address_prefixes.specs.Spans.{HasSpan, span};
 ghost use Rattle.address_sets.specs.Counts.{total};
-ghost use Rattle.address_sets.specs.Left.{AreTileable};
 
-use crate::prefixes::{first_number, last_number};
 use address_keys::Address;
+use address_prefixes::span::span_of;
 use btree_range_map::AnyRange;
-use btree_range_map::generic::{RangeSet, set};
+use btree_range_map::generic::set::{self, RangeSet};
 use btree_range_map::storage::{Item, Storage};
 
 /// How many addresses some ranges of a set have together, if they are fewer than 2^128.
 fn counted<A: Address, C: Storage<Item<AnyRange<A>, ()>>>(
     mut ranges: set::Iter<'_, A, C>,
 ) -> Option<u128>
-    requires { AreTileable A.number A.at A.WIDTH ranges }
-    ensures { MatchOption result (2 ^ 128 ≤ total A.number A.at A.WIDTH ranges.entry)
-        (λ n. n ≡ total A.number A.at A.WIDTH ranges.entry) }
+    requires { AllByRecursion (HasSpan A.number A.WIDTH) ranges }
+    ensures { MatchOption result (2 ^ 128 ≤ total (map (span A.number A.WIDTH) ranges.entry))
+        (λ n. n ≡ total (map (span A.number A.WIDTH) ranges.entry)) }
 {
     let mut count = 0u128;
     while let Some(range) = ranges.next() {
-        let others = last_number(&range.end) - first_number(&range.start);
-        count = count.checked_add(others)?.checked_add(1)?;
+        let (first, last) = span_of(range);
+        count = count.checked_add(last - first)?.checked_add(1)?;
     }
     Some(count)
 }

@@ -6,24 +6,23 @@
 //!
 //! Where to find what:
 //!
-//! - the prefixes of a set of addresses: `src/{prefix,prefixes}.rt`,
-//!   `specs/{Prefixes,Tiles}.antt`; that no fewer have its addresses, `proofs/{Fewest,Sets}.antt`
-//! - how many addresses a set has: `src/count.rt`, `proofs/Counts.antt`; those that follow each
-//!   other: `src/runs.rt`, `specs/Runs.antt`
+//! - the prefixes of a set of addresses: `src/prefixes.rt`; what they are and that no fewer have
+//!   its addresses: `address_prefixes`
+//! - the addresses that follow each other: `src/runs.rt`, `proofs/StoredRuns.antt`; how many
+//!   addresses a set has: `src/count.rt`, `proofs/Counts.antt`
 //! - a set but for some exceptions: `src/except.rt`
 #![tactic(auto)]
 
 pub mod count;
 pub mod except;
-pub mod prefix;
 pub mod prefixes;
 pub mod runs;
 
 pub use address_keys::{Address, Ipv4, Ipv6};
+pub use address_prefixes::Prefix;
 use btree_range_map::RangeSet;
 pub use count::address_count;
 pub use except::take_out;
-pub use prefix::Prefix;
 pub use prefixes::{PrefixSet, Prefixes};
 pub use runs::{Runs, run_around, runs_of};
 

@@ -4,12 +4,11 @@ ghost use Rattle.std.specs.Prelude.{◌^◌, MatchOption};
 ghost use Rattle.std.specs.Iterator.{YieldsFirst, item_count};
 ghost use Rattle.btree_range_map.specs.Holding.{box_items};
 ghost use Rattle.btree_range_map.specs.KeySets.{HoldsKey};
-ghost use Rattle.address_sets.specs.Left.{AreTileable};
-ghost use Rattle.address_sets.specs.Runs.{AreRuns, IsRunAround, range_runs};
+ghost use Rattle.address_prefixes.specs.Runs.{AreRuns, IsRunAround};
 
 use crate::AddressSet;
-use crate::prefixes::{first_number, last_number};
 use address_keys::Address;
+use address_prefixes::span::span_of;
 use btree_range_map::generic::set;
 use btree_range_map::storage::Item;
 use btree_range_map::{AnyRange, DefaultSetContainer};
@@ -23,15 +22,15 @@ pub struct Runs<'a, A: Address + 'a> {
 }
 
 impl<'a, A: Address + 'a> Model for Runs<'a, A> {
-    ghost use Rattle.std.specs.Prelude.{ℕ, List};
-    ghost use Rattle.address_sets.specs.Left.{AreTileable};
-    ghost use Rattle.address_sets.specs.Runs.{range_runs};
+    ghost use Rattle.std.specs.Prelude.{ℕ, List, map};
+    ghost use Rattle.std.specs.List.{AllByRecursion};
+    ghost use Rattle.address_prefixes.specs.Spans.{HasSpan, span};
 
     ghost Value = { List (ℕ × ℕ) };
 
-    ghost view = { λ r. range_runs A.number A.at A.WIDTH r.ranges };
+    ghost view = { λ r. map (span A.number A.WIDTH) r.ranges };
 
-    ghost invariant = { λ r. AreTileable A.number A.at A.WIDTH r.ranges };
+    ghost invariant = { λ r. AllByRecursion (HasSpan A.number A.WIDTH) r.ranges };
 }
 
 impl<'a, A: Address + 'a> Iterator for Runs<'a, A> {
@@ -43,7 +42,7 @@ impl<'a, A: Address + 'a> Iterator for Runs<'a, A> {
 
     fn next(&mut self) -> Option<(u128, u128)> {
         let range = self.ranges.next()?;
-        Some((first_number(&range.start), last_number(&range.end)))
+        Some(span_of(range))
     }
 }
 
@@ -79,7 +78,7 @@ pub fn run_around<A: Address>(set: &AddressSet<A>, address: A) -> Option<(u128, 
     address.known();
     let _ranges = set.iter();
     match set.get(address) {
-        Some(range) => Some((first_number(&range.start), last_number(&range.end))),
+        Some(range) => Some(span_of(range)),
         None => None,
     }
 }

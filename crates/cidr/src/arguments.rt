@@ -111,7 +111,7 @@ const HAS: Usage = Usage {
     takes: &[ONE_LIST, STRICT, SKIP_BAD, ADDRESSES],
 };
 
-const COMMANDS: [Usage; 9] = [
+static COMMANDS: [Usage; 9] = [
     Usage {
         name: "merge",
         about: "Print the addresses that are in any list",
@@ -202,23 +202,31 @@ fn argument<'a>((name, kind, help): Taken, alloc: Global) -> Result<Arg<'a>, All
 }
 
 fn command<'a>(usage: &Usage, alloc: Global) -> Result<clap::Command<'a>, AllocError> {
-    let mut command = clap::Command::new(alloc, usage.name).about(usage.about);
+    let mut args = Vec::new(alloc);
     for taken in usage.takes {
-        command = command.arg(argument(*taken, alloc)?)?;
+        args.push(argument(*taken, alloc)?)?;
     }
-    Ok(command)
+    clap::Command::new(alloc, usage.name)
+        .about(usage.about)
+        .args(args)
+}
+
+fn commands<'a>(usages: &[Usage], alloc: Global) -> Result<Vec<clap::Command<'a>>, AllocError> {
+    let mut commands = Vec::new(alloc);
+    for usage in usages {
+        commands.push(command(usage, alloc)?)?;
+    }
+    Ok(commands)
 }
 
 /// What the program can be asked.
 fn program<'a>(alloc: Global) -> Result<clap::Command<'a>, AllocError> {
-    let mut program = clap::Command::new(alloc, "cidr")
+    let commands = commands(&COMMANDS, alloc)?;
+    clap::Command::new(alloc, "cidr")
         .about(ABOUT)
         .after_help(EXAMPLES)
-        .subcommand_required(true);
-    for usage in &COMMANDS {
-        program = program.subcommand(command(usage, alloc)?)?;
-    }
-    Ok(program)
+        .subcommand_required(true)
+        .subcommands(commands)
 }
 
 /// The names of the lists, that of `--from` first.

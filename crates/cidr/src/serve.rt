@@ -11,10 +11,9 @@ ghost use Rattle.cidr.specs.Shown.{AreShown, IsShown, Kept};
 ghost use Rattle.cidr.specs.declared.serve.Stop.TheVariants.{Memory, Unwritable};
 
 use address_lists::{
-    Addresses, BadLines, ListError, list_to_text, read_addresses, write_counts, write_prefixes,
-    write_ranges, write_singles, write_split_prefixes,
+    Addresses, BadLines, ListError, empty_set, list_to_text, read_addresses, write_counts,
+    write_prefixes, write_ranges, write_singles, write_split_prefixes,
 };
-use address_sets::AddressSet;
 use address_text::Family;
 use btree_range_map::MapError;
 use std::alloc::Global;
@@ -236,10 +235,10 @@ fn kept(alloc: Global, list: Addresses, only: Option<Family>) -> Addresses
         None => Addresses { v4, v6 },
         Some(Family::V4) => Addresses {
             v4,
-            v6: AddressSet::new(alloc),
+            v6: empty_set(alloc),
         },
         Some(Family::V6) => Addresses {
-            v4: AddressSet::new(alloc),
+            v4: empty_set(alloc),
             v6,
         },
     }

@@ -1,13 +1,13 @@
 use Rattle.std.proofs.Common.{◌++◌, refl}
 use Rattle.line_program.proofs.Listing.{appends_then, on_ok_as}
-use Rattle.address_lists.proofs.RunsFit.{runs_fit}
+use Rattle.address_prefixes.proofs.Runs.{are_spans}
 use Rattle.address_lists.proofs.ranges.write_list.Goals as goal
 
 pub write_all-requires : goal.write_all-requires
-write_all-requires g c = runs_fit _ _ c.runs_of.result c.runs_of.ensures.each
+write_all-requires g c = are_spans _ 32 c.runs_of.result c.runs_of.ensures
 
 pub write_all-requires-2 : goal.write_all-requires-2
-write_all-requires-2 g c = runs_fit _ _ c.runs_of-2.result c.runs_of-2.ensures.each
+write_all-requires-2 g c = are_spans _ 128 c.runs_of-2.result c.runs_of-2.ensures
 
 pub returns : goal.returns
 returns g c =

@@ -2,8 +2,8 @@ use Rattle.std.proofs.Common.{◌≡◌, ℕ, List, [], subst}
 use Rattle.std.specs.List.{AllByRecursion}
 use Rattle.line_program.proofs.Listing.{HasShown, shown_all, shown_more, shown_none}
 use Rattle.address_lists.specs.Split.{IsSplit}
-use Rattle.address_sets.specs.Prefixes.{IsPrefix}
-use Rattle.address_sets.specs.declared.prefix.Prefix.{Prefix}
+use Rattle.address_prefixes.specs.Prefixes.{IsPrefix}
+use Rattle.address_prefixes.specs.declared.prefix.Prefix.{Prefix}
 use Rattle.address_lists.proofs.split.write_all.Goals as goal
 
 pub loop-prefix-init : goal.loop-prefix-init

@@ -1,7 +1,7 @@
 use Rattle.std.proofs.Common.{length}
 use Rattle.std.specs.List.{AllByRecursion}
 use Rattle.line_program.proofs.Listing.{HasShown}
-use Rattle.address_sets.specs.Prefixes.{IsPrefix}
+use Rattle.address_prefixes.specs.Prefixes.{IsPrefix}
 use Rattle.address_lists.specs.Split.{IsSplit}
 use Rattle.address_lists.proofs.split.write_all.Given as goal
 

@@ -1,52 +1,33 @@
-use Rattle.std.proofs.Common.{subst, sym}
-use Rattle.std.specs.List.{AllByRecursion}
-use Rattle.btree_range_map.specs.FreeRanges.{item_ranges}
+use Rattle.btree_range_map.specs.HeldKeys.{held_by_ranges}
 use Rattle.btree_range_map.specs.Holding.{box_items}
-use Rattle.address_sets.specs.Left.{AreTileable}
-use Rattle.address_sets.specs.Prefixes.{AreAscending, AreFewest, HaveJust, IsPrefix}
-use Rattle.address_sets.specs.Tiles.{set_tiles}
-use Rattle.address_sets.proofs.Sets.{are_ascending, are_fewest, are_prefixes, are_tileable, have_just}
+use Rattle.btree_range_map.specs.KeySets.{HoldsKey}
+use Rattle.address_prefixes.proofs.FewestOfRuns.{are_fewest}
+use Rattle.address_prefixes.proofs.RunTiles.{are_ascending, are_prefixes, have_just}
+use Rattle.address_prefixes.proofs.Runs.{are_spans}
 use Rattle.address_sets.proofs.prefixes.RangeSetPrefixSet.prefixes.Goals as goal
 
 pub invariant_of-result : goal.invariant_of-result
 invariant_of-result g c = (
   tt,
-  subst (λ ranges. AreTileable g.A.Address.number g.A.Address.at g.A.Address.WIDTH ranges)
-      (sym c.iter.ensures.ranges)
-      (are_tileable g.met.A.Address.family (box_items c.args.self.now) c.iter.ensures.form.known
-      (c.iter.ensures.coarse g.met.A.Complete.complete)),
+  are_spans _ g.A.Address.WIDTH c.runs_of.result c.runs_of.ensures,
 )
 
-pub returns-clause-exact : goal.returns-clause-exact
-returns-clause-exact g c =
-    subst (λ ranges. HaveJust g.A.Address.number g.A.MaybeBounded.order
-    (set_tiles g.A.Address.number g.A.Address.at g.A.Address.WIDTH ranges)
-    (item_ranges (box_items c.args.self.now)))
-    (sym c.iter.ensures.ranges)
-    (have_just g.met.A.Address.family (box_items c.args.self.now) c.iter.ensures.form.known
-    (c.iter.ensures.coarse g.met.A.Complete.complete))
-
-pub returns-clause-whole : goal.returns-clause-whole
-returns-clause-whole g c =
-    subst (λ ranges. AllByRecursion (IsPrefix g.A.Address.number g.A.Address.WIDTH)
-    (set_tiles g.A.Address.number g.A.Address.at g.A.Address.WIDTH ranges))
-    (sym c.iter.ensures.ranges)
-    (are_prefixes g.met.A.Address.family (box_items c.args.self.now) c.iter.ensures.form.known
-    (c.iter.ensures.coarse g.met.A.Complete.complete))
-
-pub returns-clause-ascending : goal.returns-clause-ascending
-returns-clause-ascending g c =
-    subst (λ ranges. AreAscending g.A.Address.number
-    (set_tiles g.A.Address.number g.A.Address.at g.A.Address.WIDTH ranges))
-    (sym c.iter.ensures.ranges)
-    (are_ascending g.met.A.Address.family (box_items c.args.self.now) c.iter.ensures.form.known
-    (c.iter.ensures.coarse g.met.A.Complete.complete))
-
-pub returns-clause-fewest : goal.returns-clause-fewest
-returns-clause-fewest g c =
-    subst (λ ranges. AreFewest g.A.Address.number g.A.MaybeBounded.order g.A.Address.WIDTH
-    (set_tiles g.A.Address.number g.A.Address.at g.A.Address.WIDTH ranges)
-    (item_ranges (box_items c.args.self.now)))
-    (sym c.iter.ensures.ranges)
-    (are_fewest g.met.A.Address.family (box_items c.args.self.now) c.iter.ensures.form.known
-    (c.iter.ensures.coarse g.met.A.Complete.complete))
+pub returns : goal.returns
+returns g c =
+    let family = g.met.A.Address.family in
+    let items = box_items c.args.self.now in
+    let held = HoldsKey g.A.MaybeBounded.order items in
+    let runs = c.runs_of.result in
+    let are = c.runs_of.ensures in
+    let by = held_by_ranges g.A.MaybeBounded.order items in
+    record {
+      exact =
+          λ a key.
+          let just = have_just family held runs are a key in
+          (λ some. (by a).0 (just.0 some), λ holds. just.1 ((by a).1 holds));
+      whole = are_prefixes family held runs are;
+      ascending = are_ascending family held runs are;
+      fewest =
+          λ others all just. are_fewest family held runs are others all
+          (λ a key. (λ some. (by a).1 ((just a key).0 some), λ q. (just a key).1 ((by a).0 q)));
+    }

@@ -1,8 +1,0 @@
-use Rattle.std.proofs.Common.{◌+◌, sym, arith}
-use Rattle.address_sets.proofs.Steps.{no_tiles}
-use Rattle.address_sets.proofs.prefixes.part_after.Goals as goal
-
-pub returns-else-end-last-clause-tiles : goal.returns-else-end-last-clause-tiles
-returns-else-end-last-clause-tiles g c =
-    sym (no_tiles g.A.Address.number g.A.Address.at g.A.Address.WIDTH (c.args.end + 1)
-    (c.args.last + 1) (omega arith))
