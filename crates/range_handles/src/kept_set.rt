@@ -100,13 +100,20 @@ impl<K: Key> KeptSet<K> {
         requires keys { ClonesAreEqual K.is_clone K.eq }
         ensures { IfOk result (λ new. IsJoin join K.order self.now other.now new) }
     {
-        let set = match join {
-            Join::Union => self.set.union(&other.set)?,
-            Join::Intersection => self.set.intersection(&other.set)?,
-            Join::Difference => self.set.difference(&other.set)?,
-            Join::SymmetricDifference => self.set.symmetric_difference(&other.set)?,
-        };
-        Ok(KeptSet { set })
+        match join {
+            Join::Union => Ok(KeptSet {
+                set: self.set.union(&other.set)?,
+            }),
+            Join::Intersection => Ok(KeptSet {
+                set: self.set.intersection(&other.set)?,
+            }),
+            Join::Difference => Ok(KeptSet {
+                set: self.set.difference(&other.set)?,
+            }),
+            Join::SymmetricDifference => Ok(KeptSet {
+                set: self.set.symmetric_difference(&other.set)?,
+            }),
+        }
     }
 
     /// A set of just the keys that are not in this set.
