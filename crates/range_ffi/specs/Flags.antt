@@ -16,28 +16,24 @@ has_flag flags flag = not (nat_eq (bit_and flags flag) 0)
 
 module _ {K : Type 0} where
   -- what the key bounds, by the flags of excluded and of unbounded
-  abbrev pub flagged_bound : Bool → Bool → K → Bound K
-  flagged_bound excluded unbounded key =
-      if unbounded then Unbounded else (if excluded then Excluded key else Included key)
+  abbrev pub flagged_bound : ℕ → ℕ → ℕ → K → Bound K
+  flagged_bound flags excluded unbounded key =
+      if has_flag flags unbounded then Unbounded
+      else (if has_flag flags excluded then Excluded key else Included key)
 
-  abbrev pub start_bound : ℕ → K → Bound K
-  start_bound flags key =
-      flagged_bound (has_flag flags START_EXCLUDED) (has_flag flags START_UNBOUNDED) key
+  -- the range that two keys and flags say
+  abbrev pub flagged_range : K → K → ℕ → AnyRange K
+  flagged_range start end flags =
+      record {
+        start = flagged_bound flags START_EXCLUDED START_UNBOUNDED start;
+        end = flagged_bound flags END_EXCLUDED END_UNBOUNDED end;
+      }
 
-  abbrev pub end_bound : ℕ → K → Bound K
-  end_bound flags key =
-      flagged_bound (has_flag flags END_EXCLUDED) (has_flag flags END_UNBOUNDED) key
-
-  -- the flags that say the bound
-  abbrev pub start_flag : Bound K → ℕ
-  start_flag (Included key) = 0
-  start_flag (Excluded key) = START_EXCLUDED
-  start_flag Unbounded = START_UNBOUNDED
-
-  abbrev pub end_flag : Bound K → ℕ
-  end_flag (Included key) = 0
-  end_flag (Excluded key) = END_EXCLUDED
-  end_flag Unbounded = END_UNBOUNDED
+  -- the flag that says the bound, of those of excluded and of unbounded
+  abbrev pub bound_flag : ℕ → ℕ → Bound K → ℕ
+  bound_flag excluded unbounded (Included key) = 0
+  bound_flag excluded unbounded (Excluded key) = excluded
+  bound_flag excluded unbounded Unbounded = unbounded
 
   -- the bound's key, or the other one where it has none
   abbrev pub key_or : Bound K → K → K
@@ -47,10 +43,10 @@ module _ {K : Type 0} where
 
 -- the range that the bounds say
 abbrev pub range_of : Bounds → AnyRange ℕ
-range_of b = record { start = start_bound b.flags b.start; end = end_bound b.flags b.end }
+range_of b = flagged_range b.start b.end b.flags
 
 abbrev pub signed_range_of : SignedBounds → AnyRange ℤ
-signed_range_of b = record { start = start_bound b.flags b.start; end = end_bound b.flags b.end }
+signed_range_of b = flagged_range b.start b.end b.flags
 
 -- the item that the entry says
 abbrev pub entry_item : Entry → Item (AnyRange ℕ) ℕ

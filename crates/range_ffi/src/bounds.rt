@@ -1,7 +1,7 @@
 //! Ranges and entries as they cross to C.
 ghost use Rattle.std.specs.Prelude.{◌≡◌, ◌+◌};
 ghost use Rattle.range_ffi.specs.Bindings.{binding_value};
-ghost use Rattle.range_ffi.specs.Flags.{range_of, signed_range_of, start_bound, end_bound, start_flag, end_flag, key_or, number_of};
+ghost use Rattle.range_ffi.specs.Flags.{range_of, signed_range_of, flagged_bound, flagged_range, bound_flag, key_or, number_of};
 
 use range_algebra::any::AnyRange;
 use std::ops::Bound;
@@ -94,21 +94,15 @@ impl Bounds {
     pub fn range(&self) -> AnyRange<u64>
         ensures { result ≡ range_of self.now }
     {
-        AnyRange::new(
-            read_start(self.flags, self.start),
-            read_end(self.flags, self.end),
-        )
+        range_between(self.start, self.end, self.flags)
     }
 
     /// The bounds that say the range.
     pub fn of(range: &AnyRange<u64>) -> Bounds
         ensures { range_of result ≡ range.now }
     {
-        Bounds {
-            start: key_of(&range.start, 0),
-            end: key_of(&range.end, 0),
-            flags: flags_of(&range.start, &range.end),
-        }
+        let (start, end, flags) = parts_of(range, 0);
+        Bounds { start, end, flags }
     }
 }
 
@@ -117,72 +111,60 @@ impl SignedBounds {
     pub fn range(&self) -> AnyRange<i64>
         ensures { result ≡ signed_range_of self.now }
     {
-        AnyRange::new(
-            read_start(self.flags, self.start),
-            read_end(self.flags, self.end),
-        )
+        range_between(self.start, self.end, self.flags)
     }
 
     /// The bounds that say the range.
     pub fn of(range: &AnyRange<i64>) -> SignedBounds
         ensures { signed_range_of result ≡ range.now }
     {
-        SignedBounds {
-            start: key_of(&range.start, 0),
-            end: key_of(&range.end, 0),
-            flags: flags_of(&range.start, &range.end),
-        }
+        let (start, end, flags) = parts_of(range, 0);
+        SignedBounds { start, end, flags }
     }
 }
 
-fn read_start<K: Copy + Drop>(flags: u32, key: K) -> Bound<K>
-    ensures { result ≡ start_bound flags key }
+/// The range that two keys and flags say.
+fn range_between<K: Copy + Drop>(start: K, end: K, flags: u32) -> AnyRange<K>
+    ensures { result ≡ flagged_range start end flags }
 {
-    if flags & START_UNBOUNDED != 0 {
+    AnyRange::new(
+        bound(start, flags, START_EXCLUDED, START_UNBOUNDED),
+        bound(end, flags, END_EXCLUDED, END_UNBOUNDED),
+    )
+}
+
+/// What the key bounds, by the flags of excluded and of unbounded.
+fn bound<K: Copy + Drop>(key: K, flags: u32, excluded: u32, unbounded: u32) -> Bound<K>
+    ensures { result ≡ flagged_bound flags excluded unbounded key }
+{
+    if flags & unbounded != 0 {
         Bound::Unbounded
-    } else if flags & START_EXCLUDED != 0 {
+    } else if flags & excluded != 0 {
         Bound::Excluded(key)
     } else {
         Bound::Included(key)
     }
 }
 
-fn read_end<K: Copy + Drop>(flags: u32, key: K) -> Bound<K>
-    ensures { result ≡ end_bound flags key }
+/// The keys and flags that say the range. A bound that has no key gets the other one.
+fn parts_of<K: Copy + Drop>(range: &AnyRange<K>, other: K) -> (K, K, u32)
+    ensures { flagged_range result.0 result.1 result.2 ≡ range.now }
 {
-    if flags & END_UNBOUNDED != 0 {
-        Bound::Unbounded
-    } else if flags & END_EXCLUDED != 0 {
-        Bound::Excluded(key)
-    } else {
-        Bound::Included(key)
-    }
+    let (start, start_flag) = part_of(&range.start, other, START_EXCLUDED, START_UNBOUNDED);
+    let (end, end_flag) = part_of(&range.end, other, END_EXCLUDED, END_UNBOUNDED);
+    (start, end, start_flag | end_flag)
 }
 
-/// The key of a bound, or the other one where it has none.
-fn key_of<K: Copy + Drop>(bound: &Bound<K>, other: K) -> K
-    ensures { result ≡ key_or bound.now other }
+/// The key of a bound, or the other one, and the flag that says the bound.
+fn part_of<K: Copy + Drop>(bound: &Bound<K>, other: K, excluded: u32, unbounded: u32) -> (K, u32)
+    ensures { (result.0 ≡ key_or bound.now other)
+        × (result.1 ≡ bound_flag excluded unbounded bound.now) }
 {
     match bound {
-        Bound::Included(key) | Bound::Excluded(key) => *key,
-        Bound::Unbounded => other,
+        Bound::Included(key) => (*key, 0),
+        Bound::Excluded(key) => (*key, excluded),
+        Bound::Unbounded => (other, unbounded),
     }
-}
-
-fn flags_of<K: Copy>(start: &Bound<K>, end: &Bound<K>) -> u32
-    ensures { result ≡ start_flag start.now + end_flag end.now }
-{
-    let start_flag = match start {
-        Bound::Included(_) => 0,
-        Bound::Excluded(_) => START_EXCLUDED,
-        Bound::Unbounded => START_UNBOUNDED,
-    };
-    let end_flag = match end {
-        Bound::Included(_) => 0,
-        Bound::Excluded(_) => END_EXCLUDED,
-        Bound::Unbounded => END_UNBOUNDED,
-    };
-    start_flag + end_flag
 }
 
 impl Binding {

@@ -2,14 +2,14 @@
 use Rattle.std.specs.Prelude.{ℕ, nat_eq, Option, Some, None, ⊤}
 use Rattle.btree_range_map.specs.Bindings.{IsLeastCount}
 use Rattle.btree_range_map.specs.KeySets as Sets
-use Rattle.range_handles.specs.Lists.{unsigned_keys, signed_keys}
+use Rattle.btree_range_map.specs.Names.{u64_order, i64_order}
 use Rattle.range_handles.specs.declared.collection.Collection.{Collection}
 use Rattle.range_handles.specs.declared.collection.Collection.TheVariants.{Unsigned, Signed, Set, SignedSet}
 
 -- no list of ranges that binds the same, or holds the same keys, has fewer
 abbrev pub IsLeastRangeCount : Option Collection → ℕ → Type 0
-IsLeastRangeCount (Some (Unsigned items)) n = IsLeastCount unsigned_keys nat_eq items n
-IsLeastRangeCount (Some (Signed items)) n = IsLeastCount signed_keys nat_eq items n
-IsLeastRangeCount (Some (Set items)) n = Sets.IsLeastCount unsigned_keys items n
-IsLeastRangeCount (Some (SignedSet items)) n = Sets.IsLeastCount signed_keys items n
+IsLeastRangeCount (Some (Unsigned items)) n = IsLeastCount u64_order nat_eq items n
+IsLeastRangeCount (Some (Signed items)) n = IsLeastCount i64_order nat_eq items n
+IsLeastRangeCount (Some (Set items)) n = Sets.IsLeastCount u64_order items n
+IsLeastRangeCount (Some (SignedSet items)) n = Sets.IsLeastCount i64_order items n
 IsLeastRangeCount None n = ⊤

@@ -1,16 +1,7 @@
--- The lists that the collections are, and the orders of their keys.
+-- The lists that the collections are.
 use Rattle.std.specs.Prelude.{ℕ, ℤ, List, Option}
-use Rattle.btree_range_map.specs.Order.{KeyOrder}
-use Rattle.btree_range_map.specs.Signed.{signed_order}
-use Rattle.btree_range_map.specs.Unsigned.{unsigned_order}
 use Rattle.btree_range_map.specs.AnyRange.{AnyRange}
 use Rattle.btree_range_map.specs.Item.{Item}
-
-abbrev pub unsigned_keys : KeyOrder ℕ
-unsigned_keys = unsigned_order 18446744073709551615
-
-abbrev pub signed_keys : KeyOrder ℤ
-signed_keys = signed_order 9223372036854775807
 
 -- ranges with their values
 abbrev pub Ranges : Type 0

@@ -1,9 +1,14 @@
 -- Which two collections make a map, and which map they make.
-use Rattle.std.specs.Prelude.{nat_eq, Option, Some, ⊤}
+use Rattle.std.specs.Prelude.{ℕ, List, nat_eq, Option, Some, ⊤}
+use Rattle.btree_range_map.specs.AnyRange.{AnyRange}
+use Rattle.btree_range_map.specs.Item.{Item}
+use Rattle.btree_range_map.specs.Names.{u64_order, i64_order}
+use Rattle.btree_range_map.specs.Order.{KeyOrder}
 use Rattle.btree_range_map.specs.Overlays.{IsOverlaid, IsRestricted, IsWithout}
-use Rattle.range_handles.specs.Lists.{unsigned_keys, signed_keys}
 use Rattle.range_handles.specs.declared.collection.Collection.{Collection}
 use Rattle.range_handles.specs.declared.collection.Collection.TheVariants.{Unsigned, Signed, Set, SignedSet}
+use Rattle.range_handles.specs.declared.kept_map.together.Part.{Part}
+use Rattle.range_handles.specs.declared.kept_map.together.Part.TheVariants.{Shared, Rest}
 
 -- two maps of one kind
 abbrev pub AreMapsOfOneKind : Option Collection → Option Collection → Type 0
@@ -22,31 +27,25 @@ AreMapAndKeys _ _ = ⊥
 -- the third is a map that binds each key as the second does, or else as the first does
 abbrev pub IsOverlayOf : Option Collection → Option Collection → Option Collection → Type 0
 IsOverlayOf (Some (Unsigned items)) (Some (Unsigned others)) (Some (Unsigned new)) =
-    IsOverlaid unsigned_keys nat_eq items others new
+    IsOverlaid u64_order nat_eq items others new
 IsOverlayOf (Some (Signed items)) (Some (Signed others)) (Some (Signed new)) =
-    IsOverlaid signed_keys nat_eq items others new
+    IsOverlaid i64_order nat_eq items others new
 IsOverlayOf _ _ _ = ⊥
 
--- the third is a map of those bindings of the first whose keys the second has too
-abbrev pub IsRestrictionOf : Option Collection → Option Collection → Option Collection → Type 0
-IsRestrictionOf (Some (Unsigned items)) (Some (Unsigned others)) (Some (Unsigned new)) =
-    IsRestricted unsigned_keys nat_eq items others new
-IsRestrictionOf (Some (Unsigned items)) (Some (Set others)) (Some (Unsigned new)) =
-    IsRestricted unsigned_keys nat_eq items others new
-IsRestrictionOf (Some (Signed items)) (Some (Signed others)) (Some (Signed new)) =
-    IsRestricted signed_keys nat_eq items others new
-IsRestrictionOf (Some (Signed items)) (Some (SignedSet others)) (Some (Signed new)) =
-    IsRestricted signed_keys nat_eq items others new
-IsRestrictionOf _ _ _ = ⊥
+-- the third list is that part of the first, by the keys that the second has
+abbrev pub IsPart : {K W : Type 0} → Part → KeyOrder K → List (Item (AnyRange K) ℕ)
+    → List (Item (AnyRange K) W) → List (Item (AnyRange K) ℕ) → Type 0
+IsPart Shared order items others new = IsRestricted order nat_eq items others new
+IsPart Rest order items others new = IsWithout order nat_eq items others new
 
--- the third is a map of those bindings of the first whose keys the second has not
-abbrev pub IsRemainderOf : Option Collection → Option Collection → Option Collection → Type 0
-IsRemainderOf (Some (Unsigned items)) (Some (Unsigned others)) (Some (Unsigned new)) =
-    IsWithout unsigned_keys nat_eq items others new
-IsRemainderOf (Some (Unsigned items)) (Some (Set others)) (Some (Unsigned new)) =
-    IsWithout unsigned_keys nat_eq items others new
-IsRemainderOf (Some (Signed items)) (Some (Signed others)) (Some (Signed new)) =
-    IsWithout signed_keys nat_eq items others new
-IsRemainderOf (Some (Signed items)) (Some (SignedSet others)) (Some (Signed new)) =
-    IsWithout signed_keys nat_eq items others new
-IsRemainderOf _ _ _ = ⊥
+-- the third is a map of that part of the first, by the keys that the second has
+abbrev pub IsPartOf : Part → Option Collection → Option Collection → Option Collection → Type 0
+IsPartOf part (Some (Unsigned items)) (Some (Unsigned others)) (Some (Unsigned new)) =
+    IsPart part u64_order items others new
+IsPartOf part (Some (Unsigned items)) (Some (Set others)) (Some (Unsigned new)) =
+    IsPart part u64_order items others new
+IsPartOf part (Some (Signed items)) (Some (Signed others)) (Some (Signed new)) =
+    IsPart part i64_order items others new
+IsPartOf part (Some (Signed items)) (Some (SignedSet others)) (Some (Signed new)) =
+    IsPart part i64_order items others new
+IsPartOf _ _ _ _ = ⊥

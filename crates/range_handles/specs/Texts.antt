@@ -7,8 +7,8 @@ use Rattle.btree_range_map.specs.Faults.{IsSetRead, set_fault}
 use Rattle.btree_range_map.specs.JsonError.{JsonError}
 use Rattle.btree_range_map.specs.Keys.{unsigned_of, signed_of, unsigned_shape, signed_shape}
 use Rattle.btree_range_map.specs.MapFaults.{IsMapRead, IsMapFault}
+use Rattle.btree_range_map.specs.Names.{u64_order, i64_order}
 use Rattle.btree_range_map.specs.Shapes.{map_shape, set_shape}
-use Rattle.range_handles.specs.Lists.{Ranges, SignedRanges, KeyRanges, SignedKeyRanges, unsigned_keys, signed_keys}
 use Rattle.range_handles.specs.declared.collection.Collection.{Collection}
 use Rattle.range_handles.specs.declared.collection.Collection.TheVariants.{Unsigned, Signed, Set, SignedSet}
 
@@ -26,66 +26,29 @@ abbrev pub IsSignedRead : Data → ℤ → Type 0
 IsSignedRead d z = signed_of 9223372036854775807 d ≡ Some z
 
 -- the JSON value that a collection is written as
-abbrev pub unsigned_data : Ranges → Data
-unsigned_data items = map_shape unsigned_shape unsigned_shape items
-
-abbrev pub signed_data : SignedRanges → Data
-signed_data items = map_shape signed_shape unsigned_shape items
-
-abbrev pub set_data : KeyRanges → Data
-set_data items = set_shape unsigned_shape items
-
-abbrev pub signed_set_data : SignedKeyRanges → Data
-signed_set_data items = set_shape signed_shape items
-
 abbrev pub data_of : Collection → Data
-data_of (Unsigned items) = unsigned_data items
-data_of (Signed items) = signed_data items
-data_of (Set items) = set_data items
-data_of (SignedSet items) = signed_set_data items
+data_of (Unsigned items) = map_shape unsigned_shape unsigned_shape items
+data_of (Signed items) = map_shape signed_shape unsigned_shape items
+data_of (Set items) = set_shape unsigned_shape items
+data_of (SignedSet items) = set_shape signed_shape items
 
--- what the JSON value is read as, and a fault for which it is not read
-abbrev pub IsUnsignedMapRead : Data → Ranges → Type 0
-IsUnsignedMapRead d items =
-    IsMapRead unsigned_keys reads_unsigned reads_unsigned IsUnsignedRead IsUnsignedRead nat_eq d
-    items
-
-abbrev pub IsUnsignedFault : Data → JsonError → Type 0
-IsUnsignedFault d e =
-    IsMapFault unsigned_keys reads_unsigned reads_unsigned IsUnsignedRead IsUnsignedRead d e
-
-abbrev pub IsSignedMapRead : Data → SignedRanges → Type 0
-IsSignedMapRead d items =
-    IsMapRead signed_keys reads_signed reads_unsigned IsSignedRead IsUnsignedRead nat_eq d items
-
-abbrev pub IsSignedFault : Data → JsonError → Type 0
-IsSignedFault d e =
-    IsMapFault signed_keys reads_signed reads_unsigned IsSignedRead IsUnsignedRead d e
-
-abbrev pub IsUnsignedSetRead : Data → KeyRanges → Type 0
-IsUnsignedSetRead d items = IsSetRead IsUnsignedRead unsigned_keys d items
-
-abbrev pub IsSetFault : Data → JsonError → Type 0
-IsSetFault d e = set_fault reads_unsigned d ≡ Some e
-
-abbrev pub IsSignedSetRead : Data → SignedKeyRanges → Type 0
-IsSignedSetRead d items = IsSetRead IsSignedRead signed_keys d items
-
-abbrev pub IsSignedSetFault : Data → JsonError → Type 0
-IsSignedSetFault d e = set_fault reads_signed d ≡ Some e
-
+-- what the JSON value is read as
 abbrev pub IsDataRead : Data → Collection → Type 0
-IsDataRead d (Unsigned items) = IsUnsignedMapRead d items
-IsDataRead d (Signed items) = IsSignedMapRead d items
-IsDataRead d (Set items) = IsUnsignedSetRead d items
-IsDataRead d (SignedSet items) = IsSignedSetRead d items
+IsDataRead d (Unsigned items) =
+    IsMapRead u64_order reads_unsigned reads_unsigned IsUnsignedRead IsUnsignedRead nat_eq d items
+IsDataRead d (Signed items) =
+    IsMapRead i64_order reads_signed reads_unsigned IsSignedRead IsUnsignedRead nat_eq d items
+IsDataRead d (Set items) = IsSetRead IsUnsignedRead u64_order d items
+IsDataRead d (SignedSet items) = IsSetRead IsSignedRead i64_order d items
 
 -- a fault of the value as one of the collection's kind
 abbrev pub IsDataFault : Collection → Data → JsonError → Type 0
-IsDataFault (Unsigned items) d e = IsUnsignedFault d e
-IsDataFault (Signed items) d e = IsSignedFault d e
-IsDataFault (Set items) d e = IsSetFault d e
-IsDataFault (SignedSet items) d e = IsSignedSetFault d e
+IsDataFault (Unsigned items) d e =
+    IsMapFault u64_order reads_unsigned reads_unsigned IsUnsignedRead IsUnsignedRead d e
+IsDataFault (Signed items) d e =
+    IsMapFault i64_order reads_signed reads_unsigned IsSignedRead IsUnsignedRead d e
+IsDataFault (Set items) d e = set_fault reads_unsigned d ≡ Some e
+IsDataFault (SignedSet items) d e = set_fault reads_signed d ≡ Some e
 
 -- the text that what is held is saved as
 abbrev pub IsTextOf : Option Collection → List ℕ → Type 0

@@ -5,7 +5,6 @@ use crate::collection::Collection;
 use crate::seal::Seal;
 use range_ffi::status::{DONE, NO_MEMORY};
 use std::alloc::Global;
-use std::mem;
 use std::ptr::null_mut;
 
 /// A collection, while it is open.
@@ -29,16 +28,6 @@ impl Handle {
         }
     }
 
-    /// A handle of the collection.
-    pub fn open(b: Box<Collection, Global>) -> Handle
-        ensures { (result.is_open ≡ true) × (result.seal.held ≡ Some b.value) }
-    {
-        Handle {
-            is_open: true,
-            seal: Seal::of(b),
-        }
-    }
-
     /// Opens a closed handle on the collection. Allocates one block.
     pub fn fill(&mut self, alloc: Global, collection: Collection) -> u32
         ensures filled { result ≡ DONE → self.new.seal.held ≡ Some collection }
@@ -47,7 +36,10 @@ impl Handle {
     {
         match Box::new(alloc, collection) {
             Ok(kept) => {
-                *self = Handle::open(kept);
+                *self = Handle {
+                    is_open: true,
+                    seal: Seal::of(kept),
+                };
                 DONE
             }
             Err(_) => NO_MEMORY,
@@ -61,13 +53,5 @@ impl Handle {
     {
         let Handle { is_open: _, seal } = self;
         seal.into_box()
-    }
-
-    /// The collection of an open handle, which is closed until it comes back.
-    pub fn take(&mut self, alloc: Global) -> Box<Collection, Global>
-        requires { self.old.is_open ≡ true }
-        ensures { self.old.seal.held ≡ Some result.value }
-    {
-        mem::replace(self, Handle::closed(alloc)).into_box()
     }
 }

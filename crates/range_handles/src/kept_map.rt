@@ -9,19 +9,19 @@ ghost use Rattle.btree_range_map.specs.ListOrder.{IsCopyOf};
 ghost use Rattle.btree_range_map.specs.Lookups.{IsConnectedToSome, MeetsSome};
 ghost use Rattle.btree_range_map.specs.MapExtending.{AreBoundAfter};
 ghost use Rattle.btree_range_map.specs.MapFaults.{IsMapRead, IsMapFault};
-ghost use Rattle.btree_range_map.specs.Overlays.{IsOverlaid, IsRestricted, IsWithout};
+ghost use Rattle.btree_range_map.specs.Overlays.{IsOverlaid};
 ghost use Rattle.btree_range_map.specs.Range.{IsEmptyRange, ClonesAreEqual};
 ghost use Rattle.btree_range_map.specs.Shapes.{map_shape};
 ghost use Rattle.btree_range_map.specs.Splitting.{IsSplitAt};
 ghost use Rattle.serde_json.specs.View.{view};
 ghost use Rattle.serde_json.specs.Written.{compact_text, has_float};
+ghost use Rattle.range_handles.specs.MapKinds.{IsPart};
 ghost use Rattle.range_handles.specs.Texts.{reads_unsigned, IsUnsignedRead};
 
 pub mod together;
 
 use crate::in_order::map_in_order;
 use crate::key::Key;
-use crate::reads;
 use btree_range_map::json::{Json, JsonError, map_from_json, map_to_json};
 use btree_range_map::range::traits::PartialEnum;
 use btree_range_map::storage::Item;
@@ -33,6 +33,7 @@ use range_ffi::status::{
 use serde_json::Value;
 use std::alloc::{AllocError, Global};
 use std::marker::Model;
+use together::Part;
 
 /// A map to `u64` values, which a contract sees as its ranges with their values.
 pub struct KeptMap<K: PartialEnum> {
@@ -76,7 +77,7 @@ impl<K: Key> KeptMap<K> {
         ensures value { result ≡ length self.now }
         ensures least { IsLeastCount K.order nat_eq self.now result }
     {
-        reads::range_count(&self.map)
+        self.map.range_count()
     }
 
     pub fn clear(&mut self)
@@ -97,7 +98,7 @@ impl<K: Key> KeptMap<K> {
     pub fn equals(&self, other: &KeptMap<K>) -> bool
         ensures { IsTrue result ↔ BindAlike K.order nat_eq self.now other.now }
     {
-        reads::equal(&self.map, &other.map)
+        self.map.eq(&other.map)
     }
 
     /// A map that binds each key as the other does, or else as this one does.
@@ -110,26 +111,21 @@ impl<K: Key> KeptMap<K> {
         })
     }
 
-    /// A map that binds those keys of this one that the other binds too, each as this one does.
-    pub fn restrict<W: Eq + Drop>(&self, other: &RangeMap<K, W>) -> Result<KeptMap<K>, MapError>
+    /// A map of that part of this one, by the keys that the other binds.
+    pub fn part_of<W: Eq + Drop>(
+        &self,
+        other: &RangeMap<K, W>,
+        part: Part,
+    ) -> Result<KeptMap<K>, MapError>
         requires keys { ClonesAreEqual K.is_clone K.eq }
         ensures { IfOk result
-            (λ new. IsRestricted K.order nat_eq self.now (box_items other.now) new) }
+            (λ new. IsPart part K.order self.now (box_items other.now) new) }
     {
-        Ok(KeptMap {
-            map: self.map.restrict(other)?,
-        })
-    }
-
-    /// A map that binds those keys of this one that the other does not bind, each as this one does.
-    pub fn without<W: Eq + Drop>(&self, other: &RangeMap<K, W>) -> Result<KeptMap<K>, MapError>
-        requires keys { ClonesAreEqual K.is_clone K.eq }
-        ensures { IfOk result
-            (λ new. IsWithout K.order nat_eq self.now (box_items other.now) new) }
-    {
-        Ok(KeptMap {
-            map: self.map.without(other)?,
-        })
+        let map = match part {
+            Part::Shared => self.map.restrict(other)?,
+            Part::Rest => self.map.without(other)?,
+        };
+        Ok(KeptMap { map })
     }
 
     /// Binds each key of the range to the value.

@@ -10,15 +10,15 @@ ghost use Rattle.btree_range_map.specs.Lookups.{MeetsSome};
 ghost use Rattle.btree_range_map.specs.Range.{IsEmptyRange, ClonesAreEqual};
 ghost use Rattle.btree_range_map.specs.Shapes.{set_shape};
 ghost use Rattle.btree_range_map.specs.Together.{BindKeysOf, ShareNoKey};
-ghost use Rattle.btree_range_map.specs.TwoSets.{HoldsEither, HoldsBoth, HoldsFirstAlone, HoldsJustOne};
 ghost use Rattle.serde_json.specs.View.{view};
 ghost use Rattle.serde_json.specs.Written.{compact_text, has_float};
 ghost use Rattle.range_ffi.specs.Flags.{said_range};
+ghost use Rattle.range_handles.specs.SetKinds.{IsJoin};
 
 pub mod algebra;
 
 use crate::key::Key;
-use crate::reads;
+use algebra::Join;
 use btree_range_map::json::{Json, JsonError, set_from_json, set_to_json};
 use btree_range_map::range::traits::PartialEnum;
 use btree_range_map::storage::Item;
@@ -71,7 +71,7 @@ impl<K: Key> KeptSet<K> {
         ensures value { result ≡ length self.now }
         ensures least { IsLeastCount K.order self.now result }
     {
-        reads::range_count(self.as_map())
+        self.set.range_count()
     }
 
     pub fn clear(&mut self)
@@ -92,49 +92,28 @@ impl<K: Key> KeptSet<K> {
     pub fn equals(&self, other: &KeptSet<K>) -> bool
         ensures { IsTrue result ↔ HoldAlike K.order self.now other.now }
     {
-        let first = self.as_map();
-        let second = other.as_map();
-        reads::equal(first, second)
+        self.set.eq(&other.set)
     }
 
-    /// A set of the keys that are in this set or in the other.
-    pub fn union(&self, other: &KeptSet<K>) -> Result<KeptSet<K>, MapError>
+    /// A set of those keys of the two that the join says.
+    pub fn joined(&self, other: &KeptSet<K>, join: Join) -> Result<KeptSet<K>, MapError>
         requires keys { ClonesAreEqual K.is_clone K.eq }
-        ensures { IfOk result (λ new. HoldsEither K.order self.now other.now new) }
+        ensures { IfOk result (λ new. IsJoin join K.order self.now other.now new) }
     {
-        Ok(KeptSet {
-            set: self.set.union(&other.set)?,
-        })
-    }
-
-    /// A set of the keys that are in this set and in the other.
-    pub fn intersection(&self, other: &KeptSet<K>) -> Result<KeptSet<K>, MapError>
-        requires keys { ClonesAreEqual K.is_clone K.eq }
-        ensures { IfOk result (λ new. HoldsBoth K.order self.now other.now new) }
-    {
-        Ok(KeptSet {
-            set: self.set.intersection(&other.set)?,
-        })
-    }
-
-    /// A set of the keys of this set that are not in the other.
-    pub fn difference(&self, other: &KeptSet<K>) -> Result<KeptSet<K>, MapError>
-        requires keys { ClonesAreEqual K.is_clone K.eq }
-        ensures { IfOk result (λ new. HoldsFirstAlone K.order self.now other.now new) }
-    {
-        Ok(KeptSet {
-            set: self.set.difference(&other.set)?,
-        })
-    }
-
-    /// A set of the keys that are in just one of the two sets.
-    pub fn symmetric_difference(&self, other: &KeptSet<K>) -> Result<KeptSet<K>, MapError>
-        requires keys { ClonesAreEqual K.is_clone K.eq }
-        ensures { IfOk result (λ new. HoldsJustOne K.order self.now other.now new) }
-    {
-        Ok(KeptSet {
-            set: self.set.symmetric_difference(&other.set)?,
-        })
+        match join {
+            Join::Union => Ok(KeptSet {
+                set: self.set.union(&other.set)?,
+            }),
+            Join::Intersection => Ok(KeptSet {
+                set: self.set.intersection(&other.set)?,
+            }),
+            Join::Difference => Ok(KeptSet {
+                set: self.set.difference(&other.set)?,
+            }),
+            Join::SymmetricDifference => Ok(KeptSet {
+                set: self.set.symmetric_difference(&other.set)?,
+            }),
+        }
     }
 
     /// A set of just the keys that are not in this set.

@@ -1,8 +1,8 @@
 //! What is asked of a map of ranges, and of a set as the map of its keys to nothing.
-ghost use Rattle.std.specs.Prelude.{◌<◌, ◌≤◌, ◌≡◌, ◌⊎◌, ◌↔◌, IsTrue, List, [], ◌∷◌, ◌++◌, Option, Some, length, map, nat_eq, take, drop, reverse};
+ghost use Rattle.std.specs.Prelude.{◌<◌, ◌≤◌, ◌≡◌, ◌⊎◌, List, [], ◌∷◌, ◌++◌, Option, Some, length, map, nat_eq, take, drop, reverse};
 ghost use Rattle.std.specs.List.{AllZip};
 ghost use Rattle.btree_range_map.specs.AnyRange.{AnyRange};
-ghost use Rattle.btree_range_map.specs.Bindings.{BindAlike, Binds, IsBound, IsItemFor, IsLeastCount};
+ghost use Rattle.btree_range_map.specs.Bindings.{Binds, IsBound, IsItemFor};
 ghost use Rattle.btree_range_map.specs.Holding.{box_items};
 ghost use Rattle.btree_range_map.specs.Item.{Item};
 ghost use Rattle.btree_range_map.specs.Lookups.{BindsKeyOf};
@@ -21,22 +21,6 @@ use btree_range_map::{AnyRange, RangeMap};
 use range_ffi::bounds::{Binding, Length};
 use range_ffi::items::Shown;
 use range_ffi::status::{DONE, NO_ROOM, NONE, answer};
-
-/// How many ranges are stored.
-pub fn range_count<K: Key, V: Eq + Drop>(stored: &RangeMap<K, V>) -> usize
-    ensures value { result ≡ length (box_items stored.now) }
-    ensures least { IsLeastCount K.order V.eq (box_items stored.now) result }
-{
-    stored.range_count()
-}
-
-/// Whether both bind each key alike.
-pub fn equal<K: Key, V: Eq + Drop>(stored: &RangeMap<K, V>, other: &RangeMap<K, V>) -> bool
-    ensures { IsTrue result
-        ↔ BindAlike K.order V.eq (box_items stored.now) (box_items other.now) }
-{
-    stored.eq(other)
-}
 
 /// Writes the stored range that holds the key, with its value.
 pub fn get<K: Key, V: Eq + Drop, E: Shown<K, V>>(

@@ -1,10 +1,11 @@
 //! The calls that make a map of two, or of a map and a set.
 ghost use Rattle.std.specs.Prelude.{◌≡◌, ◌≢◌, ◌⊎◌, true, false};
-ghost use Rattle.range_handles.specs.MapKinds.{AreMapAndKeys, AreMapsOfOneKind, IsOverlayOf, IsRemainderOf, IsRestrictionOf};
+ghost use Rattle.range_handles.specs.MapKinds.{AreMapAndKeys, AreMapsOfOneKind, IsOverlayOf, IsPartOf};
+ghost use Rattle.range_handles.specs.declared.kept_map.together.Part.TheVariants.{Shared, Rest};
 
 use range_ffi::status::{CLOSED, DONE, NO_MEMORY, OPEN, OTHER_KIND};
 use range_handles::handle::Handle;
-use range_handles::kept_map::together;
+use range_handles::kept_map::together::{self, Part};
 use std::alloc::Global;
 
 /// Opens a closed handle on a map that binds each key as the other map does, or else as the first
@@ -56,7 +57,7 @@ pub extern "C" fn brm_raw_restrict(
     ensures unchanged { (handle.new.seal.held ≡ handle.old.seal.held)
         × (other.new.seal.held ≡ other.old.seal.held) }
     ensures made { result ≡ DONE
-        → IsRestrictionOf handle.old.seal.held other.old.seal.held made.new.seal.held }
+        → IsPartOf Shared handle.old.seal.held other.old.seal.held made.new.seal.held }
     ensures refused { result ≢ DONE → made.new.seal.held ≡ made.old.seal.held }
     ensures open { made.old.is_open ≡ true → result ≡ OPEN }
     ensures closed { made.old.is_open ≡ false
@@ -74,7 +75,8 @@ pub extern "C" fn brm_raw_restrict(
     if !handle.is_open || !other.is_open {
         return CLOSED;
     }
-    together::restrict(alloc, handle.seal.as_mut(), other.seal.as_mut(), made)
+    let (first, second) = (handle.seal.as_mut(), other.seal.as_mut());
+    together::part_of(alloc, first, second, Part::Shared, made)
 }
 
 /// Opens a closed handle on a map of those bindings of the first map whose keys the other has not,
@@ -91,7 +93,7 @@ pub extern "C" fn brm_raw_without(
     ensures unchanged { (handle.new.seal.held ≡ handle.old.seal.held)
         × (other.new.seal.held ≡ other.old.seal.held) }
     ensures made { result ≡ DONE
-        → IsRemainderOf handle.old.seal.held other.old.seal.held made.new.seal.held }
+        → IsPartOf Rest handle.old.seal.held other.old.seal.held made.new.seal.held }
     ensures refused { result ≢ DONE → made.new.seal.held ≡ made.old.seal.held }
     ensures open { made.old.is_open ≡ true → result ≡ OPEN }
     ensures closed { made.old.is_open ≡ false
@@ -109,5 +111,6 @@ pub extern "C" fn brm_raw_without(
     if !handle.is_open || !other.is_open {
         return CLOSED;
     }
-    together::without(alloc, handle.seal.as_mut(), other.seal.as_mut(), made)
+    let (first, second) = (handle.seal.as_mut(), other.seal.as_mut());
+    together::part_of(alloc, first, second, Part::Rest, made)
 }

@@ -1,26 +1,25 @@
 //! The calls on two sets of one kind of keys, and the complement of one.
 ghost use Rattle.std.specs.Prelude.{◌≡◌, ◌≢◌, ◌⊎◌, true, false};
-ghost use Rattle.range_handles.specs.SetKinds.{AreDisjoint, AreSetsOfOneKind, HoldsAnySet, IsComplementOf, IsDifferenceOf, IsIntersectionOf, IsSubsetOf, IsSymmetricDifferenceOf, IsUnionOf};
+ghost use Rattle.range_handles.specs.SetKinds.{AreDisjoint, AreSetsOfOneKind, HoldsAnySet, IsComplementOf, IsJoinOf, IsSubsetOf};
+ghost use Rattle.range_handles.specs.declared.kept_set.algebra.Join.TheVariants.{Union, Intersection, Difference, SymmetricDifference};
 
 use range_ffi::status::{CLOSED, DONE, NO_MEMORY, NONE, OPEN, OTHER_KIND};
 use range_handles::handle::Handle;
-use range_handles::kept_set::algebra;
+use range_handles::kept_set::algebra::{self, Join};
 use std::alloc::Global;
 
-/// Opens a closed handle on a set of the keys that are in either set, which stay as they are.
-///
-/// Allocates its ranges, a list of them before, and one block more. Goes once over both sets.
-#[unsafe(no_mangle)]
-pub extern "C" fn brm_raw_set_union(
+/// Opens a closed handle on a set that is made of two.
+fn joined(
     alloc: Global,
     handle: &mut Handle,
     other: &mut Handle,
+    join: Join,
     made: &mut Handle,
 ) -> u32
     ensures unchanged { (handle.new.seal.held ≡ handle.old.seal.held)
         × (other.new.seal.held ≡ other.old.seal.held) }
     ensures made { result ≡ DONE
-        → IsUnionOf handle.old.seal.held other.old.seal.held made.new.seal.held }
+        → IsJoinOf join handle.old.seal.held other.old.seal.held made.new.seal.held }
     ensures refused { result ≢ DONE → made.new.seal.held ≡ made.old.seal.held }
     ensures open { made.old.is_open ≡ true → result ≡ OPEN }
     ensures closed { made.old.is_open ≡ false
@@ -38,7 +37,36 @@ pub extern "C" fn brm_raw_set_union(
     if !handle.is_open || !other.is_open {
         return CLOSED;
     }
-    algebra::union(alloc, handle.seal.as_mut(), other.seal.as_mut(), made)
+    let (first, second) = (handle.seal.as_mut(), other.seal.as_mut());
+    algebra::joined(alloc, first, second, join, made)
+}
+
+/// Opens a closed handle on a set of the keys that are in either set, which stay as they are.
+///
+/// Allocates its ranges, a list of them before, and one block more. Goes once over both sets.
+#[unsafe(no_mangle)]
+pub extern "C" fn brm_raw_set_union(
+    alloc: Global,
+    handle: &mut Handle,
+    other: &mut Handle,
+    made: &mut Handle,
+) -> u32
+    ensures unchanged { (handle.new.seal.held ≡ handle.old.seal.held)
+        × (other.new.seal.held ≡ other.old.seal.held) }
+    ensures made { result ≡ DONE
+        → IsJoinOf Union handle.old.seal.held other.old.seal.held made.new.seal.held }
+    ensures refused { result ≢ DONE → made.new.seal.held ≡ made.old.seal.held }
+    ensures open { made.old.is_open ≡ true → result ≡ OPEN }
+    ensures closed { made.old.is_open ≡ false
+        → (handle.old.is_open ≡ false) ⊎ (other.old.is_open ≡ false) → result ≡ CLOSED }
+    ensures answer { made.old.is_open ≡ false
+        → AreSetsOfOneKind handle.old.seal.held other.old.seal.held
+        → (result ≡ DONE) ⊎ (result ≡ NO_MEMORY) }
+    ensures other { made.old.is_open ≡ false
+        → handle.old.is_open ≡ true → other.old.is_open ≡ true
+        → (¬ AreSetsOfOneKind handle.old.seal.held other.old.seal.held) → result ≡ OTHER_KIND }
+{
+    joined(alloc, handle, other, Join::Union, made)
 }
 
 /// Opens a closed handle on a set of the keys that are in both sets, which stay as they are.
@@ -54,7 +82,7 @@ pub extern "C" fn brm_raw_set_intersection(
     ensures unchanged { (handle.new.seal.held ≡ handle.old.seal.held)
         × (other.new.seal.held ≡ other.old.seal.held) }
     ensures made { result ≡ DONE
-        → IsIntersectionOf handle.old.seal.held other.old.seal.held made.new.seal.held }
+        → IsJoinOf Intersection handle.old.seal.held other.old.seal.held made.new.seal.held }
     ensures refused { result ≢ DONE → made.new.seal.held ≡ made.old.seal.held }
     ensures open { made.old.is_open ≡ true → result ≡ OPEN }
     ensures closed { made.old.is_open ≡ false
@@ -66,13 +94,7 @@ pub extern "C" fn brm_raw_set_intersection(
         → handle.old.is_open ≡ true → other.old.is_open ≡ true
         → (¬ AreSetsOfOneKind handle.old.seal.held other.old.seal.held) → result ≡ OTHER_KIND }
 {
-    if made.is_open {
-        return OPEN;
-    }
-    if !handle.is_open || !other.is_open {
-        return CLOSED;
-    }
-    algebra::intersection(alloc, handle.seal.as_mut(), other.seal.as_mut(), made)
+    joined(alloc, handle, other, Join::Intersection, made)
 }
 
 /// Opens a closed handle on a set of the keys of the first set that are not in the other.
@@ -89,7 +111,7 @@ pub extern "C" fn brm_raw_set_difference(
     ensures unchanged { (handle.new.seal.held ≡ handle.old.seal.held)
         × (other.new.seal.held ≡ other.old.seal.held) }
     ensures made { result ≡ DONE
-        → IsDifferenceOf handle.old.seal.held other.old.seal.held made.new.seal.held }
+        → IsJoinOf Difference handle.old.seal.held other.old.seal.held made.new.seal.held }
     ensures refused { result ≢ DONE → made.new.seal.held ≡ made.old.seal.held }
     ensures open { made.old.is_open ≡ true → result ≡ OPEN }
     ensures closed { made.old.is_open ≡ false
@@ -101,13 +123,7 @@ pub extern "C" fn brm_raw_set_difference(
         → handle.old.is_open ≡ true → other.old.is_open ≡ true
         → (¬ AreSetsOfOneKind handle.old.seal.held other.old.seal.held) → result ≡ OTHER_KIND }
 {
-    if made.is_open {
-        return OPEN;
-    }
-    if !handle.is_open || !other.is_open {
-        return CLOSED;
-    }
-    algebra::difference(alloc, handle.seal.as_mut(), other.seal.as_mut(), made)
+    joined(alloc, handle, other, Join::Difference, made)
 }
 
 /// Opens a closed handle on a set of the keys that are in just one of the sets, which stay as they
@@ -124,7 +140,8 @@ pub extern "C" fn brm_raw_set_symmetric_difference(
     ensures unchanged { (handle.new.seal.held ≡ handle.old.seal.held)
         × (other.new.seal.held ≡ other.old.seal.held) }
     ensures made { result ≡ DONE
-        → IsSymmetricDifferenceOf handle.old.seal.held other.old.seal.held made.new.seal.held }
+        → IsJoinOf SymmetricDifference handle.old.seal.held other.old.seal.held
+        made.new.seal.held }
     ensures refused { result ≢ DONE → made.new.seal.held ≡ made.old.seal.held }
     ensures open { made.old.is_open ≡ true → result ≡ OPEN }
     ensures closed { made.old.is_open ≡ false
@@ -136,13 +153,7 @@ pub extern "C" fn brm_raw_set_symmetric_difference(
         → handle.old.is_open ≡ true → other.old.is_open ≡ true
         → (¬ AreSetsOfOneKind handle.old.seal.held other.old.seal.held) → result ≡ OTHER_KIND }
 {
-    if made.is_open {
-        return OPEN;
-    }
-    if !handle.is_open || !other.is_open {
-        return CLOSED;
-    }
-    algebra::symmetric_difference(alloc, handle.seal.as_mut(), other.seal.as_mut(), made)
+    joined(alloc, handle, other, Join::SymmetricDifference, made)
 }
 
 /// Opens a closed handle on a set of just the keys that are not in the set, which stays as it is.

@@ -2,12 +2,13 @@
 ghost use Rattle.std.specs.Prelude.{map, length, ◌≡◌, ◌≢◌, ◌⊎◌, ◌↔◌, [], ◌∷◌, ◌++◌, Some, None, true, false, nat_eq};
 ghost use Rattle.btree_range_map.specs.Bindings.{Binds, IsBound, IsItemFor, IsBoundAfter, IsUnboundAfter};
 ghost use Rattle.btree_range_map.specs.Lookups.{BindsKeyOf, IsConnectedToSome, MeetsSome};
+ghost use Rattle.btree_range_map.specs.Names.{i64_order};
 ghost use Rattle.btree_range_map.specs.Numbers.{IsNumberOfKeys};
 ghost use Rattle.btree_range_map.specs.Range.{IsEmptyRange};
 ghost use Rattle.btree_range_map.specs.Overlapping.{AreOverlapping};
 ghost use Rattle.range_ffi.specs.Flags.{signed_range_of, signed_entry_item, number_of, from_key, upto_key};
 ghost use Rattle.range_handles.specs.Held.{HoldsSignedMap, signed_items};
-ghost use Rattle.range_handles.specs.Lists.{signed_keys, SignedRanges};
+ghost use Rattle.range_handles.specs.Lists.{SignedRanges};
 
 mod many;
 mod together;
@@ -39,11 +40,11 @@ pub extern "C" fn brm_map_i64_create(alloc: Global, handle: &mut Handle) -> u32
 #[unsafe(no_mangle)]
 pub extern "C" fn brm_map_i64_insert(handle: &mut Handle, range: &SignedBounds, value: u64) -> u32
     ensures bound { result ≡ DONE
-        → IsBoundAfter signed_keys nat_eq (signed_items handle.old.seal.held)
+        → IsBoundAfter i64_order nat_eq (signed_items handle.old.seal.held)
         (signed_items handle.new.seal.held) (signed_range_of range.now) value }
-    ensures empty { IsEmptyRange signed_keys (signed_range_of range.now)
+    ensures empty { IsEmptyRange i64_order (signed_range_of range.now)
         → HoldsSignedMap handle.old.seal.held → result ≡ DONE }
-    ensures empty_unchanged { IsEmptyRange signed_keys (signed_range_of range.now)
+    ensures empty_unchanged { IsEmptyRange i64_order (signed_range_of range.now)
         → handle.new.seal.held ≡ handle.old.seal.held }
     ensures kind { HoldsSignedMap handle.old.seal.held → HoldsSignedMap handle.new.seal.held }
     ensures refused { result ≢ DONE → handle.new.seal.held ≡ handle.old.seal.held }
@@ -69,15 +70,15 @@ pub extern "C" fn brm_map_i64_insert_disconnected(
     value: u64,
 ) -> u32
     ensures bound { result ≡ DONE
-        → IsBoundAfter signed_keys nat_eq (signed_items handle.old.seal.held)
+        → IsBoundAfter i64_order nat_eq (signed_items handle.old.seal.held)
         (signed_items handle.new.seal.held) (signed_range_of range.now) value }
     ensures connected { HoldsSignedMap handle.old.seal.held → (result ≡ CONNECTED
-        ↔ (¬ IsEmptyRange signed_keys (signed_range_of range.now))
-        × IsConnectedToSome signed_keys (signed_items handle.old.seal.held)
+        ↔ (¬ IsEmptyRange i64_order (signed_range_of range.now))
+        × IsConnectedToSome i64_order (signed_items handle.old.seal.held)
         (signed_range_of range.now)) }
-    ensures empty { IsEmptyRange signed_keys (signed_range_of range.now)
+    ensures empty { IsEmptyRange i64_order (signed_range_of range.now)
         → HoldsSignedMap handle.old.seal.held → result ≡ DONE }
-    ensures empty_unchanged { IsEmptyRange signed_keys (signed_range_of range.now)
+    ensures empty_unchanged { IsEmptyRange i64_order (signed_range_of range.now)
         → handle.new.seal.held ≡ handle.old.seal.held }
     ensures kind { HoldsSignedMap handle.old.seal.held → HoldsSignedMap handle.new.seal.held }
     ensures refused { result ≢ DONE → handle.new.seal.held ≡ handle.old.seal.held }
@@ -104,14 +105,14 @@ pub extern "C" fn brm_map_i64_try_insert(
     value: u64,
 ) -> u32
     ensures bound { result ≡ DONE
-        → IsBoundAfter signed_keys nat_eq (signed_items handle.old.seal.held)
+        → IsBoundAfter i64_order nat_eq (signed_items handle.old.seal.held)
         (signed_items handle.new.seal.held) (signed_range_of range.now) value }
     ensures occupied { HoldsSignedMap handle.old.seal.held → (result ≡ OCCUPIED
-        ↔ (¬ IsEmptyRange signed_keys (signed_range_of range.now))
-        × MeetsSome signed_keys (signed_items handle.old.seal.held) (signed_range_of range.now)) }
-    ensures empty { IsEmptyRange signed_keys (signed_range_of range.now)
+        ↔ (¬ IsEmptyRange i64_order (signed_range_of range.now))
+        × MeetsSome i64_order (signed_items handle.old.seal.held) (signed_range_of range.now)) }
+    ensures empty { IsEmptyRange i64_order (signed_range_of range.now)
         → HoldsSignedMap handle.old.seal.held → result ≡ DONE }
-    ensures empty_unchanged { IsEmptyRange signed_keys (signed_range_of range.now)
+    ensures empty_unchanged { IsEmptyRange i64_order (signed_range_of range.now)
         → handle.new.seal.held ≡ handle.old.seal.held }
     ensures kind { HoldsSignedMap handle.old.seal.held → HoldsSignedMap handle.new.seal.held }
     ensures refused { result ≢ DONE → handle.new.seal.held ≡ handle.old.seal.held }
@@ -134,11 +135,11 @@ pub extern "C" fn brm_map_i64_try_insert(
 #[unsafe(no_mangle)]
 pub extern "C" fn brm_map_i64_remove(handle: &mut Handle, range: &SignedBounds) -> u32
     ensures unbound { result ≡ DONE
-        → IsUnboundAfter signed_keys nat_eq (signed_items handle.old.seal.held)
+        → IsUnboundAfter i64_order nat_eq (signed_items handle.old.seal.held)
         (signed_items handle.new.seal.held) (signed_range_of range.now) }
-    ensures empty { IsEmptyRange signed_keys (signed_range_of range.now)
+    ensures empty { IsEmptyRange i64_order (signed_range_of range.now)
         → HoldsSignedMap handle.old.seal.held → result ≡ DONE }
-    ensures empty_unchanged { IsEmptyRange signed_keys (signed_range_of range.now)
+    ensures empty_unchanged { IsEmptyRange i64_order (signed_range_of range.now)
         → handle.new.seal.held ≡ handle.old.seal.held }
     ensures kind { HoldsSignedMap handle.old.seal.held → HoldsSignedMap handle.new.seal.held }
     ensures refused { result ≢ DONE → handle.new.seal.held ≡ handle.old.seal.held }
@@ -161,12 +162,12 @@ pub extern "C" fn brm_map_i64_remove(handle: &mut Handle, range: &SignedBounds) 
 pub extern "C" fn brm_map_i64_get(handle: &mut Handle, key: i64, entry: &mut SignedEntry) -> u32
     ensures unchanged { handle.new.seal.held ≡ handle.old.seal.held }
     ensures found { result ≡ DONE
-        → IsItemFor signed_keys (signed_items handle.old.seal.held) key
+        → IsItemFor i64_order (signed_items handle.old.seal.held) key
         (signed_entry_item entry.new) }
     ensures bound { result ≡ DONE
-        → Binds signed_keys nat_eq (signed_items handle.old.seal.held) key (Some entry.new.value) }
+        → Binds i64_order nat_eq (signed_items handle.old.seal.held) key (Some entry.new.value) }
     ensures free { result ≢ DONE
-        → Binds signed_keys nat_eq (signed_items handle.old.seal.held) key None }
+        → Binds i64_order nat_eq (signed_items handle.old.seal.held) key None }
     ensures unwritten { result ≢ DONE → entry.new ≡ entry.old }
     ensures answer { HoldsSignedMap handle.old.seal.held → (result ≡ DONE) ⊎ (result ≡ NONE) }
     ensures closed { handle.old.is_open ≡ false → result ≡ CLOSED }
@@ -186,8 +187,8 @@ pub extern "C" fn brm_map_i64_get(handle: &mut Handle, key: i64, entry: &mut Sig
 #[unsafe(no_mangle)]
 pub extern "C" fn brm_map_i64_contains(handle: &mut Handle, key: i64) -> u32
     ensures unchanged { handle.new.seal.held ≡ handle.old.seal.held }
-    ensures yes { result ≡ DONE → IsBound signed_keys (signed_items handle.old.seal.held) key }
-    ensures no { result ≡ NONE → ¬ IsBound signed_keys (signed_items handle.old.seal.held) key }
+    ensures yes { result ≡ DONE → IsBound i64_order (signed_items handle.old.seal.held) key }
+    ensures no { result ≡ NONE → ¬ IsBound i64_order (signed_items handle.old.seal.held) key }
     ensures answer { HoldsSignedMap handle.old.seal.held → (result ≡ DONE) ⊎ (result ≡ NONE) }
     ensures closed { handle.old.is_open ≡ false → result ≡ CLOSED }
     ensures other { handle.old.is_open ≡ true → (¬ HoldsSignedMap handle.old.seal.held)
@@ -207,9 +208,9 @@ pub extern "C" fn brm_map_i64_contains(handle: &mut Handle, key: i64) -> u32
 pub extern "C" fn brm_map_i64_intersects(handle: &mut Handle, range: &SignedBounds) -> u32
     ensures unchanged { handle.new.seal.held ≡ handle.old.seal.held }
     ensures yes { result ≡ DONE
-        → BindsKeyOf signed_keys (signed_items handle.old.seal.held) (signed_range_of range.now) }
+        → BindsKeyOf i64_order (signed_items handle.old.seal.held) (signed_range_of range.now) }
     ensures no { result ≡ NONE
-        → ¬ BindsKeyOf signed_keys (signed_items handle.old.seal.held) (signed_range_of range.now) }
+        → ¬ BindsKeyOf i64_order (signed_items handle.old.seal.held) (signed_range_of range.now) }
     ensures answer { HoldsSignedMap handle.old.seal.held → (result ≡ DONE) ⊎ (result ≡ NONE) }
     ensures closed { handle.old.is_open ≡ false → result ≡ CLOSED }
     ensures other { handle.old.is_open ≡ true → (¬ HoldsSignedMap handle.old.seal.held)
@@ -228,8 +229,8 @@ pub extern "C" fn brm_map_i64_intersects(handle: &mut Handle, range: &SignedBoun
 #[unsafe(no_mangle)]
 pub extern "C" fn brm_map_i64_len(handle: &mut Handle, length: &mut Length) -> u32
     ensures unchanged { handle.new.seal.held ≡ handle.old.seal.held }
-    ensures counted { result ≡ DONE → IsNumberOfKeys signed_keys
-        (IsBound signed_keys (signed_items handle.old.seal.held)) (number_of length.new) }
+    ensures counted { result ≡ DONE → IsNumberOfKeys i64_order
+        (IsBound i64_order (signed_items handle.old.seal.held)) (number_of length.new) }
     ensures unwritten { result ≢ DONE → length.new ≡ length.old }
     ensures answer { HoldsSignedMap handle.old.seal.held → result ≡ DONE }
     ensures closed { handle.old.is_open ≡ false → result ≡ CLOSED }
@@ -297,10 +298,10 @@ pub extern "C" fn brm_map_i64_last(handle: &mut Handle, entry: &mut SignedEntry)
 pub extern "C" fn brm_map_i64_next(handle: &mut Handle, key: i64, entry: &mut SignedEntry) -> u32
     ensures unchanged { handle.new.seal.held ≡ handle.old.seal.held }
     ensures next { result ≡ DONE → (rest : SignedRanges)
-        × AreOverlapping signed_keys (signed_items handle.old.seal.held) (from_key key)
+        × AreOverlapping i64_order (signed_items handle.old.seal.held) (from_key key)
         (signed_entry_item entry.new ∷ rest) }
     ensures none { result ≡ NONE
-        → AreOverlapping signed_keys (signed_items handle.old.seal.held) (from_key key) [] }
+        → AreOverlapping i64_order (signed_items handle.old.seal.held) (from_key key) [] }
     ensures unwritten { result ≢ DONE → entry.new ≡ entry.old }
     ensures answer { HoldsSignedMap handle.old.seal.held → (result ≡ DONE) ⊎ (result ≡ NONE) }
     ensures closed { handle.old.is_open ≡ false → result ≡ CLOSED }
@@ -328,10 +329,10 @@ pub extern "C" fn brm_map_i64_previous(
 ) -> u32
     ensures unchanged { handle.new.seal.held ≡ handle.old.seal.held }
     ensures previous { result ≡ DONE → (front : SignedRanges)
-        × AreOverlapping signed_keys (signed_items handle.old.seal.held) (upto_key key)
+        × AreOverlapping i64_order (signed_items handle.old.seal.held) (upto_key key)
         (front ++ signed_entry_item entry.new ∷ []) }
     ensures none { result ≡ NONE
-        → AreOverlapping signed_keys (signed_items handle.old.seal.held) (upto_key key) [] }
+        → AreOverlapping i64_order (signed_items handle.old.seal.held) (upto_key key) [] }
     ensures unwritten { result ≢ DONE → entry.new ≡ entry.old }
     ensures answer { HoldsSignedMap handle.old.seal.held → (result ≡ DONE) ⊎ (result ≡ NONE) }
     ensures closed { handle.old.is_open ≡ false → result ≡ CLOSED }

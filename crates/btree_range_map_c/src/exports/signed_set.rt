@@ -4,12 +4,13 @@ ghost use Rattle.btree_range_map.specs.Bindings.{IsItemFor};
 ghost use Rattle.btree_range_map.specs.FreeRanges.{item_ranges};
 ghost use Rattle.btree_range_map.specs.KeySets.{HoldsKey, HoldsAlso, HoldsWithout};
 ghost use Rattle.btree_range_map.specs.Lookups.{BindsKeyOf, MeetsSome};
+ghost use Rattle.btree_range_map.specs.Names.{i64_order};
 ghost use Rattle.btree_range_map.specs.Numbers.{IsNumberOfKeys};
 ghost use Rattle.btree_range_map.specs.Overlapping.{AreOverlapping};
 ghost use Rattle.btree_range_map.specs.Range.{IsEmptyRange};
 ghost use Rattle.range_ffi.specs.Flags.{signed_range_of, signed_bounds_item, number_of, from_key, upto_key};
 ghost use Rattle.range_handles.specs.Held.{HoldsSignedSet, signed_set_items};
-ghost use Rattle.range_handles.specs.Lists.{signed_keys, SignedKeyRanges};
+ghost use Rattle.range_handles.specs.Lists.{SignedKeyRanges};
 
 mod many;
 
@@ -40,11 +41,11 @@ pub extern "C" fn brm_set_i64_create(alloc: Global, handle: &mut Handle) -> u32
 #[unsafe(no_mangle)]
 pub extern "C" fn brm_set_i64_insert(handle: &mut Handle, range: &SignedBounds) -> u32
     ensures added { result ≡ DONE
-        → HoldsAlso signed_keys (signed_set_items handle.old.seal.held)
+        → HoldsAlso i64_order (signed_set_items handle.old.seal.held)
         (signed_set_items handle.new.seal.held) (signed_range_of range.now) }
-    ensures empty { IsEmptyRange signed_keys (signed_range_of range.now)
+    ensures empty { IsEmptyRange i64_order (signed_range_of range.now)
         → HoldsSignedSet handle.old.seal.held → result ≡ DONE }
-    ensures empty_unchanged { IsEmptyRange signed_keys (signed_range_of range.now)
+    ensures empty_unchanged { IsEmptyRange i64_order (signed_range_of range.now)
         → handle.new.seal.held ≡ handle.old.seal.held }
     ensures kind { HoldsSignedSet handle.old.seal.held → HoldsSignedSet handle.new.seal.held }
     ensures refused { result ≢ DONE → handle.new.seal.held ≡ handle.old.seal.held }
@@ -66,14 +67,14 @@ pub extern "C" fn brm_set_i64_insert(handle: &mut Handle, range: &SignedBounds) 
 #[unsafe(no_mangle)]
 pub extern "C" fn brm_set_i64_try_insert(handle: &mut Handle, range: &SignedBounds) -> u32
     ensures added { result ≡ DONE
-        → HoldsAlso signed_keys (signed_set_items handle.old.seal.held)
+        → HoldsAlso i64_order (signed_set_items handle.old.seal.held)
         (signed_set_items handle.new.seal.held) (signed_range_of range.now) }
     ensures occupied { HoldsSignedSet handle.old.seal.held → (result ≡ OCCUPIED
-        ↔ (¬ IsEmptyRange signed_keys (signed_range_of range.now))
-        × MeetsSome signed_keys (signed_set_items handle.old.seal.held) (signed_range_of range.now)) }
-    ensures empty { IsEmptyRange signed_keys (signed_range_of range.now)
+        ↔ (¬ IsEmptyRange i64_order (signed_range_of range.now))
+        × MeetsSome i64_order (signed_set_items handle.old.seal.held) (signed_range_of range.now)) }
+    ensures empty { IsEmptyRange i64_order (signed_range_of range.now)
         → HoldsSignedSet handle.old.seal.held → result ≡ DONE }
-    ensures empty_unchanged { IsEmptyRange signed_keys (signed_range_of range.now)
+    ensures empty_unchanged { IsEmptyRange i64_order (signed_range_of range.now)
         → handle.new.seal.held ≡ handle.old.seal.held }
     ensures kind { HoldsSignedSet handle.old.seal.held → HoldsSignedSet handle.new.seal.held }
     ensures refused { result ≢ DONE → handle.new.seal.held ≡ handle.old.seal.held }
@@ -96,11 +97,11 @@ pub extern "C" fn brm_set_i64_try_insert(handle: &mut Handle, range: &SignedBoun
 #[unsafe(no_mangle)]
 pub extern "C" fn brm_set_i64_remove(handle: &mut Handle, range: &SignedBounds) -> u32
     ensures removed { result ≡ DONE
-        → HoldsWithout signed_keys (signed_set_items handle.old.seal.held)
+        → HoldsWithout i64_order (signed_set_items handle.old.seal.held)
         (signed_set_items handle.new.seal.held) (signed_range_of range.now) }
-    ensures empty { IsEmptyRange signed_keys (signed_range_of range.now)
+    ensures empty { IsEmptyRange i64_order (signed_range_of range.now)
         → HoldsSignedSet handle.old.seal.held → result ≡ DONE }
-    ensures empty_unchanged { IsEmptyRange signed_keys (signed_range_of range.now)
+    ensures empty_unchanged { IsEmptyRange i64_order (signed_range_of range.now)
         → handle.new.seal.held ≡ handle.old.seal.held }
     ensures kind { HoldsSignedSet handle.old.seal.held → HoldsSignedSet handle.new.seal.held }
     ensures refused { result ≢ DONE → handle.new.seal.held ≡ handle.old.seal.held }
@@ -123,10 +124,10 @@ pub extern "C" fn brm_set_i64_remove(handle: &mut Handle, range: &SignedBounds) 
 pub extern "C" fn brm_set_i64_get(handle: &mut Handle, key: i64, entry: &mut SignedBounds) -> u32
     ensures unchanged { handle.new.seal.held ≡ handle.old.seal.held }
     ensures found { result ≡ DONE
-        → IsItemFor signed_keys (signed_set_items handle.old.seal.held) key
+        → IsItemFor i64_order (signed_set_items handle.old.seal.held) key
         (signed_bounds_item entry.new) }
     ensures free { result ≢ DONE
-        → ¬ HoldsKey signed_keys (signed_set_items handle.old.seal.held) key }
+        → ¬ HoldsKey i64_order (signed_set_items handle.old.seal.held) key }
     ensures unwritten { result ≢ DONE → entry.new ≡ entry.old }
     ensures answer { HoldsSignedSet handle.old.seal.held → (result ≡ DONE) ⊎ (result ≡ NONE) }
     ensures closed { handle.old.is_open ≡ false → result ≡ CLOSED }
@@ -146,9 +147,9 @@ pub extern "C" fn brm_set_i64_get(handle: &mut Handle, key: i64, entry: &mut Sig
 #[unsafe(no_mangle)]
 pub extern "C" fn brm_set_i64_contains(handle: &mut Handle, key: i64) -> u32
     ensures unchanged { handle.new.seal.held ≡ handle.old.seal.held }
-    ensures yes { result ≡ DONE → HoldsKey signed_keys (signed_set_items handle.old.seal.held) key }
+    ensures yes { result ≡ DONE → HoldsKey i64_order (signed_set_items handle.old.seal.held) key }
     ensures no { result ≡ NONE
-        → ¬ HoldsKey signed_keys (signed_set_items handle.old.seal.held) key }
+        → ¬ HoldsKey i64_order (signed_set_items handle.old.seal.held) key }
     ensures answer { HoldsSignedSet handle.old.seal.held → (result ≡ DONE) ⊎ (result ≡ NONE) }
     ensures closed { handle.old.is_open ≡ false → result ≡ CLOSED }
     ensures other { handle.old.is_open ≡ true → (¬ HoldsSignedSet handle.old.seal.held)
@@ -168,10 +169,10 @@ pub extern "C" fn brm_set_i64_contains(handle: &mut Handle, key: i64) -> u32
 pub extern "C" fn brm_set_i64_intersects(handle: &mut Handle, range: &SignedBounds) -> u32
     ensures unchanged { handle.new.seal.held ≡ handle.old.seal.held }
     ensures yes { result ≡ DONE
-        → BindsKeyOf signed_keys (signed_set_items handle.old.seal.held)
+        → BindsKeyOf i64_order (signed_set_items handle.old.seal.held)
         (signed_range_of range.now) }
     ensures no { result ≡ NONE
-        → ¬ BindsKeyOf signed_keys (signed_set_items handle.old.seal.held)
+        → ¬ BindsKeyOf i64_order (signed_set_items handle.old.seal.held)
         (signed_range_of range.now) }
     ensures answer { HoldsSignedSet handle.old.seal.held → (result ≡ DONE) ⊎ (result ≡ NONE) }
     ensures closed { handle.old.is_open ≡ false → result ≡ CLOSED }
@@ -191,8 +192,8 @@ pub extern "C" fn brm_set_i64_intersects(handle: &mut Handle, range: &SignedBoun
 #[unsafe(no_mangle)]
 pub extern "C" fn brm_set_i64_len(handle: &mut Handle, length: &mut Length) -> u32
     ensures unchanged { handle.new.seal.held ≡ handle.old.seal.held }
-    ensures counted { result ≡ DONE → IsNumberOfKeys signed_keys
-        (HoldsKey signed_keys (signed_set_items handle.old.seal.held)) (number_of length.new) }
+    ensures counted { result ≡ DONE → IsNumberOfKeys i64_order
+        (HoldsKey i64_order (signed_set_items handle.old.seal.held)) (number_of length.new) }
     ensures unwritten { result ≢ DONE → length.new ≡ length.old }
     ensures answer { HoldsSignedSet handle.old.seal.held → result ≡ DONE }
     ensures closed { handle.old.is_open ≡ false → result ≡ CLOSED }
@@ -260,10 +261,10 @@ pub extern "C" fn brm_set_i64_last(handle: &mut Handle, entry: &mut SignedBounds
 pub extern "C" fn brm_set_i64_next(handle: &mut Handle, key: i64, entry: &mut SignedBounds) -> u32
     ensures unchanged { handle.new.seal.held ≡ handle.old.seal.held }
     ensures next { result ≡ DONE → (rest : SignedKeyRanges)
-        × AreOverlapping signed_keys (signed_set_items handle.old.seal.held) (from_key key)
+        × AreOverlapping i64_order (signed_set_items handle.old.seal.held) (from_key key)
         (signed_bounds_item entry.new ∷ rest) }
     ensures none { result ≡ NONE
-        → AreOverlapping signed_keys (signed_set_items handle.old.seal.held) (from_key key) [] }
+        → AreOverlapping i64_order (signed_set_items handle.old.seal.held) (from_key key) [] }
     ensures unwritten { result ≢ DONE → entry.new ≡ entry.old }
     ensures answer { HoldsSignedSet handle.old.seal.held → (result ≡ DONE) ⊎ (result ≡ NONE) }
     ensures closed { handle.old.is_open ≡ false → result ≡ CLOSED }
@@ -291,10 +292,10 @@ pub extern "C" fn brm_set_i64_previous(
 ) -> u32
     ensures unchanged { handle.new.seal.held ≡ handle.old.seal.held }
     ensures previous { result ≡ DONE → (front : SignedKeyRanges)
-        × AreOverlapping signed_keys (signed_set_items handle.old.seal.held) (upto_key key)
+        × AreOverlapping i64_order (signed_set_items handle.old.seal.held) (upto_key key)
         (front ++ signed_bounds_item entry.new ∷ []) }
     ensures none { result ≡ NONE
-        → AreOverlapping signed_keys (signed_set_items handle.old.seal.held) (upto_key key) [] }
+        → AreOverlapping i64_order (signed_set_items handle.old.seal.held) (upto_key key) [] }
     ensures unwritten { result ≢ DONE → entry.new ≡ entry.old }
     ensures answer { HoldsSignedSet handle.old.seal.held → (result ≡ DONE) ⊎ (result ≡ NONE) }
     ensures closed { handle.old.is_open ≡ false → result ≡ CLOSED }

@@ -2,12 +2,13 @@
 ghost use Rattle.std.specs.Prelude.{map, length, ◌≡◌, ◌≢◌, ◌⊎◌, ◌↔◌, [], ◌∷◌, ◌++◌, Some, None, true, false, nat_eq};
 ghost use Rattle.btree_range_map.specs.Bindings.{Binds, IsBound, IsItemFor, IsBoundAfter, IsUnboundAfter};
 ghost use Rattle.btree_range_map.specs.Lookups.{BindsKeyOf, IsConnectedToSome, MeetsSome};
+ghost use Rattle.btree_range_map.specs.Names.{u64_order};
 ghost use Rattle.btree_range_map.specs.Numbers.{IsNumberOfKeys};
 ghost use Rattle.btree_range_map.specs.Range.{IsEmptyRange};
 ghost use Rattle.btree_range_map.specs.Overlapping.{AreOverlapping};
 ghost use Rattle.range_ffi.specs.Flags.{range_of, entry_item, number_of, from_key, upto_key};
 ghost use Rattle.range_handles.specs.Held.{HoldsMap, map_items};
-ghost use Rattle.range_handles.specs.Lists.{unsigned_keys, Ranges};
+ghost use Rattle.range_handles.specs.Lists.{Ranges};
 
 mod many;
 mod together;
@@ -39,11 +40,11 @@ pub extern "C" fn brm_map_u64_create(alloc: Global, handle: &mut Handle) -> u32
 #[unsafe(no_mangle)]
 pub extern "C" fn brm_map_u64_insert(handle: &mut Handle, range: &Bounds, value: u64) -> u32
     ensures bound { result ≡ DONE
-        → IsBoundAfter unsigned_keys nat_eq (map_items handle.old.seal.held)
+        → IsBoundAfter u64_order nat_eq (map_items handle.old.seal.held)
         (map_items handle.new.seal.held) (range_of range.now) value }
-    ensures empty { IsEmptyRange unsigned_keys (range_of range.now)
+    ensures empty { IsEmptyRange u64_order (range_of range.now)
         → HoldsMap handle.old.seal.held → result ≡ DONE }
-    ensures empty_unchanged { IsEmptyRange unsigned_keys (range_of range.now)
+    ensures empty_unchanged { IsEmptyRange u64_order (range_of range.now)
         → handle.new.seal.held ≡ handle.old.seal.held }
     ensures kind { HoldsMap handle.old.seal.held → HoldsMap handle.new.seal.held }
     ensures refused { result ≢ DONE → handle.new.seal.held ≡ handle.old.seal.held }
@@ -69,14 +70,14 @@ pub extern "C" fn brm_map_u64_insert_disconnected(
     value: u64,
 ) -> u32
     ensures bound { result ≡ DONE
-        → IsBoundAfter unsigned_keys nat_eq (map_items handle.old.seal.held)
+        → IsBoundAfter u64_order nat_eq (map_items handle.old.seal.held)
         (map_items handle.new.seal.held) (range_of range.now) value }
     ensures connected { HoldsMap handle.old.seal.held → (result ≡ CONNECTED
-        ↔ (¬ IsEmptyRange unsigned_keys (range_of range.now))
-        × IsConnectedToSome unsigned_keys (map_items handle.old.seal.held) (range_of range.now)) }
-    ensures empty { IsEmptyRange unsigned_keys (range_of range.now)
+        ↔ (¬ IsEmptyRange u64_order (range_of range.now))
+        × IsConnectedToSome u64_order (map_items handle.old.seal.held) (range_of range.now)) }
+    ensures empty { IsEmptyRange u64_order (range_of range.now)
         → HoldsMap handle.old.seal.held → result ≡ DONE }
-    ensures empty_unchanged { IsEmptyRange unsigned_keys (range_of range.now)
+    ensures empty_unchanged { IsEmptyRange u64_order (range_of range.now)
         → handle.new.seal.held ≡ handle.old.seal.held }
     ensures kind { HoldsMap handle.old.seal.held → HoldsMap handle.new.seal.held }
     ensures refused { result ≢ DONE → handle.new.seal.held ≡ handle.old.seal.held }
@@ -99,14 +100,14 @@ pub extern "C" fn brm_map_u64_insert_disconnected(
 #[unsafe(no_mangle)]
 pub extern "C" fn brm_map_u64_try_insert(handle: &mut Handle, range: &Bounds, value: u64) -> u32
     ensures bound { result ≡ DONE
-        → IsBoundAfter unsigned_keys nat_eq (map_items handle.old.seal.held)
+        → IsBoundAfter u64_order nat_eq (map_items handle.old.seal.held)
         (map_items handle.new.seal.held) (range_of range.now) value }
     ensures occupied { HoldsMap handle.old.seal.held → (result ≡ OCCUPIED
-        ↔ (¬ IsEmptyRange unsigned_keys (range_of range.now))
-        × MeetsSome unsigned_keys (map_items handle.old.seal.held) (range_of range.now)) }
-    ensures empty { IsEmptyRange unsigned_keys (range_of range.now)
+        ↔ (¬ IsEmptyRange u64_order (range_of range.now))
+        × MeetsSome u64_order (map_items handle.old.seal.held) (range_of range.now)) }
+    ensures empty { IsEmptyRange u64_order (range_of range.now)
         → HoldsMap handle.old.seal.held → result ≡ DONE }
-    ensures empty_unchanged { IsEmptyRange unsigned_keys (range_of range.now)
+    ensures empty_unchanged { IsEmptyRange u64_order (range_of range.now)
         → handle.new.seal.held ≡ handle.old.seal.held }
     ensures kind { HoldsMap handle.old.seal.held → HoldsMap handle.new.seal.held }
     ensures refused { result ≢ DONE → handle.new.seal.held ≡ handle.old.seal.held }
@@ -129,11 +130,11 @@ pub extern "C" fn brm_map_u64_try_insert(handle: &mut Handle, range: &Bounds, va
 #[unsafe(no_mangle)]
 pub extern "C" fn brm_map_u64_remove(handle: &mut Handle, range: &Bounds) -> u32
     ensures unbound { result ≡ DONE
-        → IsUnboundAfter unsigned_keys nat_eq (map_items handle.old.seal.held)
+        → IsUnboundAfter u64_order nat_eq (map_items handle.old.seal.held)
         (map_items handle.new.seal.held) (range_of range.now) }
-    ensures empty { IsEmptyRange unsigned_keys (range_of range.now)
+    ensures empty { IsEmptyRange u64_order (range_of range.now)
         → HoldsMap handle.old.seal.held → result ≡ DONE }
-    ensures empty_unchanged { IsEmptyRange unsigned_keys (range_of range.now)
+    ensures empty_unchanged { IsEmptyRange u64_order (range_of range.now)
         → handle.new.seal.held ≡ handle.old.seal.held }
     ensures kind { HoldsMap handle.old.seal.held → HoldsMap handle.new.seal.held }
     ensures refused { result ≢ DONE → handle.new.seal.held ≡ handle.old.seal.held }
@@ -156,11 +157,11 @@ pub extern "C" fn brm_map_u64_remove(handle: &mut Handle, range: &Bounds) -> u32
 pub extern "C" fn brm_map_u64_get(handle: &mut Handle, key: u64, entry: &mut Entry) -> u32
     ensures unchanged { handle.new.seal.held ≡ handle.old.seal.held }
     ensures found { result ≡ DONE
-        → IsItemFor unsigned_keys (map_items handle.old.seal.held) key (entry_item entry.new) }
+        → IsItemFor u64_order (map_items handle.old.seal.held) key (entry_item entry.new) }
     ensures bound { result ≡ DONE
-        → Binds unsigned_keys nat_eq (map_items handle.old.seal.held) key (Some entry.new.value) }
+        → Binds u64_order nat_eq (map_items handle.old.seal.held) key (Some entry.new.value) }
     ensures free { result ≢ DONE
-        → Binds unsigned_keys nat_eq (map_items handle.old.seal.held) key None }
+        → Binds u64_order nat_eq (map_items handle.old.seal.held) key None }
     ensures unwritten { result ≢ DONE → entry.new ≡ entry.old }
     ensures answer { HoldsMap handle.old.seal.held → (result ≡ DONE) ⊎ (result ≡ NONE) }
     ensures closed { handle.old.is_open ≡ false → result ≡ CLOSED }
@@ -180,8 +181,8 @@ pub extern "C" fn brm_map_u64_get(handle: &mut Handle, key: u64, entry: &mut Ent
 #[unsafe(no_mangle)]
 pub extern "C" fn brm_map_u64_contains(handle: &mut Handle, key: u64) -> u32
     ensures unchanged { handle.new.seal.held ≡ handle.old.seal.held }
-    ensures yes { result ≡ DONE → IsBound unsigned_keys (map_items handle.old.seal.held) key }
-    ensures no { result ≡ NONE → ¬ IsBound unsigned_keys (map_items handle.old.seal.held) key }
+    ensures yes { result ≡ DONE → IsBound u64_order (map_items handle.old.seal.held) key }
+    ensures no { result ≡ NONE → ¬ IsBound u64_order (map_items handle.old.seal.held) key }
     ensures answer { HoldsMap handle.old.seal.held → (result ≡ DONE) ⊎ (result ≡ NONE) }
     ensures closed { handle.old.is_open ≡ false → result ≡ CLOSED }
     ensures other { handle.old.is_open ≡ true → (¬ HoldsMap handle.old.seal.held)
@@ -201,9 +202,9 @@ pub extern "C" fn brm_map_u64_contains(handle: &mut Handle, key: u64) -> u32
 pub extern "C" fn brm_map_u64_intersects(handle: &mut Handle, range: &Bounds) -> u32
     ensures unchanged { handle.new.seal.held ≡ handle.old.seal.held }
     ensures yes { result ≡ DONE
-        → BindsKeyOf unsigned_keys (map_items handle.old.seal.held) (range_of range.now) }
+        → BindsKeyOf u64_order (map_items handle.old.seal.held) (range_of range.now) }
     ensures no { result ≡ NONE
-        → ¬ BindsKeyOf unsigned_keys (map_items handle.old.seal.held) (range_of range.now) }
+        → ¬ BindsKeyOf u64_order (map_items handle.old.seal.held) (range_of range.now) }
     ensures answer { HoldsMap handle.old.seal.held → (result ≡ DONE) ⊎ (result ≡ NONE) }
     ensures closed { handle.old.is_open ≡ false → result ≡ CLOSED }
     ensures other { handle.old.is_open ≡ true → (¬ HoldsMap handle.old.seal.held)
@@ -222,8 +223,8 @@ pub extern "C" fn brm_map_u64_intersects(handle: &mut Handle, range: &Bounds) ->
 #[unsafe(no_mangle)]
 pub extern "C" fn brm_map_u64_len(handle: &mut Handle, length: &mut Length) -> u32
     ensures unchanged { handle.new.seal.held ≡ handle.old.seal.held }
-    ensures counted { result ≡ DONE → IsNumberOfKeys unsigned_keys
-        (IsBound unsigned_keys (map_items handle.old.seal.held)) (number_of length.new) }
+    ensures counted { result ≡ DONE → IsNumberOfKeys u64_order
+        (IsBound u64_order (map_items handle.old.seal.held)) (number_of length.new) }
     ensures unwritten { result ≢ DONE → length.new ≡ length.old }
     ensures answer { HoldsMap handle.old.seal.held → result ≡ DONE }
     ensures closed { handle.old.is_open ≡ false → result ≡ CLOSED }
@@ -291,10 +292,10 @@ pub extern "C" fn brm_map_u64_last(handle: &mut Handle, entry: &mut Entry) -> u3
 pub extern "C" fn brm_map_u64_next(handle: &mut Handle, key: u64, entry: &mut Entry) -> u32
     ensures unchanged { handle.new.seal.held ≡ handle.old.seal.held }
     ensures next { result ≡ DONE → (rest : Ranges)
-        × AreOverlapping unsigned_keys (map_items handle.old.seal.held) (from_key key)
+        × AreOverlapping u64_order (map_items handle.old.seal.held) (from_key key)
         (entry_item entry.new ∷ rest) }
     ensures none { result ≡ NONE
-        → AreOverlapping unsigned_keys (map_items handle.old.seal.held) (from_key key) [] }
+        → AreOverlapping u64_order (map_items handle.old.seal.held) (from_key key) [] }
     ensures unwritten { result ≢ DONE → entry.new ≡ entry.old }
     ensures answer { HoldsMap handle.old.seal.held → (result ≡ DONE) ⊎ (result ≡ NONE) }
     ensures closed { handle.old.is_open ≡ false → result ≡ CLOSED }
@@ -318,10 +319,10 @@ pub extern "C" fn brm_map_u64_next(handle: &mut Handle, key: u64, entry: &mut En
 pub extern "C" fn brm_map_u64_previous(handle: &mut Handle, key: u64, entry: &mut Entry) -> u32
     ensures unchanged { handle.new.seal.held ≡ handle.old.seal.held }
     ensures previous { result ≡ DONE → (front : Ranges)
-        × AreOverlapping unsigned_keys (map_items handle.old.seal.held) (upto_key key)
+        × AreOverlapping u64_order (map_items handle.old.seal.held) (upto_key key)
         (front ++ entry_item entry.new ∷ []) }
     ensures none { result ≡ NONE
-        → AreOverlapping unsigned_keys (map_items handle.old.seal.held) (upto_key key) [] }
+        → AreOverlapping u64_order (map_items handle.old.seal.held) (upto_key key) [] }
     ensures unwritten { result ≢ DONE → entry.new ≡ entry.old }
     ensures answer { HoldsMap handle.old.seal.held → (result ≡ DONE) ⊎ (result ≡ NONE) }
     ensures closed { handle.old.is_open ≡ false → result ≡ CLOSED }

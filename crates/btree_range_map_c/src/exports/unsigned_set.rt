@@ -4,12 +4,13 @@ ghost use Rattle.btree_range_map.specs.Bindings.{IsItemFor};
 ghost use Rattle.btree_range_map.specs.FreeRanges.{item_ranges};
 ghost use Rattle.btree_range_map.specs.KeySets.{HoldsKey, HoldsAlso, HoldsWithout};
 ghost use Rattle.btree_range_map.specs.Lookups.{BindsKeyOf, MeetsSome};
+ghost use Rattle.btree_range_map.specs.Names.{u64_order};
 ghost use Rattle.btree_range_map.specs.Numbers.{IsNumberOfKeys};
 ghost use Rattle.btree_range_map.specs.Overlapping.{AreOverlapping};
 ghost use Rattle.btree_range_map.specs.Range.{IsEmptyRange};
 ghost use Rattle.range_ffi.specs.Flags.{range_of, bounds_item, number_of, from_key, upto_key};
 ghost use Rattle.range_handles.specs.Held.{HoldsSet, set_items};
-ghost use Rattle.range_handles.specs.Lists.{unsigned_keys, KeyRanges};
+ghost use Rattle.range_handles.specs.Lists.{KeyRanges};
 
 mod many;
 
@@ -40,11 +41,11 @@ pub extern "C" fn brm_set_u64_create(alloc: Global, handle: &mut Handle) -> u32
 #[unsafe(no_mangle)]
 pub extern "C" fn brm_set_u64_insert(handle: &mut Handle, range: &Bounds) -> u32
     ensures added { result ≡ DONE
-        → HoldsAlso unsigned_keys (set_items handle.old.seal.held)
+        → HoldsAlso u64_order (set_items handle.old.seal.held)
         (set_items handle.new.seal.held) (range_of range.now) }
-    ensures empty { IsEmptyRange unsigned_keys (range_of range.now)
+    ensures empty { IsEmptyRange u64_order (range_of range.now)
         → HoldsSet handle.old.seal.held → result ≡ DONE }
-    ensures empty_unchanged { IsEmptyRange unsigned_keys (range_of range.now)
+    ensures empty_unchanged { IsEmptyRange u64_order (range_of range.now)
         → handle.new.seal.held ≡ handle.old.seal.held }
     ensures kind { HoldsSet handle.old.seal.held → HoldsSet handle.new.seal.held }
     ensures refused { result ≢ DONE → handle.new.seal.held ≡ handle.old.seal.held }
@@ -66,14 +67,14 @@ pub extern "C" fn brm_set_u64_insert(handle: &mut Handle, range: &Bounds) -> u32
 #[unsafe(no_mangle)]
 pub extern "C" fn brm_set_u64_try_insert(handle: &mut Handle, range: &Bounds) -> u32
     ensures added { result ≡ DONE
-        → HoldsAlso unsigned_keys (set_items handle.old.seal.held)
+        → HoldsAlso u64_order (set_items handle.old.seal.held)
         (set_items handle.new.seal.held) (range_of range.now) }
     ensures occupied { HoldsSet handle.old.seal.held → (result ≡ OCCUPIED
-        ↔ (¬ IsEmptyRange unsigned_keys (range_of range.now))
-        × MeetsSome unsigned_keys (set_items handle.old.seal.held) (range_of range.now)) }
-    ensures empty { IsEmptyRange unsigned_keys (range_of range.now)
+        ↔ (¬ IsEmptyRange u64_order (range_of range.now))
+        × MeetsSome u64_order (set_items handle.old.seal.held) (range_of range.now)) }
+    ensures empty { IsEmptyRange u64_order (range_of range.now)
         → HoldsSet handle.old.seal.held → result ≡ DONE }
-    ensures empty_unchanged { IsEmptyRange unsigned_keys (range_of range.now)
+    ensures empty_unchanged { IsEmptyRange u64_order (range_of range.now)
         → handle.new.seal.held ≡ handle.old.seal.held }
     ensures kind { HoldsSet handle.old.seal.held → HoldsSet handle.new.seal.held }
     ensures refused { result ≢ DONE → handle.new.seal.held ≡ handle.old.seal.held }
@@ -96,11 +97,11 @@ pub extern "C" fn brm_set_u64_try_insert(handle: &mut Handle, range: &Bounds) ->
 #[unsafe(no_mangle)]
 pub extern "C" fn brm_set_u64_remove(handle: &mut Handle, range: &Bounds) -> u32
     ensures removed { result ≡ DONE
-        → HoldsWithout unsigned_keys (set_items handle.old.seal.held)
+        → HoldsWithout u64_order (set_items handle.old.seal.held)
         (set_items handle.new.seal.held) (range_of range.now) }
-    ensures empty { IsEmptyRange unsigned_keys (range_of range.now)
+    ensures empty { IsEmptyRange u64_order (range_of range.now)
         → HoldsSet handle.old.seal.held → result ≡ DONE }
-    ensures empty_unchanged { IsEmptyRange unsigned_keys (range_of range.now)
+    ensures empty_unchanged { IsEmptyRange u64_order (range_of range.now)
         → handle.new.seal.held ≡ handle.old.seal.held }
     ensures kind { HoldsSet handle.old.seal.held → HoldsSet handle.new.seal.held }
     ensures refused { result ≢ DONE → handle.new.seal.held ≡ handle.old.seal.held }
@@ -123,8 +124,8 @@ pub extern "C" fn brm_set_u64_remove(handle: &mut Handle, range: &Bounds) -> u32
 pub extern "C" fn brm_set_u64_get(handle: &mut Handle, key: u64, entry: &mut Bounds) -> u32
     ensures unchanged { handle.new.seal.held ≡ handle.old.seal.held }
     ensures found { result ≡ DONE
-        → IsItemFor unsigned_keys (set_items handle.old.seal.held) key (bounds_item entry.new) }
-    ensures free { result ≢ DONE → ¬ HoldsKey unsigned_keys (set_items handle.old.seal.held) key }
+        → IsItemFor u64_order (set_items handle.old.seal.held) key (bounds_item entry.new) }
+    ensures free { result ≢ DONE → ¬ HoldsKey u64_order (set_items handle.old.seal.held) key }
     ensures unwritten { result ≢ DONE → entry.new ≡ entry.old }
     ensures answer { HoldsSet handle.old.seal.held → (result ≡ DONE) ⊎ (result ≡ NONE) }
     ensures closed { handle.old.is_open ≡ false → result ≡ CLOSED }
@@ -144,8 +145,8 @@ pub extern "C" fn brm_set_u64_get(handle: &mut Handle, key: u64, entry: &mut Bou
 #[unsafe(no_mangle)]
 pub extern "C" fn brm_set_u64_contains(handle: &mut Handle, key: u64) -> u32
     ensures unchanged { handle.new.seal.held ≡ handle.old.seal.held }
-    ensures yes { result ≡ DONE → HoldsKey unsigned_keys (set_items handle.old.seal.held) key }
-    ensures no { result ≡ NONE → ¬ HoldsKey unsigned_keys (set_items handle.old.seal.held) key }
+    ensures yes { result ≡ DONE → HoldsKey u64_order (set_items handle.old.seal.held) key }
+    ensures no { result ≡ NONE → ¬ HoldsKey u64_order (set_items handle.old.seal.held) key }
     ensures answer { HoldsSet handle.old.seal.held → (result ≡ DONE) ⊎ (result ≡ NONE) }
     ensures closed { handle.old.is_open ≡ false → result ≡ CLOSED }
     ensures other { handle.old.is_open ≡ true → (¬ HoldsSet handle.old.seal.held)
@@ -165,9 +166,9 @@ pub extern "C" fn brm_set_u64_contains(handle: &mut Handle, key: u64) -> u32
 pub extern "C" fn brm_set_u64_intersects(handle: &mut Handle, range: &Bounds) -> u32
     ensures unchanged { handle.new.seal.held ≡ handle.old.seal.held }
     ensures yes { result ≡ DONE
-        → BindsKeyOf unsigned_keys (set_items handle.old.seal.held) (range_of range.now) }
+        → BindsKeyOf u64_order (set_items handle.old.seal.held) (range_of range.now) }
     ensures no { result ≡ NONE
-        → ¬ BindsKeyOf unsigned_keys (set_items handle.old.seal.held) (range_of range.now) }
+        → ¬ BindsKeyOf u64_order (set_items handle.old.seal.held) (range_of range.now) }
     ensures answer { HoldsSet handle.old.seal.held → (result ≡ DONE) ⊎ (result ≡ NONE) }
     ensures closed { handle.old.is_open ≡ false → result ≡ CLOSED }
     ensures other { handle.old.is_open ≡ true → (¬ HoldsSet handle.old.seal.held)
@@ -186,8 +187,8 @@ pub extern "C" fn brm_set_u64_intersects(handle: &mut Handle, range: &Bounds) ->
 #[unsafe(no_mangle)]
 pub extern "C" fn brm_set_u64_len(handle: &mut Handle, length: &mut Length) -> u32
     ensures unchanged { handle.new.seal.held ≡ handle.old.seal.held }
-    ensures counted { result ≡ DONE → IsNumberOfKeys unsigned_keys
-        (HoldsKey unsigned_keys (set_items handle.old.seal.held)) (number_of length.new) }
+    ensures counted { result ≡ DONE → IsNumberOfKeys u64_order
+        (HoldsKey u64_order (set_items handle.old.seal.held)) (number_of length.new) }
     ensures unwritten { result ≢ DONE → length.new ≡ length.old }
     ensures answer { HoldsSet handle.old.seal.held → result ≡ DONE }
     ensures closed { handle.old.is_open ≡ false → result ≡ CLOSED }
@@ -255,10 +256,10 @@ pub extern "C" fn brm_set_u64_last(handle: &mut Handle, entry: &mut Bounds) -> u
 pub extern "C" fn brm_set_u64_next(handle: &mut Handle, key: u64, entry: &mut Bounds) -> u32
     ensures unchanged { handle.new.seal.held ≡ handle.old.seal.held }
     ensures next { result ≡ DONE → (rest : KeyRanges)
-        × AreOverlapping unsigned_keys (set_items handle.old.seal.held) (from_key key)
+        × AreOverlapping u64_order (set_items handle.old.seal.held) (from_key key)
         (bounds_item entry.new ∷ rest) }
     ensures none { result ≡ NONE
-        → AreOverlapping unsigned_keys (set_items handle.old.seal.held) (from_key key) [] }
+        → AreOverlapping u64_order (set_items handle.old.seal.held) (from_key key) [] }
     ensures unwritten { result ≢ DONE → entry.new ≡ entry.old }
     ensures answer { HoldsSet handle.old.seal.held → (result ≡ DONE) ⊎ (result ≡ NONE) }
     ensures closed { handle.old.is_open ≡ false → result ≡ CLOSED }
@@ -282,10 +283,10 @@ pub extern "C" fn brm_set_u64_next(handle: &mut Handle, key: u64, entry: &mut Bo
 pub extern "C" fn brm_set_u64_previous(handle: &mut Handle, key: u64, entry: &mut Bounds) -> u32
     ensures unchanged { handle.new.seal.held ≡ handle.old.seal.held }
     ensures previous { result ≡ DONE → (front : KeyRanges)
-        × AreOverlapping unsigned_keys (set_items handle.old.seal.held) (upto_key key)
+        × AreOverlapping u64_order (set_items handle.old.seal.held) (upto_key key)
         (front ++ bounds_item entry.new ∷ []) }
     ensures none { result ≡ NONE
-        → AreOverlapping unsigned_keys (set_items handle.old.seal.held) (upto_key key) [] }
+        → AreOverlapping u64_order (set_items handle.old.seal.held) (upto_key key) [] }
     ensures unwritten { result ≢ DONE → entry.new ≡ entry.old }
     ensures answer { HoldsSet handle.old.seal.held → (result ≡ DONE) ⊎ (result ≡ NONE) }
     ensures closed { handle.old.is_open ≡ false → result ≡ CLOSED }

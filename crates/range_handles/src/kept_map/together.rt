@@ -1,6 +1,6 @@
 //! The calls that make a map of two, or of a map and a set.
 ghost use Rattle.std.specs.Prelude.{◌≡◌, ◌≢◌, ◌⊎◌, Some};
-ghost use Rattle.range_handles.specs.MapKinds.{AreMapAndKeys, AreMapsOfOneKind, IsOverlayOf, IsRemainderOf, IsRestrictionOf};
+ghost use Rattle.range_handles.specs.MapKinds.{AreMapAndKeys, AreMapsOfOneKind, IsOverlayOf, IsPartOf};
 
 use crate::collection::Collection;
 use crate::handle::Handle;
@@ -34,15 +34,25 @@ pub fn overlay(alloc: Global, collection: &Collection, other: &Collection, made:
     }
 }
 
-/// Opens a closed handle on a map of those bindings of the first whose keys the other has too.
-pub fn restrict(
+/// Which bindings of a map are taken, by the keys of another collection.
+#[derive(Drop, Clone, Copy)]
+pub enum Part {
+    /// Those whose keys the other has too.
+    Shared,
+    /// Those whose keys the other has not.
+    Rest,
+}
+
+/// Opens a closed handle on a map of that part of the first, by the keys that the other has.
+pub fn part_of(
     alloc: Global,
     collection: &Collection,
     other: &Collection,
+    part: Part,
     made: &mut Handle,
 ) -> u32
     ensures made { result ≡ DONE
-        → IsRestrictionOf (Some collection.now) (Some other.now) made.new.seal.held }
+        → IsPartOf part (Some collection.now) (Some other.now) made.new.seal.held }
     ensures refused { result ≢ DONE → made.new.seal.held ≡ made.old.seal.held }
     ensures answer { AreMapAndKeys (Some collection.now) (Some other.now)
         → (result ≡ DONE) ⊎ (result ≡ NO_MEMORY) }
@@ -51,64 +61,25 @@ pub fn restrict(
 {
     match (collection, other) {
         (Collection::Unsigned(first), Collection::Unsigned(second)) => {
-            match first.restrict(second.as_map()) {
+            match first.part_of(second.as_map(), part) {
+                Ok(map) => made.fill(alloc, Collection::Unsigned(map)),
+                Err(_) => NO_MEMORY,
+            }
+        }
+        (Collection::Unsigned(first), Collection::Set(second)) => {
+            match first.part_of(second.as_map(), part) {
                 Ok(map) => made.fill(alloc, Collection::Unsigned(map)),
                 Err(_) => NO_MEMORY,
             }
         }
         (Collection::Signed(first), Collection::Signed(second)) => {
-            match first.restrict(second.as_map()) {
+            match first.part_of(second.as_map(), part) {
                 Ok(map) => made.fill(alloc, Collection::Signed(map)),
-                Err(_) => NO_MEMORY,
-            }
-        }
-        (Collection::Unsigned(first), Collection::Set(second)) => {
-            match first.restrict(second.as_map()) {
-                Ok(map) => made.fill(alloc, Collection::Unsigned(map)),
                 Err(_) => NO_MEMORY,
             }
         }
         (Collection::Signed(first), Collection::SignedSet(second)) => {
-            match first.restrict(second.as_map()) {
-                Ok(map) => made.fill(alloc, Collection::Signed(map)),
-                Err(_) => NO_MEMORY,
-            }
-        }
-        (_, _) => OTHER_KIND,
-    }
-}
-
-/// Opens a closed handle on a map of those bindings of the first whose keys the other has not.
-pub fn without(alloc: Global, collection: &Collection, other: &Collection, made: &mut Handle) -> u32
-    ensures made { result ≡ DONE
-        → IsRemainderOf (Some collection.now) (Some other.now) made.new.seal.held }
-    ensures refused { result ≢ DONE → made.new.seal.held ≡ made.old.seal.held }
-    ensures answer { AreMapAndKeys (Some collection.now) (Some other.now)
-        → (result ≡ DONE) ⊎ (result ≡ NO_MEMORY) }
-    ensures other { (¬ AreMapAndKeys (Some collection.now) (Some other.now))
-        → result ≡ OTHER_KIND }
-{
-    match (collection, other) {
-        (Collection::Unsigned(first), Collection::Unsigned(second)) => {
-            match first.without(second.as_map()) {
-                Ok(map) => made.fill(alloc, Collection::Unsigned(map)),
-                Err(_) => NO_MEMORY,
-            }
-        }
-        (Collection::Signed(first), Collection::Signed(second)) => {
-            match first.without(second.as_map()) {
-                Ok(map) => made.fill(alloc, Collection::Signed(map)),
-                Err(_) => NO_MEMORY,
-            }
-        }
-        (Collection::Unsigned(first), Collection::Set(second)) => {
-            match first.without(second.as_map()) {
-                Ok(map) => made.fill(alloc, Collection::Unsigned(map)),
-                Err(_) => NO_MEMORY,
-            }
-        }
-        (Collection::Signed(first), Collection::SignedSet(second)) => {
-            match first.without(second.as_map()) {
+            match first.part_of(second.as_map(), part) {
                 Ok(map) => made.fill(alloc, Collection::Signed(map)),
                 Err(_) => NO_MEMORY,
             }

@@ -1,16 +1,35 @@
 //! The calls on two sets of one kind of keys, and the complement of one.
 ghost use Rattle.std.specs.Prelude.{◌≡◌, ◌≢◌, ◌⊎◌, Some};
-ghost use Rattle.range_handles.specs.SetKinds.{AreDisjoint, AreSetsOfOneKind, HoldsAnySet, IsComplementOf, IsDifferenceOf, IsIntersectionOf, IsSubsetOf, IsSymmetricDifferenceOf, IsUnionOf};
+ghost use Rattle.range_handles.specs.SetKinds.{AreDisjoint, AreSetsOfOneKind, HoldsAnySet, IsComplementOf, IsJoinOf, IsSubsetOf};
 
 use crate::collection::Collection;
 use crate::handle::Handle;
 use range_ffi::status::{DONE, NO_MEMORY, NONE, OTHER_KIND, answer};
 use std::alloc::Global;
 
-/// Opens a closed handle on a set of the keys that are in either set.
-pub fn union(alloc: Global, collection: &Collection, other: &Collection, made: &mut Handle) -> u32
+/// Which keys of two sets a set is made of.
+#[derive(Drop, Clone, Copy)]
+pub enum Join {
+    /// Those in either.
+    Union,
+    /// Those in both.
+    Intersection,
+    /// Those of the first that are not in the other.
+    Difference,
+    /// Those in just one.
+    SymmetricDifference,
+}
+
+/// Opens a closed handle on a set that is made of both sets.
+pub fn joined(
+    alloc: Global,
+    collection: &Collection,
+    other: &Collection,
+    join: Join,
+    made: &mut Handle,
+) -> u32
     ensures made { result ≡ DONE
-        → IsUnionOf (Some collection.now) (Some other.now) made.new.seal.held }
+        → IsJoinOf join (Some collection.now) (Some other.now) made.new.seal.held }
     ensures refused { result ≢ DONE → made.new.seal.held ≡ made.old.seal.held }
     ensures answer { AreSetsOfOneKind (Some collection.now) (Some other.now)
         → (result ≡ DONE) ⊎ (result ≡ NO_MEMORY) }
@@ -18,104 +37,12 @@ pub fn union(alloc: Global, collection: &Collection, other: &Collection, made: &
         → result ≡ OTHER_KIND }
 {
     match (collection, other) {
-        (Collection::Set(first), Collection::Set(second)) => match first.union(second) {
+        (Collection::Set(first), Collection::Set(second)) => match first.joined(second, join) {
             Ok(set) => made.fill(alloc, Collection::Set(set)),
             Err(_) => NO_MEMORY,
         },
         (Collection::SignedSet(first), Collection::SignedSet(second)) => {
-            match first.union(second) {
-                Ok(set) => made.fill(alloc, Collection::SignedSet(set)),
-                Err(_) => NO_MEMORY,
-            }
-        }
-        (_, _) => OTHER_KIND,
-    }
-}
-
-/// Opens a closed handle on a set of the keys that are in both sets.
-pub fn intersection(
-    alloc: Global,
-    collection: &Collection,
-    other: &Collection,
-    made: &mut Handle,
-) -> u32
-    ensures made { result ≡ DONE
-        → IsIntersectionOf (Some collection.now) (Some other.now) made.new.seal.held }
-    ensures refused { result ≢ DONE → made.new.seal.held ≡ made.old.seal.held }
-    ensures answer { AreSetsOfOneKind (Some collection.now) (Some other.now)
-        → (result ≡ DONE) ⊎ (result ≡ NO_MEMORY) }
-    ensures other { (¬ AreSetsOfOneKind (Some collection.now) (Some other.now))
-        → result ≡ OTHER_KIND }
-{
-    match (collection, other) {
-        (Collection::Set(first), Collection::Set(second)) => match first.intersection(second) {
-            Ok(set) => made.fill(alloc, Collection::Set(set)),
-            Err(_) => NO_MEMORY,
-        },
-        (Collection::SignedSet(first), Collection::SignedSet(second)) => {
-            match first.intersection(second) {
-                Ok(set) => made.fill(alloc, Collection::SignedSet(set)),
-                Err(_) => NO_MEMORY,
-            }
-        }
-        (_, _) => OTHER_KIND,
-    }
-}
-
-/// Opens a closed handle on a set of the keys of the first set that are not in the other.
-pub fn difference(
-    alloc: Global,
-    collection: &Collection,
-    other: &Collection,
-    made: &mut Handle,
-) -> u32
-    ensures made { result ≡ DONE
-        → IsDifferenceOf (Some collection.now) (Some other.now) made.new.seal.held }
-    ensures refused { result ≢ DONE → made.new.seal.held ≡ made.old.seal.held }
-    ensures answer { AreSetsOfOneKind (Some collection.now) (Some other.now)
-        → (result ≡ DONE) ⊎ (result ≡ NO_MEMORY) }
-    ensures other { (¬ AreSetsOfOneKind (Some collection.now) (Some other.now))
-        → result ≡ OTHER_KIND }
-{
-    match (collection, other) {
-        (Collection::Set(first), Collection::Set(second)) => match first.difference(second) {
-            Ok(set) => made.fill(alloc, Collection::Set(set)),
-            Err(_) => NO_MEMORY,
-        },
-        (Collection::SignedSet(first), Collection::SignedSet(second)) => {
-            match first.difference(second) {
-                Ok(set) => made.fill(alloc, Collection::SignedSet(set)),
-                Err(_) => NO_MEMORY,
-            }
-        }
-        (_, _) => OTHER_KIND,
-    }
-}
-
-/// Opens a closed handle on a set of the keys that are in just one of the two sets.
-pub fn symmetric_difference(
-    alloc: Global,
-    collection: &Collection,
-    other: &Collection,
-    made: &mut Handle,
-) -> u32
-    ensures made { result ≡ DONE
-        → IsSymmetricDifferenceOf (Some collection.now) (Some other.now) made.new.seal.held }
-    ensures refused { result ≢ DONE → made.new.seal.held ≡ made.old.seal.held }
-    ensures answer { AreSetsOfOneKind (Some collection.now) (Some other.now)
-        → (result ≡ DONE) ⊎ (result ≡ NO_MEMORY) }
-    ensures other { (¬ AreSetsOfOneKind (Some collection.now) (Some other.now))
-        → result ≡ OTHER_KIND }
-{
-    match (collection, other) {
-        (Collection::Set(first), Collection::Set(second)) => {
-            match first.symmetric_difference(second) {
-                Ok(set) => made.fill(alloc, Collection::Set(set)),
-                Err(_) => NO_MEMORY,
-            }
-        }
-        (Collection::SignedSet(first), Collection::SignedSet(second)) => {
-            match first.symmetric_difference(second) {
+            match first.joined(second, join) {
                 Ok(set) => made.fill(alloc, Collection::SignedSet(set)),
                 Err(_) => NO_MEMORY,
             }

@@ -2,9 +2,9 @@
 ghost use Rattle.std.specs.Prelude.{map, ◌≡◌, ◌≢◌, ◌⊎◌, ◌↔◌, [], ◌++◌, true, false, nat_eq};
 ghost use Rattle.btree_range_map.specs.Appending.{LieBefore};
 ghost use Rattle.btree_range_map.specs.Bindings.{BindAlike};
+ghost use Rattle.btree_range_map.specs.Names.{i64_order};
 ghost use Rattle.btree_range_map.specs.Splitting.{IsSplitAt};
 ghost use Rattle.range_handles.specs.Held.{HoldsSignedMap, signed_items};
-ghost use Rattle.range_handles.specs.Lists.{signed_keys};
 
 use range_ffi::status::{CLOSED, DONE, NO_MEMORY, OTHER_KIND, OUT_OF_ORDER};
 use range_handles::collection::Collection;
@@ -21,7 +21,7 @@ pub extern "C" fn brm_raw_map_i64_split_off(
     other: &mut Handle,
 ) -> u32
     ensures split { result ≡ DONE
-        → IsSplitAt signed_keys nat_eq key (signed_items handle.old.seal.held)
+        → IsSplitAt i64_order nat_eq key (signed_items handle.old.seal.held)
         (signed_items handle.new.seal.held) (signed_items other.new.seal.held) }
     ensures kind { result ≡ DONE
         → HoldsSignedMap handle.new.seal.held × HoldsSignedMap other.new.seal.held }
@@ -50,14 +50,14 @@ pub extern "C" fn brm_raw_map_i64_split_off(
 /// may become one with the last of this map. Costs a step for each range that is moved.
 #[unsafe(no_mangle)]
 pub extern "C" fn brm_raw_map_i64_append(handle: &mut Handle, other: &mut Handle) -> u32
-    ensures bound { result ≡ DONE → BindAlike signed_keys nat_eq (signed_items handle.new.seal.held)
+    ensures bound { result ≡ DONE → BindAlike i64_order nat_eq (signed_items handle.new.seal.held)
         (signed_items handle.old.seal.held ++ signed_items other.old.seal.held) }
     ensures emptied { result ≡ DONE → signed_items other.new.seal.held ≡ [] }
     ensures kind { result ≡ DONE
         → HoldsSignedMap handle.new.seal.held × HoldsSignedMap other.new.seal.held }
     ensures out_of_order { HoldsSignedMap handle.old.seal.held → HoldsSignedMap other.old.seal.held
         → (result ≡ OUT_OF_ORDER
-        ↔ ¬ LieBefore signed_keys (signed_items handle.old.seal.held)
+        ↔ ¬ LieBefore i64_order (signed_items handle.old.seal.held)
         (signed_items other.old.seal.held)) }
     ensures refused { result ≢ DONE → (handle.new.seal.held ≡ handle.old.seal.held)
         × (other.new.seal.held ≡ other.old.seal.held) }

@@ -2,12 +2,13 @@
 ghost use Rattle.std.specs.Prelude.{◌<◌, ◌≤◌, map, take, drop, reverse, length, ◌≡◌, ◌≢◌, ◌⊎◌, [], ◌++◌, true, false, List, ℤ};
 ghost use Rattle.btree_range_map.specs.AnyRange.{AnyRange};
 ghost use Rattle.btree_range_map.specs.KeySets.{HoldsAllAlso};
+ghost use Rattle.btree_range_map.specs.Names.{i64_order};
 ghost use Rattle.btree_range_map.specs.Overlapping.{AreOverlapping};
 ghost use Rattle.btree_range_map.specs.PieceLists.{AreGapsWithin};
 ghost use Rattle.btree_range_map.specs.Range.{IsEmptyRange};
 ghost use Rattle.range_ffi.specs.Flags.{signed_range_of, signed_bounds_item, from_key, upto_key};
 ghost use Rattle.range_handles.specs.Held.{HoldsSignedSet, signed_set_items};
-ghost use Rattle.range_handles.specs.Lists.{signed_keys, SignedKeyRanges};
+ghost use Rattle.range_handles.specs.Lists.{SignedKeyRanges};
 
 use range_ffi::bounds::SignedBounds;
 use range_ffi::status::{CLOSED, DONE, NO_MEMORY, OTHER_KIND};
@@ -29,7 +30,7 @@ pub extern "C" fn brm_set_i64_read(
 ) -> u32
     ensures unchanged { handle.new.seal.held ≡ handle.old.seal.held }
     ensures read { result ≡ DONE → (rest : SignedKeyRanges)
-        × AreOverlapping signed_keys (signed_set_items handle.old.seal.held) (from_key key)
+        × AreOverlapping i64_order (signed_set_items handle.old.seal.held) (from_key key)
         (map signed_bounds_item (take count.new entries.new) ++ rest)
         × (count.new < length entries.old → rest ≡ []) }
     ensures within { result ≡ DONE → count.new ≤ length entries.old }
@@ -64,7 +65,7 @@ pub extern "C" fn brm_set_i64_read_back(
 ) -> u32
     ensures unchanged { handle.new.seal.held ≡ handle.old.seal.held }
     ensures read { result ≡ DONE → (rest : SignedKeyRanges)
-        × AreOverlapping signed_keys (signed_set_items handle.old.seal.held) (upto_key key)
+        × AreOverlapping i64_order (signed_set_items handle.old.seal.held) (upto_key key)
         (rest ++ reverse (map signed_bounds_item (take count.new entries.new)))
         × (count.new < length entries.old → rest ≡ []) }
     ensures within { result ≡ DONE → count.new ≤ length entries.old }
@@ -98,12 +99,12 @@ pub extern "C" fn brm_set_i64_overlapping(
     count: &mut usize,
 ) -> u32
     ensures unchanged { handle.new.seal.held ≡ handle.old.seal.held }
-    ensures read { result ≡ DONE → ¬ IsEmptyRange signed_keys (signed_range_of range.now)
+    ensures read { result ≡ DONE → ¬ IsEmptyRange i64_order (signed_range_of range.now)
         → (rest : SignedKeyRanges)
-        × AreOverlapping signed_keys (signed_set_items handle.old.seal.held)
+        × AreOverlapping i64_order (signed_set_items handle.old.seal.held)
         (signed_range_of range.now) (map signed_bounds_item (take count.new entries.new) ++ rest)
         × (count.new < length entries.old → rest ≡ []) }
-    ensures empty { result ≡ DONE → IsEmptyRange signed_keys (signed_range_of range.now)
+    ensures empty { result ≡ DONE → IsEmptyRange i64_order (signed_range_of range.now)
         → count.new ≡ 0 }
     ensures within { result ≡ DONE → count.new ≤ length entries.old }
     ensures behind { result ≡ DONE → drop count.new entries.new ≡ drop count.new entries.old }
@@ -143,7 +144,7 @@ pub extern "C" fn brm_set_i64_gaps(
 ) -> u32
     ensures unchanged { handle.new.seal.held ≡ handle.old.seal.held }
     ensures gaps { result ≡ DONE → (rest : List (AnyRange ℤ))
-        × AreGapsWithin signed_keys (signed_set_items handle.old.seal.held)
+        × AreGapsWithin i64_order (signed_set_items handle.old.seal.held)
         (signed_range_of range.now) (map signed_range_of (take count.new ranges.new) ++ rest)
         × (count.new < length ranges.old → rest ≡ []) }
     ensures within { result ≡ DONE → count.new ≤ length ranges.old }
@@ -175,7 +176,7 @@ pub extern "C" fn brm_set_i64_insert_many(
     count: &mut usize,
 ) -> u32
     ensures added { HoldsSignedSet handle.old.seal.held
-        → HoldsAllAlso signed_keys (signed_set_items handle.old.seal.held)
+        → HoldsAllAlso i64_order (signed_set_items handle.old.seal.held)
         (signed_set_items handle.new.seal.held) (map signed_range_of (take count.new ranges.now)) }
     ensures kind { HoldsSignedSet handle.old.seal.held → HoldsSignedSet handle.new.seal.held }
     ensures all { result ≡ DONE → count.new ≡ length ranges.now }

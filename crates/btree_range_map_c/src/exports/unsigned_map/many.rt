@@ -4,6 +4,7 @@ ghost use Rattle.std.specs.List.{AllZip};
 ghost use Rattle.btree_range_map.specs.AnyRange.{AnyRange};
 ghost use Rattle.btree_range_map.specs.Bindings.{Binds};
 ghost use Rattle.btree_range_map.specs.MapExtending.{AreBoundAfter};
+ghost use Rattle.btree_range_map.specs.Names.{u64_order};
 ghost use Rattle.btree_range_map.specs.Range.{IsEmptyRange};
 ghost use Rattle.btree_range_map.specs.Overlapping.{AreOverlapping};
 ghost use Rattle.btree_range_map.specs.PieceLists.{AreGapsWithin};
@@ -11,7 +12,7 @@ ghost use Rattle.btree_range_map.specs.Pieces.{ArePieces};
 ghost use Rattle.range_ffi.specs.Bindings.{binding_value, piece_item};
 ghost use Rattle.range_ffi.specs.Flags.{range_of, entry_item, from_key, upto_key};
 ghost use Rattle.range_handles.specs.Held.{HoldsMap, map_items};
-ghost use Rattle.range_handles.specs.Lists.{unsigned_keys, Ranges, Pieces};
+ghost use Rattle.range_handles.specs.Lists.{Ranges, Pieces};
 
 use range_ffi::bounds::{Binding, Bounds, Entry, Piece};
 use range_ffi::status::{CLOSED, DONE, NO_MEMORY, NO_ROOM, OTHER_KIND};
@@ -34,7 +35,7 @@ pub extern "C" fn brm_map_u64_read(
 ) -> u32
     ensures unchanged { handle.new.seal.held ≡ handle.old.seal.held }
     ensures read { result ≡ DONE → (rest : Ranges)
-        × AreOverlapping unsigned_keys (map_items handle.old.seal.held) (from_key key)
+        × AreOverlapping u64_order (map_items handle.old.seal.held) (from_key key)
         (map entry_item (take count.new entries.new) ++ rest)
         × (count.new < length entries.old → rest ≡ []) }
     ensures within { result ≡ DONE → count.new ≤ length entries.old }
@@ -69,7 +70,7 @@ pub extern "C" fn brm_map_u64_read_back(
 ) -> u32
     ensures unchanged { handle.new.seal.held ≡ handle.old.seal.held }
     ensures read { result ≡ DONE → (rest : Ranges)
-        × AreOverlapping unsigned_keys (map_items handle.old.seal.held) (upto_key key)
+        × AreOverlapping u64_order (map_items handle.old.seal.held) (upto_key key)
         (rest ++ reverse (map entry_item (take count.new entries.new)))
         × (count.new < length entries.old → rest ≡ []) }
     ensures within { result ≡ DONE → count.new ≤ length entries.old }
@@ -103,12 +104,12 @@ pub extern "C" fn brm_map_u64_overlapping(
     count: &mut usize,
 ) -> u32
     ensures unchanged { handle.new.seal.held ≡ handle.old.seal.held }
-    ensures read { result ≡ DONE → ¬ IsEmptyRange unsigned_keys (range_of range.now)
+    ensures read { result ≡ DONE → ¬ IsEmptyRange u64_order (range_of range.now)
         → (rest : Ranges)
-        × AreOverlapping unsigned_keys (map_items handle.old.seal.held) (range_of range.now)
+        × AreOverlapping u64_order (map_items handle.old.seal.held) (range_of range.now)
         (map entry_item (take count.new entries.new) ++ rest)
         × (count.new < length entries.old → rest ≡ []) }
-    ensures empty { result ≡ DONE → IsEmptyRange unsigned_keys (range_of range.now)
+    ensures empty { result ≡ DONE → IsEmptyRange u64_order (range_of range.now)
         → count.new ≡ 0 }
     ensures within { result ≡ DONE → count.new ≤ length entries.old }
     ensures behind { result ≡ DONE → drop count.new entries.new ≡ drop count.new entries.old }
@@ -148,7 +149,7 @@ pub extern "C" fn brm_map_u64_gaps(
 ) -> u32
     ensures unchanged { handle.new.seal.held ≡ handle.old.seal.held }
     ensures gaps { result ≡ DONE → (rest : List (AnyRange ℕ))
-        × AreGapsWithin unsigned_keys (map_items handle.old.seal.held) (range_of range.now)
+        × AreGapsWithin u64_order (map_items handle.old.seal.held) (range_of range.now)
         (map range_of (take count.new ranges.new) ++ rest)
         × (count.new < length ranges.old → rest ≡ []) }
     ensures within { result ≡ DONE → count.new ≤ length ranges.old }
@@ -184,7 +185,7 @@ pub extern "C" fn brm_map_u64_pieces(
 ) -> u32
     ensures unchanged { handle.new.seal.held ≡ handle.old.seal.held }
     ensures pieces { result ≡ DONE → (rest : Pieces)
-        × ArePieces unsigned_keys (map_items handle.old.seal.held) (range_of range.now)
+        × ArePieces u64_order (map_items handle.old.seal.held) (range_of range.now)
         (map piece_item (take count.new pieces.new) ++ rest)
         × (count.new < length pieces.old → rest ≡ []) }
     ensures within { result ≡ DONE → count.new ≤ length pieces.old }
@@ -217,7 +218,7 @@ pub extern "C" fn brm_raw_map_u64_get_many(
 ) -> u32
     ensures unchanged { handle.new.seal.held ≡ handle.old.seal.held }
     ensures bound { result ≡ DONE → AllZip
-        (λ key b. Binds unsigned_keys nat_eq (map_items handle.old.seal.held) key (binding_value b))
+        (λ key b. Binds u64_order nat_eq (map_items handle.old.seal.held) key (binding_value b))
         keys.now (take (length keys.now) bindings.new) }
     ensures room { result ≡ NO_ROOM → length bindings.old < length keys.now }
     ensures behind { drop (length keys.now) bindings.new ≡ drop (length keys.now) bindings.old }
@@ -249,7 +250,7 @@ pub extern "C" fn brm_map_u64_insert_many(
     count: &mut usize,
 ) -> u32
     ensures bound { HoldsMap handle.old.seal.held
-        → AreBoundAfter unsigned_keys nat_eq (map_items handle.old.seal.held)
+        → AreBoundAfter u64_order nat_eq (map_items handle.old.seal.held)
         (map_items handle.new.seal.held) (map entry_item (take count.new entries.now)) }
     ensures kind { HoldsMap handle.old.seal.held → HoldsMap handle.new.seal.held }
     ensures all { result ≡ DONE → count.new ≡ length entries.now }

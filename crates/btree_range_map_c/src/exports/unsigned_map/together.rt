@@ -2,9 +2,9 @@
 ghost use Rattle.std.specs.Prelude.{map, ◌≡◌, ◌≢◌, ◌⊎◌, ◌↔◌, [], ◌++◌, true, false, nat_eq};
 ghost use Rattle.btree_range_map.specs.Appending.{LieBefore};
 ghost use Rattle.btree_range_map.specs.Bindings.{BindAlike};
+ghost use Rattle.btree_range_map.specs.Names.{u64_order};
 ghost use Rattle.btree_range_map.specs.Splitting.{IsSplitAt};
 ghost use Rattle.range_handles.specs.Held.{HoldsMap, map_items};
-ghost use Rattle.range_handles.specs.Lists.{unsigned_keys};
 
 use range_ffi::status::{CLOSED, DONE, NO_MEMORY, OTHER_KIND, OUT_OF_ORDER};
 use range_handles::collection::Collection;
@@ -21,7 +21,7 @@ pub extern "C" fn brm_raw_map_u64_split_off(
     other: &mut Handle,
 ) -> u32
     ensures split { result ≡ DONE
-        → IsSplitAt unsigned_keys nat_eq key (map_items handle.old.seal.held)
+        → IsSplitAt u64_order nat_eq key (map_items handle.old.seal.held)
         (map_items handle.new.seal.held) (map_items other.new.seal.held) }
     ensures kind { result ≡ DONE
         → HoldsMap handle.new.seal.held × HoldsMap other.new.seal.held }
@@ -50,14 +50,14 @@ pub extern "C" fn brm_raw_map_u64_split_off(
 /// may become one with the last of this map. Costs a step for each range that is moved.
 #[unsafe(no_mangle)]
 pub extern "C" fn brm_raw_map_u64_append(handle: &mut Handle, other: &mut Handle) -> u32
-    ensures bound { result ≡ DONE → BindAlike unsigned_keys nat_eq (map_items handle.new.seal.held)
+    ensures bound { result ≡ DONE → BindAlike u64_order nat_eq (map_items handle.new.seal.held)
         (map_items handle.old.seal.held ++ map_items other.old.seal.held) }
     ensures emptied { result ≡ DONE → map_items other.new.seal.held ≡ [] }
     ensures kind { result ≡ DONE
         → HoldsMap handle.new.seal.held × HoldsMap other.new.seal.held }
     ensures out_of_order { HoldsMap handle.old.seal.held → HoldsMap other.old.seal.held
         → (result ≡ OUT_OF_ORDER
-        ↔ ¬ LieBefore unsigned_keys (map_items handle.old.seal.held)
+        ↔ ¬ LieBefore u64_order (map_items handle.old.seal.held)
         (map_items other.old.seal.held)) }
     ensures refused { result ≢ DONE → (handle.new.seal.held ≡ handle.old.seal.held)
         × (other.new.seal.held ≡ other.old.seal.held) }

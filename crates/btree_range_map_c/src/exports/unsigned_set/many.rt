@@ -2,12 +2,13 @@
 ghost use Rattle.std.specs.Prelude.{◌<◌, ◌≤◌, map, take, drop, reverse, length, ◌≡◌, ◌≢◌, ◌⊎◌, [], ◌++◌, true, false, List, ℕ};
 ghost use Rattle.btree_range_map.specs.AnyRange.{AnyRange};
 ghost use Rattle.btree_range_map.specs.KeySets.{HoldsAllAlso};
+ghost use Rattle.btree_range_map.specs.Names.{u64_order};
 ghost use Rattle.btree_range_map.specs.Overlapping.{AreOverlapping};
 ghost use Rattle.btree_range_map.specs.PieceLists.{AreGapsWithin};
 ghost use Rattle.btree_range_map.specs.Range.{IsEmptyRange};
 ghost use Rattle.range_ffi.specs.Flags.{range_of, bounds_item, from_key, upto_key};
 ghost use Rattle.range_handles.specs.Held.{HoldsSet, set_items};
-ghost use Rattle.range_handles.specs.Lists.{unsigned_keys, KeyRanges};
+ghost use Rattle.range_handles.specs.Lists.{KeyRanges};
 
 use range_ffi::bounds::Bounds;
 use range_ffi::status::{CLOSED, DONE, NO_MEMORY, OTHER_KIND};
@@ -29,7 +30,7 @@ pub extern "C" fn brm_set_u64_read(
 ) -> u32
     ensures unchanged { handle.new.seal.held ≡ handle.old.seal.held }
     ensures read { result ≡ DONE → (rest : KeyRanges)
-        × AreOverlapping unsigned_keys (set_items handle.old.seal.held) (from_key key)
+        × AreOverlapping u64_order (set_items handle.old.seal.held) (from_key key)
         (map bounds_item (take count.new entries.new) ++ rest)
         × (count.new < length entries.old → rest ≡ []) }
     ensures within { result ≡ DONE → count.new ≤ length entries.old }
@@ -64,7 +65,7 @@ pub extern "C" fn brm_set_u64_read_back(
 ) -> u32
     ensures unchanged { handle.new.seal.held ≡ handle.old.seal.held }
     ensures read { result ≡ DONE → (rest : KeyRanges)
-        × AreOverlapping unsigned_keys (set_items handle.old.seal.held) (upto_key key)
+        × AreOverlapping u64_order (set_items handle.old.seal.held) (upto_key key)
         (rest ++ reverse (map bounds_item (take count.new entries.new)))
         × (count.new < length entries.old → rest ≡ []) }
     ensures within { result ≡ DONE → count.new ≤ length entries.old }
@@ -98,12 +99,12 @@ pub extern "C" fn brm_set_u64_overlapping(
     count: &mut usize,
 ) -> u32
     ensures unchanged { handle.new.seal.held ≡ handle.old.seal.held }
-    ensures read { result ≡ DONE → ¬ IsEmptyRange unsigned_keys (range_of range.now)
+    ensures read { result ≡ DONE → ¬ IsEmptyRange u64_order (range_of range.now)
         → (rest : KeyRanges)
-        × AreOverlapping unsigned_keys (set_items handle.old.seal.held) (range_of range.now)
+        × AreOverlapping u64_order (set_items handle.old.seal.held) (range_of range.now)
         (map bounds_item (take count.new entries.new) ++ rest)
         × (count.new < length entries.old → rest ≡ []) }
-    ensures empty { result ≡ DONE → IsEmptyRange unsigned_keys (range_of range.now)
+    ensures empty { result ≡ DONE → IsEmptyRange u64_order (range_of range.now)
         → count.new ≡ 0 }
     ensures within { result ≡ DONE → count.new ≤ length entries.old }
     ensures behind { result ≡ DONE → drop count.new entries.new ≡ drop count.new entries.old }
@@ -138,7 +139,7 @@ pub extern "C" fn brm_set_u64_gaps(
 ) -> u32
     ensures unchanged { handle.new.seal.held ≡ handle.old.seal.held }
     ensures gaps { result ≡ DONE → (rest : List (AnyRange ℕ))
-        × AreGapsWithin unsigned_keys (set_items handle.old.seal.held) (range_of range.now)
+        × AreGapsWithin u64_order (set_items handle.old.seal.held) (range_of range.now)
         (map range_of (take count.new ranges.new) ++ rest)
         × (count.new < length ranges.old → rest ≡ []) }
     ensures within { result ≡ DONE → count.new ≤ length ranges.old }
@@ -170,7 +171,7 @@ pub extern "C" fn brm_set_u64_insert_many(
     count: &mut usize,
 ) -> u32
     ensures added { HoldsSet handle.old.seal.held
-        → HoldsAllAlso unsigned_keys (set_items handle.old.seal.held)
+        → HoldsAllAlso u64_order (set_items handle.old.seal.held)
         (set_items handle.new.seal.held) (map range_of (take count.new ranges.now)) }
     ensures kind { HoldsSet handle.old.seal.held → HoldsSet handle.new.seal.held }
     ensures all { result ≡ DONE → count.new ≡ length ranges.now }

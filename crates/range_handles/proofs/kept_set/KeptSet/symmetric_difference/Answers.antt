@@ -1,4 +1,0 @@
-use Rattle.range_handles.proofs.kept_set.KeptSet.symmetric_difference.Goals as goal
-
-pub returns : goal.returns
-returns g c = rw (← c.self.view_is, ← c.other.view_is) c.in_ok-symmetric_difference.ensures.held
