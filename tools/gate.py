@@ -15,6 +15,8 @@ from tools.repository import PROCESSORS, TOP, Counts, below, counted, crates, ru
 RESULT = re.compile(r"^test result: .*?(\d+) passed; (\d+) failed", re.M)
 # A check takes less than this; what `rt` expects of it, by its lines, is up to three times as much.
 MEMORY_OF_A_CHECK = 5 * 1024**3
+# So much runs beside the proofs, on processors that they leave idle: it gives way to all else.
+BESIDE, LEAST = 2, 19
 
 
 def lanes():
@@ -36,26 +38,36 @@ def proofs(names):
 
 
 def gate():
-    """Does the whole of it: what can be seen at once comes before the proofs, what is only run after them."""
+    """Does the whole of it: what can be seen at once comes first, and what needs no proof runs beside the proofs."""
     fresh = [examples.compared(), *fresh_mutants()]
     if any(it.failed for it in fresh):
         return fresh
-    proved = proofs([])
-    if proved.failed:
-        return [*fresh, proved]
-    every = crates().values()
-    programs = [it.folder for it in every if it.is_proved and it.has_conversations]
-    with examples.workspace() as room, concurrent.futures.ThreadPoolExecutor(PROCESSORS) as pool:
-        runs = [pool.submit(tests, it, room) for it in every if not it.is_proved]
-        runs.append(pool.submit(examples.run_in, room))
+    with examples.workspace() as room, beside(BESIDE, LEAST) as pool:
+        tried = [pool.submit(faults.refuse), pool.submit(examples.run_in, room)]
+        tried += [pool.submit(tests, it, room) for it in crates().values() if not it.is_proved]
+        proved = proofs([])
+        over = [] if proved.failed else over_proved()
+        refused, *ended = [it.result() for it in tried]
+    return [*fresh, proved, *over, *refused, *ended]
+
+
+def over_proved():
+    """Runs the programs that were proved, and the library for other languages."""
+    programs = [it.folder for it in crates().values() if it.is_proved and it.has_conversations]
+    with beside(PROCESSORS) as pool:
+        runs = [pool.submit(bindings)]
         runs += [pool.submit(conversations.count, it, conversations.play_built) for it in programs]
         runs.append(pool.submit(counting, "random conversations", ["crates/rangecalc/fuzz", "--conversations", "1000"]))
         runs.append(pool.submit(counting, "random lists", ["crates/cidr/fuzz", "--lists", "300"]))
-        ended = [it.result() for it in runs]
-    return [*fresh, proved, *ended, *faults.refuse(), *bindings_over_proved()]
+        return [it.result() for it in runs]
 
 
-def bindings_over_proved():
+def beside(number, niceness=0):
+    """Returns a pool in which so many tasks run side by side. Programs that they start are as nice as they are."""
+    return concurrent.futures.ThreadPoolExecutor(number, initializer=os.nice, initargs=(niceness,))
+
+
+def bindings():
     """Runs the bindings and their packages over the library of what was proved, or over one that is not where no proof is kept."""
     with tempfile.TemporaryDirectory() as library:
         began, ended = time.monotonic(), run([sys.executable, "-m", "tools.library", library])
@@ -63,7 +75,7 @@ def bindings_over_proved():
         made = Counts(int(is_made), int(is_kept and not is_made), int(not is_kept))
         given = ["--library", library] if is_made else []
         told("proved library", made, began, ended.stdout)
-        return [made, counting("bindings: C, Rust and Python", ["./bindings/run", *given])]
+        return made.and_more([counting("bindings: C, Rust and Python", ["./bindings/run", *given])])
 
 
 def fresh_mutants():
