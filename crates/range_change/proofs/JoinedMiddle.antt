@@ -109,7 +109,7 @@ module _ {K : Type 0} (order : KeyOrder K) (lawful : IsLawful order) {V : Type 0
         → Chained order lawful same equal (m ∷ ms)
         → places order lawful (item_lower order m) (lower order r) ≡ Equal
         → Filled items front (with_first_start start (m ∷ ms)) (m ∷ ms) (lower order r)
-    start_filled None front ms m left chain at = grind (arith, common_steps, filled_joined, lower, tied_itself, position_total, item_upper)
+    start_filled None front ms m left chain at = grind (arith, common_steps, filled_joined, tied_itself, position_total)
     start_filled (Some b) front ms m left chain at =
         let total = position_total order.cmp lawful.total in
         filled_joined line items front m (with_start m b) ms (lower order r)
@@ -205,7 +205,7 @@ module _ {K : Type 0} (order : KeyOrder K) (lawful : IsLawful order) {V : Type 0
         → places order lawful (item_upper order z) (upper order r) ≡ Equal
         → places order lawful (item_upper order (item_with_end finish z))
         (past order (end_position order (unwrap_or finish r.end))) ≡ Equal
-    ended_upper option z at = grind (arith, common_steps, tied_itself, position_total, past, end_position)
+    ended_upper option z at = grind (arith, common_steps, tied_itself, position_total)
 
     ended_known : (finish : Option (Bound K)) (z : Item (AnyRange K) V) → IsKnownRange order z.key
         → IsKnownBound order (unwrap_or finish r.end)

@@ -6,7 +6,7 @@ pub returns-in_default : goal.returns-in_default
 returns-in_default g c = inr (refl, got_none _ c.args.next c.in_default.is)
 
 pub returns-then-starts_before : goal.returns-then-starts_before
-returns-then-starts_before g c = grind (arith, common_steps, position_cmp, lower, item_lower, got_only)
+returns-then-starts_before g c = grind (arith, common_steps, got_only)
 
 pub returns : goal.returns
 returns g c =

@@ -7,7 +7,7 @@ pub returns-in_default : goal.returns-in_default
 returns-in_default g c = inr (refl, got_none _ c.args.previous c.in_default.is)
 
 pub returns-then-ends_after : goal.returns-then-ends_after
-returns-then-ends_after g c = grind (arith, common_steps, position_cmp, item_upper, upper, got_only)
+returns-then-ends_after g c = grind (arith, common_steps, got_only)
 
 pub returns : goal.returns
 returns g c =
