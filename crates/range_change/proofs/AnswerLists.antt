@@ -1,5 +1,5 @@
 -- Answers put one after the other, those that touch with equal values as one.
-use Rattle.range_change.proofs.Common.{common_steps, ◌⊎◌, ◌≡◌, refl, ap, ◌∙◌, ℕ, zero, suc, ◌+◌, ◌-◌, ◌<◌, Option, Some, None, Bool, true, List, [], ◌∷◌, ◌++◌, inl, inr, ◌↔◌, length, get_or, arith, Every, slice_set, Bound, Equal, IsEquivalence, tied_back, KeyOrder, IsLawful, start_position, end_position, position_cmp, position_total, Position, AnyRange, past, lower, upper, IsBoundClone, SameBound, same_start, IsKnownRange, Any, lt_le, eq_le, eq_ge, le_trans, PLe, PLt, any_left, any_split, every_weaker, every_append, every_left, every_right, line_of, Respects, IsBoundTo, IsLeftOf, sym, append-nil, lt_not_le, IsKnownBound, Touches, Item, Answered, JoinsNoLast, IsPut, with_end, item_lower}
+use Rattle.range_change.proofs.Common.{common_steps, ◌⊎◌, ◌≡◌, refl, ap, ◌∙◌, ℕ, zero, suc, ◌+◌, ◌-◌, ◌<◌, Option, Some, None, Bool, true, List, [], ◌∷◌, ◌++◌, inl, inr, ◌↔◌, length, get_or, arith, Every, slice_set, Bound, Equal, IsEquivalence, tied_back, KeyOrder, IsLawful, end_position, position_cmp, position_total, Position, AnyRange, past, lower, upper, IsBoundClone, SameBound, same_start, IsKnownRange, Any, lt_le, eq_le, eq_ge, le_trans, PLe, PLt, any_left, any_split, every_weaker, every_append, every_left, every_right, line_of, Respects, IsBoundTo, IsLeftOf, sym, append-nil, lt_not_le, IsKnownBound, Touches, Item, Answered, JoinsNoLast, IsPut, with_end, item_lower}
 use Rattle.range_change.proofs.Chains.{chain_right, inside_or_out}
 use Rattle.range_change.proofs.ChainJoins.{leading_by, left_joined, places_between_are_bound}
 use Rattle.range_change.proofs.ChainSides.{none_above}

@@ -1,5 +1,5 @@
 -- One piece after the other, from either end.
-use Rattle.range_change.proofs.Common.{common_steps, ◌≡◌, refl, ap, List, [], ◌∷◌, ◌++◌, Option, Some, None, Bool, map, if◌then◌else◌, append_assoc, arith, length, length-append, ◌<◌, Bound, KeyOrder, IsLawful, common, flipped, starts_past_end, IsKnownBound, IsKnownRange, AnyRange, flipped_back, flipped_bound_is_past, flipped_known, Item, between, free_piece, bound_piece, free_between, pieces_from, eq_le, lt_not_le}
+use Rattle.range_change.proofs.Common.{common_steps, ◌≡◌, refl, ap, List, [], ◌∷◌, ◌++◌, Option, Some, None, Bool, if◌then◌else◌, append_assoc, arith, length, length-append, ◌<◌, Bound, KeyOrder, IsLawful, common, flipped, starts_past_end, IsKnownBound, IsKnownRange, AnyRange, flipped_back, flipped_bound_is_past, flipped_known, Item, between, free_piece, bound_piece, free_between, pieces_from, eq_le, lt_not_le}
 use Rattle.range_change.proofs.Forms.{before_is}
 
 module _ {K : Type 0} {order : KeyOrder K} (lawful : IsLawful order) where

@@ -1,4 +1,4 @@
-use Rattle.range_change.proofs.Common.{common_steps, length, get_or, arith}
+use Rattle.range_change.proofs.Common.{common_steps, arith}
 use Rattle.range_change.proofs.OuterBounds.{set_last}
 use Rattle.range_change.proofs.splice.end_at.Goals as goal
 
