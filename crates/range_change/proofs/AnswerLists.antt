@@ -1,5 +1,5 @@
 -- Answers put one after the other, those that touch with equal values as one.
-use Rattle.range_change.proofs.Common.{common_steps, ◌⊎◌, ◌≡◌, refl, ap, ◌∙◌, ℕ, zero, suc, ◌+◌, ◌-◌, ◌<◌, Option, Some, None, Bool, true, List, [], ◌∷◌, ◌++◌, inl, inr, ◌↔◌, length, get_or, arith, Every, slice_set, Bound, Equal, IsEquivalence, tied_back, KeyOrder, IsLawful, start_position, end_position, position_cmp, position_total, Position, AnyRange, past, lower, upper, IsBoundClone, SameBound, same_start, IsKnownRange, Any, lt_le, eq_le, eq_ge, le_trans, PLe, PLt, any_left, any_split, every_weaker, every_append, every_left, every_right, line_of, Respects, IsBoundTo, IsLeftOf, sym, append-nil, lt_not_le, IsKnownBound, Touches, Item, Answered, JoinsNoLast, IsPut, with_end, item_lower}
+use Rattle.range_change.proofs.Common.{common_steps, ◌⊎◌, ◌≡◌, refl, ap, ◌∙◌, ℕ, zero, suc, ◌+◌, ◌-◌, ◌<◌, Option, Some, None, Bool, true, List, [], ◌∷◌, ◌++◌, inl, inr, ◌↔◌, length, get_or, arith, Every, slice_set, Bound, Equal, IsEquivalence, tied_back, KeyOrder, IsLawful, end_position, position_cmp, position_total, Position, AnyRange, past, lower, upper, IsBoundClone, SameBound, same_start, IsKnownRange, Any, lt_le, eq_le, eq_ge, le_trans, PLe, PLt, any_left, any_split, every_weaker, every_append, every_left, every_right, line_of, Respects, IsBoundTo, IsLeftOf, sym, append-nil, lt_not_le, IsKnownBound, Touches, Item, Answered, JoinsNoLast, IsPut, with_end, item_lower}
 use Rattle.range_change.proofs.Chains.{chain_right, inside_or_out}
 use Rattle.range_change.proofs.ChainJoins.{leading_by, left_joined, places_between_are_bound}
 use Rattle.range_change.proofs.ChainSides.{none_above}
@@ -199,7 +199,7 @@ module _ {K : Type 0} (order : KeyOrder K) (lawful : IsLawful order) {V : Type 0
             leads = leading_by line old c v was.chain under (λ k size d le on t.
                 let last : k ≡ length old - 1 = omega (arith, size) in
                 let apart = rw (← last) at (apart d (omega (arith, size))) in
-                apart (grind (arith, common_steps, touches_is, get_or, inside, le_trans, eq_le))
+                apart (grind (arith, common_steps, touches_is, inside, le_trans, eq_le))
                 t);
             below = eq_le lawful _ _ at;
             joined = λ p W alike on l. absurd (lt_not_le lawful _ _ l (le_trans lawful _ _ _ low on));
@@ -244,7 +244,7 @@ module _ {K : Type 0} (order : KeyOrder K) (lawful : IsLawful order) {V : Type 0
       fill_more value None old new was put = rw put (filled_free value old was)
       fill_more value (Some v) old new was (inl put) = rw put.list
           (filled_with_item_after v value old was (record { start = put.start; end = put.end })
-          put.known (grind (arith, common_steps, tied_back, position_total, lower, start_position, same_start)) (ends_there put.end put.end_clone)
+          put.known (grind (arith, common_steps, tied_back, position_total, same_start)) (ends_there put.end put.end_clone)
           put.apart)
       fill_more value (Some v) old new was (inr put) =
           let some : 0 < length old = put.joins.0 in

@@ -36,14 +36,14 @@ module _ {K : Type 0} (order : KeyOrder K) (lawful : IsLawful order) where
   pub apart_by_start : (r s : AnyRange K) (i : Bound K) → flipped r.end ≡ Some i
       → IsKnownRange order r → IsKnownRange order s
       → LiesApart order r s ↔ PLt lawful (start_position order i) (lower order s)
-  apart_by_start r s i turns known others = grind (arith, common_steps, before_is, flipped_bound_is_past, upper, lower, touches_by, not_le, start_position, le_trans, eq_ge, le_lt_trans, eq_le, lt_le, lt_not_le)
+  apart_by_start r s i turns known others = grind (arith, common_steps, before_is, flipped_bound_is_past, touches_by, not_le, le_trans, eq_ge, le_lt_trans, eq_le, lt_le, lt_not_le)
 
   -- ranges with a place between are not connected
   pub apart_not : (r s : AnyRange K) → IsKnownRange order r → IsKnownRange order s
       → PLt lawful (lower order r) (upper order r) → PLt lawful (lower order s) (upper order s)
       → PLt lawful (upper order r) (lower order s)
       → (IsConnectedTo order r s → ⊥) × (IsConnectedTo order s r → ⊥)
-  apart_not r s known others good good_s l = grind (arith, common_steps, before_is, lt_le, lt_not_le, eq_ge, touching_same, lower, lt_trans, eq_le)
+  apart_not r s known others good good_s l = grind (arith, common_steps, before_is, lt_le, lt_not_le, eq_ge, touching_same, lt_trans, eq_le)
 
   module _ {V : Type 0} (same : V → V → Bool) (equal : IsEquivalence same) where
     abbrev Before : AnyRange K → Item (AnyRange K) V → Type 0

@@ -54,7 +54,7 @@ pub use Rattle.range_change.specs.Put.{IsPut, JoinsNoLast}
 pub use Rattle.range_change.specs.Reach.{IsReach, IsSurrounded, ReachesAfter, ReachesBefore, inner_count}
 pub use Rattle.range_change.specs.Replaced.{AreWithin, IsReplaced}
 pub use Rattle.range_change.specs.Runs.{AreOverlapping}
-pub use Rattle.range_change.specs.Seams.{IsJoiningFirst, IsJoiningLast, IsLeftCutting, IsRightCutting, with_first_start, with_last_end}
+pub use Rattle.range_change.specs.Seams.{IsJoiningFirst, IsJoiningLast, IsLeftCutting, IsLeftSeam, IsRightCutting, IsRightSeam, with_first_start, with_last_end}
 pub use Rattle.range_change.specs.Spelling.{IsEndAsIn, IsSpelledAsIn, IsStartAsIn, KeepsSpelling}
 pub use Rattle.range_change.specs.Stored.{IsFollowedBy, IsStored, item_lower, item_upper}
 pub use Rattle.range_change.specs.Window.{IsFound, IsJustBefore, IsLastOf, IsLastStarting, IsWalk, IsWindow, option_items, place_after}

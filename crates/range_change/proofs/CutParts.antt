@@ -8,7 +8,7 @@ module _ {K : Type 0} (order : KeyOrder K) (lawful : IsLawful order) where
   pub same_past : (a b : Bound K) → SameBound order a b
       → places order lawful (past order (end_position order a)) (past order (end_position order b))
       ≡ Equal
-  same_past bound other_bound h = grind (arith, common_steps, same_start, tied_itself, position_total, past, end_position)
+  same_past bound other_bound h = grind (arith, common_steps, same_start, tied_itself, position_total)
 
   pub known_turned : (b : Bound K) → IsKnownBound order b → IsKnownBound order (flipped_bound b)
   known_turned bound h = grind (arith, common_steps)

@@ -86,4 +86,4 @@ module _ {K : Type 0} (order : KeyOrder K) (lawful : IsLawful order) where
   pub end_le : (e f : Bound K) → IsKnownBound order e → IsKnownBound order f
       → PLe (past order (end_position order e)) (past order (end_position order f))
       → PLe (end_position order e) (end_position order f)
-  end_le e f known known' le = grind (arith, common_steps, not_lt, end_position, lt_not_le, past_lt, ends_lie_at_ends)
+  end_le e f known known' le = grind (arith, common_steps, not_lt, lt_not_le, past_lt, ends_lie_at_ends)

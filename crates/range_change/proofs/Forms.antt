@@ -36,7 +36,7 @@ module _ {K : Type 0} (order : KeyOrder K) (lawful : IsLawful order) where
       → Le places (past order (end_position order e)) (lower order s)
       → IsTrue (start_is_at order (Some i) (lower order s))
       ↔ Le places (lower order s) (past order (end_position order e))
-  touches_by e i s turns le = grind (arith, common_steps, flipped_bound_is_past, eq_is_equal, start_position, lower, le_trans, eq_ge, position_total, past, end_position, both)
+  touches_by e i s turns le = grind (arith, common_steps, flipped_bound_is_past, eq_is_equal, le_trans, eq_ge, position_total, both)
 
   -- a range touches another where the place past it is that of the other
   pub touches_is : (e : Bound K) (s : AnyRange K) → IsKnownRange order s

@@ -64,7 +64,7 @@ widened_frame items new Way place count front extra rest body beyond more tail b
       run = extra ++ met ++ more;
       others = rest ++ body ++ beyond;
       behind = tail;
-      before = list_is_take_and_drop items place ∙ (grind (arith, common_steps, drop, parts_of, append_reassociates));
+      before = list_is_take_and_drop items place ∙ (grind (arith, common_steps, parts_of, append_reassociates));
       after = changed ∙ reassociate_pieces front rest body beyond tail;
       such = such;
     }
@@ -182,9 +182,9 @@ module _ {K : Type 0} {order : KeyOrder K} (lawful : IsLawful order) {V : Type 0
           run = met;
           others = option_items left ++ option_items right;
           behind = drop (place + w.count) items;
-          before = grind (arith, common_steps, list_is_take_and_drop, take, parts_of, append_assoc, drop);
+          before = grind (arith, common_steps, list_is_take_and_drop, parts_of, append_assoc);
           after = grind (arith, common_steps);
-          such = grind (arith, common_steps, all_meet, one_item, length-append, option_items, run_some, every_append);
+          such = grind (arith, common_steps, all_meet, one_item, length-append, run_some, every_append);
         }
 
     pub insertion_frame : (new : List (Item (AnyRange K) V)) (v u : V) {at end : ℕ}
@@ -207,8 +207,8 @@ module _ {K : Type 0} {order : KeyOrder K} (lawful : IsLawful order) {V : Type 0
         let made_left =
         made_within (on_left.extra ++ met) run (option_items left) on_start r v on_left.made in
         let made_right : Every (IsNewItem order same run r v) (option_items right) =
-        rw regroup (grind (arith, common_steps, made_within, option_items, any_right)) in
-        let own_end : IsEndOf order run r (unwrap_or finish r.end) = grind (arith, common_steps, within_wider, any_right, unwrap_or) in
+        rw regroup (grind (arith, common_steps, made_within, any_right)) in
+        let own_end : IsEndOf order run r (unwrap_or finish r.end) = grind (arith, common_steps, within_wider, any_right) in
         let own : IsNewItem order same run r v m = record {
           start =
               within_wider (on_start (λ i. unwrap_or start r.start ≡ i.key.start)) on_left.start_of;

@@ -1,13 +1,11 @@
 -- A middle that comes to stand within a range, and what joins it there.
-use Rattle.range_change.proofs.Common.{common_steps, Line, ◌≡◌, ℕ, ◌+◌, ◌-◌, ◌≤◌, List, [], ◌∷◌, ◌++◌, length, take, drop, refl, ap, sym, ◌∙◌, arith, subst, Option, Some, None, Bool, true, IsTrue, Bor, ◌⊎◌, inl, inr, append-nil, Every, slice_get, option_copied, IsEquivalence, tied_itself, unwrap_or, Equal, Bound, KeyOrder, IsLawful, start_position, end_position, position_total, Position, any_left, any_right, every_weaker, every_append, every_left, every_right, line_of, IsLeftOf, IsRightOf, IsSpliced, past, lower, upper, Lt, Any, eq_ge, le_lt_trans, le_refl, lt_le, eq_le, le_trans, lt_le_trans, PLe, PLt, IsKnownBound, IsKnownRange, Touches, AnyRange, Item, IsAt, Border, IsLeftShape, IsRightShape, IsRunStart, left_side, right_side, joined_count, seam_border, with_start, HasValue, item_lower, item_upper, IsStored, LiesIn, IsLeftPlan, IsRightPlan, AreWithin, with_first_start, with_last_end, IsLeftCutting, IsRightCutting, IsJoiningFirst, IsJoiningLast, IsReach, place_before, flipped_bound, option_items}
+use Rattle.range_change.proofs.Common.{common_steps, Line, ◌≡◌, ℕ, ◌+◌, ◌-◌, ◌≤◌, List, [], ◌∷◌, ◌++◌, length, take, drop, refl, ap, sym, ◌∙◌, arith, subst, Option, Some, None, Bool, true, IsTrue, Bor, ◌⊎◌, inl, inr, append-nil, Every, slice_get, option_copied, IsEquivalence, tied_itself, unwrap_or, Equal, Bound, KeyOrder, IsLawful, start_position, end_position, position_total, Position, any_left, any_right, every_weaker, every_append, every_left, every_right, line_of, IsLeftOf, IsRightOf, IsSpliced, past, lower, upper, Lt, Any, eq_ge, le_lt_trans, le_refl, lt_le, eq_le, le_trans, lt_le_trans, PLe, PLt, IsKnownBound, IsKnownRange, Touches, AnyRange, Item, IsAt, Border, IsLeftShape, IsRightShape, left_side, right_side, joined_count, seam_border, with_start, HasValue, item_lower, item_upper, IsStored, LiesIn, IsLeftPlan, IsRightPlan, AreWithin, with_first_start, with_last_end, IsLeftCutting, IsRightCutting, IsLeftSeam, IsRightSeam, IsReach, place_before, option_items}
 use Rattle.range_change.proofs.Chains.{chain_above, chain_before, chain_right}
 use Rattle.range_change.specs.declared.reach.Reach.{Reach}
-use Rattle.range_change.proofs.CutParts.{known_turned, same_turned}
 use Rattle.range_change.proofs.OuterBounds.{every_started, last_of, item_with_end, with_last, started_last}
 use Rattle.range_change.proofs.Forms.{places, nonempty_good, Known, Chained, stored_chain, every_front, every_back}
 use Rattle.range_change.proofs.BoundEdits.{cut_joins_none}
 use Rattle.range_change.proofs.Lengths.{border_joins_none}
-use Rattle.range_change.proofs.InsertionPlans.{left_cut_out, right_cut_out}
 use Rattle.range_change.proofs.Splices.{IsFilled, filled_apart, filled_joined, spliced_apart, spliced_joined}
 
 pub got_only : {X : Type 0} (P : X → Type 0) (o : Option (Bor X)) (i : Bor X) → o ≡ Some i → P i.now
@@ -109,7 +107,7 @@ module _ {K : Type 0} (order : KeyOrder K) (lawful : IsLawful order) {V : Type 0
         → Chained order lawful same equal (m ∷ ms)
         → places order lawful (item_lower order m) (lower order r) ≡ Equal
         → Filled items front (with_first_start start (m ∷ ms)) (m ∷ ms) (lower order r)
-    start_filled None front ms m left chain at = grind (arith, common_steps, filled_joined, lower, tied_itself, position_total, item_upper)
+    start_filled None front ms m left chain at = grind (arith, common_steps, filled_joined, tied_itself, position_total)
     start_filled (Some b) front ms m left chain at =
         let total = position_total order.cmp lawful.total in
         filled_joined line items front m (with_start m b) ms (lower order r)
@@ -205,7 +203,7 @@ module _ {K : Type 0} (order : KeyOrder K) (lawful : IsLawful order) {V : Type 0
         → places order lawful (item_upper order z) (upper order r) ≡ Equal
         → places order lawful (item_upper order (item_with_end finish z))
         (past order (end_position order (unwrap_or finish r.end))) ≡ Equal
-    ended_upper option z at = grind (arith, common_steps, tied_itself, position_total, past, end_position)
+    ended_upper option z at = grind (arith, common_steps, tied_itself, position_total)
 
     ended_known : (finish : Option (Bound K)) (z : Item (AnyRange K) V) → IsKnownRange order z.key
         → IsKnownBound order (unwrap_or finish r.end)
@@ -342,27 +340,19 @@ module _ {K : Type 0} {order : KeyOrder K} (lawful : IsLawful order) {V : Type 0
       (line_of order lawful same equal) (item_lower order m) m ms
       (stored_chain order lawful same equal (m ∷ ms) others) (le_refl lawful _))
 
-  pub left_fill : (middle : List (Item (AnyRange K) V)) (joined from : Option P)
-      → IsStored order same middle
-      → IsJoiningFirst order same {S = Unit {0}} (λ s. is_good) (λ s. rank) (λ s. items) tt r reach
-      (slice_get middle 0) joined
-      → IsRunStart is_good rank (length items) place reach.first joined from
+  pub left_fill : (middle : List (Item (AnyRange K) V)) (border : Border K P) (from : Option P)
+      → IsStored order same middle → IsLeftSeam order same lawful equal is_good rank items r place
+      reach.window.count (slice_get middle 0) reach.first border from
       → IsLeftFill order lawful same equal is_good rank items r place reach.window.count middle
-      reach.first (seam_border joined reach.first (flipped_bound r.start)) from
-  left_fill [] joined from others (inl h) begins = absurd (cc)
-  left_fill (m ∷ ms) joined from others (inl (i, is, at, joins)) begins =
+      reach.first border from
+  left_fill [] border from others (inl h) = absurd (let e = h.1 in cc)
+  left_fill (m ∷ ms) border from others (inl (i, is, at, plan)) =
       let item : i ≡ m = cc in
       left_joining order lawful same equal is_good rank items r place reach.window.count m ms
-      reach.first _ from good found.window.stored others (rw item at at) (rw item at
-      (joins lawful equal (flipped_bound r.start) from
-      (known_turned order lawful r.start found.window.known.0) (same_turned order lawful r.start)
-      begins))
-  left_fill middle joined from others (inr (none, later)) begins = rw none (left_cutting order
-      lawful same equal is_good rank items r place reach.window.count middle reach.first _ from
-      found.window.stored others (all_later middle others later) (left_cut_out lawful equal
-      found.window reach.first (flipped_bound r.start) from found.first
-      (known_turned order lawful r.start found.window.known.0) (same_turned order lawful r.start)
-      (rw none at begins)))
+      reach.first border from good found.window.stored others (rw item at at) (rw item at plan)
+  left_fill middle border from others (inr (later, cut)) = left_cutting order lawful same equal
+      is_good rank items r place reach.window.count middle reach.first border from
+      found.window.stored others (all_later middle others later) cut
 
   -- a place within the range by which all end
   ends_by : (middle : List (Item (AnyRange K) V)) → IsStored order same middle
@@ -391,25 +381,22 @@ module _ {K : Type 0} {order : KeyOrder K} (lawful : IsLawful order) {V : Type 0
       )
 
   pub right_fill : (middle front : List (Item (AnyRange K) V)) (start : Option (Bound K))
-      (other : Option P) → IsStored order same middle → AreWithin order middle r
+      (border : Border K P) → IsStored order same middle → AreWithin order middle r
       → Filled order lawful same equal items front (with_first_start start middle) middle
       (lower order r) → Known order lawful same equal (front ++ with_first_start start middle)
-      → IsJoiningLast order same {S = Unit {0}} (λ s. is_good) (λ s. rank) (λ s. items) tt r reach
-      (slice_get middle (length middle - 1)) other
+      → IsRightSeam order same lawful equal is_good rank items r place reach.window.count
+      (slice_get middle (length middle - 1)) reach.last border
       → IsRightFill order lawful same equal is_good rank items r place reach.window.count middle
-      front start reach.last (seam_border other reach.last (flipped_bound r.end))
-  right_fill [] front start other others within fill known (inl h) =
-      absurd (cc)
-  right_fill (x ∷ xs) front start other others within fill known (inl (i, is, at, joins)) =
+      front start reach.last border
+  right_fill [] front start border others within fill known (inl h) = absurd (let e = h.1 in cc)
+  right_fill (x ∷ xs) front start border others within fill known (inl (i, is, at, plan)) =
       let (init, m, list, last) = last_of x xs in
       let item : i ≡ m = cc in
       right_joining order lawful same equal is_good rank items r place reach.window.count (x ∷ xs)
-      front init m start reach.last _ found.window.stored good list fill known (rw item at at)
-      (rw item at (joins lawful equal (flipped_bound r.end)
-      (known_turned order lawful r.end found.window.known.1) (same_turned order lawful r.end)))
-  right_fill middle front start other others within fill known (inr (none, earlier)) =
+      front init m start reach.last border found.window.stored good list fill known
+      (rw item at at) (rw item at plan)
+  right_fill middle front start border others within fill known (inr (earlier, cut)) =
       let (u, le, lt, all) = ends_by middle others within earlier in
-      rw none (right_cutting order lawful same equal is_good rank items r place reach.window.count
-      middle front start reach.last _ u found.window.stored found.window.in_range le lt all fill
-      known (right_cut_out lawful equal found.window reach.last (flipped_bound r.end) found.last
-      (known_turned order lawful r.end found.window.known.1) (same_turned order lawful r.end)))
+      right_cutting order lawful same equal is_good rank items r place reach.window.count middle
+      front start reach.last border u found.window.stored found.window.in_range le lt all fill
+      known cut

@@ -21,7 +21,7 @@ module _ {K V P : Type 0} (is_good : P → Type 0) (rank : P → ℕ)
       (rest : Option (Item (AnyRange K) V)) (given : Option (Bound K))
       → IsBorderShape side is_good rank items border low high rest given
       → high ≡ low + length (option_items rest)
-  border_length side border low high rest given h = grind (arith, common_steps, length, option_items)
+  border_length side border low high rest given h = grind (arith, common_steps)
 
   -- where no bound is given, nothing is joined
   pub border_joins_none : (side : BorderSide K V) (border : Border K P) (low high : ℕ)

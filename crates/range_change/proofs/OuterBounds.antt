@@ -35,7 +35,7 @@ pub put_next : {X : Type 0} (before now new done : List X) (place left less fewe
     → less ≡ left - length done → place + left ≤ length before → fewer ≡ less - 1
     → new ≡ take (place + length done) now ++ x ∷ drop (place + length done + (less - fewer)) now
     → new ≡ take place before ++ (done ++ x ∷ []) ++ drop (place + (left - fewer)) before
-put_next before now new done place left less fewer x was few within one changed = grind (arith, common_steps, put_parts, drop, length, take, regrouped_last)
+put_next before now new done place left less fewer x was few within one changed = grind (arith, common_steps, put_parts, regrouped_last)
 
 -- the rest of the run is removed
 pub put_all : {X : Type 0} (before now new done : List X) (place left less : ℕ)
@@ -43,7 +43,7 @@ pub put_all : {X : Type 0} (before now new done : List X) (place left less : ℕ
     → less ≡ left - length done → place + left ≤ length before
     → new ≡ take (place + length done) now ++ drop (place + length done + less) now
     → new ≡ take place before ++ done ++ drop (place + left) before
-put_all before now new done place left less was few within changed = grind (arith, common_steps, put_parts, drop, length, take)
+put_all before now new done place left less was few within changed = grind (arith, common_steps, put_parts)
 
 module _ {K V : Type 0} where
   abbrev pub item_with_end : Option (Bound K) → Item (AnyRange K) V → Item (AnyRange K) V

@@ -27,7 +27,7 @@ module _ {K : Type 0} (order : KeyOrder K) (lawful : IsLawful order) where
 
   held_nonempty : (r : AnyRange K) (k : K) → order.is_key k → Holds order r k → IsEmptyRange order r
       → ⊥
-  held_nonempty r k key h e = grind (arith, common_steps, holds_by_position, not_both_greater_and_not, position_cmp, le_trans)
+  held_nonempty r k key h e = grind (arith, common_steps, holds_by_position, not_both_greater_and_not, le_trans)
 
   -- over complete keys ranges that meet share a key
   shared_key : (r s : AnyRange K) → IsComplete order → IsKnownRange order r → IsKnownRange order s

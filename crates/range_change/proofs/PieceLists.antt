@@ -165,7 +165,7 @@ module _ {K : Type 0} {order : KeyOrder K} (lawful : IsLawful order) {V : Type 0
 
     with_gap : (start end : Option (Bound K)) → Opens start from → Closes end from to
         → IsCut from from (free_between order start end ++ rest)
-    with_gap option end opens closes = grind (arith, common_steps, gap_by, starts_past_end, no_gap, le_trans)
+    with_gap option end opens closes = grind (arith, common_steps, gap_by, no_gap, le_trans)
 
   -- an item that the range meets, after those so far
   module _ {done rest : List (Item (AnyRange K) V)} {x : Item (AnyRange K) V} {from : Position K}

@@ -1,5 +1,5 @@
 -- One piece after the other, from either end.
-use Rattle.range_change.proofs.Common.{common_steps, ◌≡◌, refl, ap, List, [], ◌∷◌, ◌++◌, Option, Some, None, Bool, map, if◌then◌else◌, append_assoc, arith, length, length-append, ◌<◌, Bound, KeyOrder, IsLawful, common, flipped, starts_past_end, IsKnownBound, IsKnownRange, AnyRange, flipped_back, flipped_bound_is_past, flipped_known, Item, between, free_piece, bound_piece, free_between, pieces_from, eq_le, lt_not_le}
+use Rattle.range_change.proofs.Common.{common_steps, ◌≡◌, refl, ap, List, [], ◌∷◌, ◌++◌, Option, Some, None, Bool, if◌then◌else◌, append_assoc, arith, length, length-append, ◌<◌, Bound, KeyOrder, IsLawful, common, flipped, starts_past_end, IsKnownBound, IsKnownRange, AnyRange, flipped_back, flipped_bound_is_past, flipped_known, Item, between, free_piece, bound_piece, free_between, pieces_from, eq_le, lt_not_le}
 use Rattle.range_change.proofs.Forms.{before_is}
 
 module _ {K : Type 0} {order : KeyOrder K} (lawful : IsLawful order) where
@@ -11,7 +11,7 @@ module _ {K : Type 0} {order : KeyOrder K} (lawful : IsLawful order) where
 
   none_after_end : (e : Bound K) (s : Option (Bound K)) → flipped e ≡ s → IsKnownBound order e
       → between order s (Some e) ≡ []
-  none_after_end e option turns known = grind (arith, common_steps, none_past, starts_past_end)
+  none_after_end e option turns known = grind (arith, common_steps, none_past)
 
   none_before_start : (s : Bound K) (e : Option (Bound K)) → flipped s ≡ e → IsKnownBound order s
       → between order (Some s) e ≡ []
@@ -26,7 +26,7 @@ module _ {K : Type 0} {order : KeyOrder K} (lawful : IsLawful order) where
         → IsKnownRange order i.key → g ∷ [] ≡ between order s (flipped i.key.start)
         → b ≡ i.key.start → pieces_from order r s e items
         ≡ free_piece g ∷ pieces_from order r (Some b) e items
-    gap_first s e {rest = rest} {i = i} g b list known is start = grind (arith, common_steps, bound_piece, pieces_from, flipped, none_before_start, map, free_piece)
+    gap_first s e {rest = rest} {i = i} g b list known is start = grind (arith, common_steps, bound_piece, pieces_from, none_before_start, free_piece)
 
     -- the piece that comes last
     pieces_end : (s e : Option (Bound K)) (init : List (Item (AnyRange K) V))
@@ -43,13 +43,13 @@ module _ {K : Type 0} {order : KeyOrder K} (lawful : IsLawful order) where
           → g ∷ [] ≡ between order (flipped i.key.end) e → b ≡ i.key.end
           → pieces_from order r s e items
           ≡ pieces_from order r s (Some b) items ++ free_piece g ∷ []
-      gap_last g b known is end = grind (arith, common_steps, pieces_from, flipped, bound_piece, none_after_end, pieces_end, map, free_piece, append_assoc)
+      gap_last g b known is end = grind (arith, common_steps, pieces_from, bound_piece, none_after_end, pieces_end, free_piece, append_assoc)
 
       pub item_last : (t : Option (Bound K)) (part : AnyRange K)
           → [] ≡ between order (flipped i.key.end) e → t ≡ flipped i.key.start
           → part ≡ common order i.key r → pieces_from order r s e items
           ≡ pieces_from order r s t init ++ record { key = part; value = Some i.value } ∷ []
-      item_last t part none start is = grind (arith, common_steps, pieces_end, pieces_from, flipped, bound_piece, map, free_piece)
+      item_last t part none start is = grind (arith, common_steps, pieces_end, pieces_from, bound_piece, free_piece)
 
 -- what is left once the last is taken is less
 pub last_is_less : {X : Type 0} (xs ys : List X) (x : X) → xs ≡ ys ++ x ∷ [] → length ys < length xs

@@ -48,7 +48,7 @@ module _ {K V P : Type 0} {is_good is_good' : P → Type 0} {rank rank' : P → 
         in_range = rw (here, size, sum) (omega (arith, least, within));
         on_left = subst (λ n. IsLeftShape is_good' rank' items' left at n before start) (sym here)
             (shape_kept kept same_list left_side left at begin before start on_left);
-        on_right = grind (arith, common_steps, right, shape_kept, right_side, on_right);
+        on_right = grind (arith, common_steps, right, shape_kept, on_right);
       }
 
 module _ {K : Type 0} (order : KeyOrder K) {V : Type 0} (same : V → V → Bool)

@@ -97,7 +97,7 @@ module _ {K : Type 0} (order : KeyOrder K) (lawful : IsLawful order) where
 
   -- the common part of two ranges starts at the later start and ends at the earlier end
   pub common_is : (r i : AnyRange K) → IsCommonPart order r i (common order i r)
-  common_is r i = grind (arith, common_steps, position_cmp, common, start_position, end_position, starts_over, ends_under, later_over, earlier_under, both, later_is, later, either_choice_holds, is_gt, earlier_is, earlier)
+  common_is r i = grind (arith, common_steps, starts_over, ends_under, later_over, earlier_under, both, later_is, later, either_choice_holds, earlier_is, earlier)
 
   -- a common part lies in both
   pub common_within : (r i part : AnyRange K) → IsKnownRange order r → IsKnownRange order i
@@ -232,7 +232,7 @@ module _ {K : Type 0} (order : KeyOrder K) (lawful : IsLawful order) where
 
         same_extent : (key part : AnyRange K) → LiesIn order key part → LiesIn order part key
             → range_cmp order key part ≡ Equal
-        same_extent key part h k = grind (arith, common_steps, position_cmp, equal_then_equal, start_position, end_position, both)
+        same_extent key part h k = grind (arith, common_steps, equal_then_equal, both)
 
         same_common : (i key part : AnyRange K) → IsCommonPart order r i key
             → IsCommonPart order r i part → range_cmp order key part ≡ Equal

@@ -3,6 +3,7 @@ use Rattle.range_change.proofs.Common.{common_steps, ◌≡◌, ℕ, ◌+◌, �
 use Rattle.range_change.specs.declared.reach.Reach.{Reach}
 use Rattle.range_change.specs.Borders.{run_length}
 use Rattle.range_change.specs.Reach.{AreApart}
+use Rattle.range_change.proofs.CutParts.{known_turned, same_turned}
 use Rattle.range_change.proofs.OuterBounds.{every_started, every_ended, any_ended, own_values}
 use Rattle.range_change.proofs.RangePieces.{any_with}
 use Rattle.range_change.proofs.Forms.{chain_stored, same_binds, unheld_lies_outside}
@@ -69,11 +70,14 @@ module _ {K : Type 0} {order : KeyOrder K} (lawful : IsLawful order) {V : Type 0
       → IsReplacement order lawful same equal is_good rank items r reach middle joined other from
   plans_replacement found apart {middle} {joined = joined} {other = other} {from = from} others
       within is_first is_last on_left on_right begins =
-      let left =
-      left_fill lawful equal found middle joined from others (rw is_first at on_left) begins in
+      let left = left_fill lawful equal found middle _ from others (rw is_first at
+      (on_left lawful equal (flipped_bound r.start) from
+      (known_turned order lawful r.start found.window.known.0) (same_turned order lawful r.start)
+      begins)) in
       let right = right_fill lawful equal found middle (take left.at items
-      ++ option_items left.rest) left.start other others within left.filled left.known
-      (rw is_last at on_right) in
+      ++ option_items left.rest) left.start _ others within left.filled left.known (rw is_last at
+      (on_right lawful equal (flipped_bound r.end)
+      (known_turned order lawful r.end found.window.known.1) (same_turned order lawful r.end))) in
       let least = border_length is_good rank items right_side
       (seam_border other reach.last (flipped_bound r.end)) right.upto right.end right.rest
       right.finish right.shape in

@@ -123,7 +123,7 @@ module _ {K : Type 0} (order : KeyOrder K) (lawful : IsLawful order) {V : Type 0
     (starts : PLt lawful (lower order x.key) (lower order r)) (ends : PLt lawful (upper order r)
     (upper order x.key)) where
   whole_inside : IsInside order lawful items r r
-  whole_inside = grind (arith, common_steps, le_refl, lower, upper)
+  whole_inside = grind (arith, common_steps, le_refl)
 
   whole_common : IsCommonPart order r x.key r
   whole_common =
@@ -132,7 +132,7 @@ module _ {K : Type 0} (order : KeyOrder K) (lawful : IsLawful order) {V : Type 0
       let v = end_position order x.key.end in
       let under = end_le order lawful r.end x.key.end known.1 known_x.1 (lt_le lawful _ _ ends) in
       record {
-        starts = grind (arith, common_steps, both, later_over, either_choice_holds, is_gt, le_refl, lt_le);
+        starts = grind (arith, common_steps, both, later_over, either_choice_holds, le_refl, lt_le);
         ends = both lawful _ _ (either_choice_holds order lawful (λ y. PLe lawful u y)
             (is_gt (cmp u v)) v u under (le_refl lawful u)) (earlier_under order lawful u v).0;
       }

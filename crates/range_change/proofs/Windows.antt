@@ -53,7 +53,7 @@ module _ {K : Type 0} (order : KeyOrder K) (lawful : IsLawful order) {V : Type 0
         above = every_weaker _ _ (drop place items) (λ i h. (reaching_is_before_past order lawful
             r.start i.key.end known.0 h.0.1).0 (rw at_start at h.1))
             (every_both _ _ (drop place items) (every_back _ place items all) found.above);
-        meets = grind (arith, common_steps, get_or, reaching_is_before_past, every_at);
+        meets = grind (arith, common_steps, reaching_is_before_past, every_at);
         behind = rest_starts_after_range e r (drop end items) at_end known
             (every_back _ end items all) (chain_right (line_of order lawful same equal)
             (take end items) (drop end items) chain) (λ d some.

@@ -1,11 +1,11 @@
 -- What is to become of the items beside a range in which a list of items comes to stand.
 use Rattle.std.specs.Prelude.{◌≡◌, ◌+◌, ◌∷◌, ◌⊎◌}
-use Rattle.range_change.specs.Common.{Every, ℕ, Bool, List, [], length, take, drop, Option, Some, None, IsEquivalence, Equal, Bound, KeyOrder, IsLawful, position_cmp, lower, upper, Lt, AnyRange, Item, IsAt, Border, Reach}
-use Rattle.range_change.specs.Borders.{IsLeftRest, IsRightRest, IsLeftShape, IsRightShape}
-use Rattle.range_change.specs.Edits.{with_start, with_end}
+use Rattle.range_change.specs.Common.{Every, ℕ, Bool, List, [], length, take, drop, Option, Some, None, IsEquivalence, Equal, Bound, KeyOrder, IsLawful, position_cmp, SameBound, lower, upper, IsKnownBound, Lt, AnyRange, Item, IsAt, place_before, Border, Reach}
+use Rattle.range_change.specs.Borders.{IsLeftRest, IsRightRest, IsLeftShape, IsRightShape, IsRunStart, seam_border}
+use Rattle.range_change.specs.Edits.{flipped_bound, with_start, with_end}
 use Rattle.range_change.specs.Frames.{IsPart}
 use Rattle.range_change.specs.Stored.{item_lower, item_upper}
-use Rattle.range_change.specs.Plans.{JoinsAfter, JoinsBefore}
+use Rattle.range_change.specs.Plans.{IsLeftPlan, IsRightPlan}
 use Rattle.range_change.specs.Window.{option_items}
 
 module _ {K V : Type 0} where
@@ -45,23 +45,47 @@ module _ {K : Type 0} (order : KeyOrder K) {V : Type 0} (same : V → V → Bool
     pub made : Every (IsPart order same (take count (drop place items)) r) (option_items rest)
     pub ends : upto + length (option_items last) ≡ place + count
 
+  -- an item that starts where the range does may join, and before any other the range is cut out
+  abbrev pub IsLeftSeam : Option (Item (AnyRange K) V) → Option P → Border K P → Option P → Type 0
+  IsLeftSeam next first border from =
+      ((m : Item (AnyRange K) V) × (next ≡ Some m)
+      × (position_cmp order.cmp (item_lower order m) (lower order r) ≡ Equal)
+      × IsLeftPlan order same lawful equal is_good rank items r m.value place count first border
+      from)
+      ⊎ (((m : Item (AnyRange K) V) → next ≡ Some m
+      → Lt (position_cmp order.cmp) (lower order r) (item_lower order m))
+      × IsLeftCutting first border from)
+
+  abbrev pub IsRightSeam : Option (Item (AnyRange K) V) → Option P → Border K P → Type 0
+  IsRightSeam previous last border =
+      ((m : Item (AnyRange K) V) × (previous ≡ Some m)
+      × (position_cmp order.cmp (item_upper order m) (upper order r) ≡ Equal)
+      × IsRightPlan order same lawful equal is_good rank items r m.value place count last border)
+      ⊎ (((m : Item (AnyRange K) V) → previous ≡ Some m
+      → Lt (position_cmp order.cmp) (item_upper order m) (upper order r))
+      × IsRightCutting last border)
+
 module _ {K : Type 0} (order : KeyOrder K) {V : Type 0} (same : V → V → Bool) {P : Type 0}
     {S : Type 0} (is_good : S → P → Type 0) (rank : S → P → ℕ)
     (items : S → List (Item (AnyRange K) V)) (stored : S) (r : AnyRange K) (reach : Reach P) where
-  -- the first item of a run starts where the range does and may join, or starts later and does not
+  -- the item that the first of a run is to join, where there is one
   abbrev pub IsJoiningFirst : Option (Item (AnyRange K) V) → Option P → Type 0
-  IsJoiningFirst next found =
-      ((m : Item (AnyRange K) V) × (next ≡ Some m)
-      × (position_cmp order.cmp (item_lower order m) (lower order r) ≡ Equal)
-      × JoinsBefore order same is_good rank items stored r m.value reach found)
-      ⊎ ((found ≡ None) × ((m : Item (AnyRange K) V) → next ≡ Some m
-      → Lt (position_cmp order.cmp) (lower order r) (item_lower order m)))
+  IsJoiningFirst next found = let place =
+      place_before (rank stored)
+      (length (items stored)) reach.window.from in (lawful : IsLawful order)
+      → (equal : IsEquivalence same) → (b : Bound K) (at : Option P) → IsKnownBound order b
+      → SameBound order (flipped_bound r.start) b
+      → IsRunStart (is_good stored) (rank stored) (length (items stored)) place reach.first found at
+      → IsLeftSeam order same lawful equal (is_good stored) (rank stored)
+      (items stored) r place reach.window.count next reach.first (seam_border found reach.first b)
+      at
 
-  -- the last ends where the range does and may join, or ends earlier and does not
+  -- the item that the last of a run is to join, where there is one
   abbrev pub IsJoiningLast : Option (Item (AnyRange K) V) → Option P → Type 0
-  IsJoiningLast previous found =
-      ((m : Item (AnyRange K) V) × (previous ≡ Some m)
-      × (position_cmp order.cmp (item_upper order m) (upper order r) ≡ Equal)
-      × JoinsAfter order same is_good rank items stored r m.value reach found)
-      ⊎ ((found ≡ None) × ((m : Item (AnyRange K) V) → previous ≡ Some m
-      → Lt (position_cmp order.cmp) (item_upper order m) (upper order r)))
+  IsJoiningLast previous found = let place =
+      place_before (rank stored)
+      (length (items stored)) reach.window.from in (lawful : IsLawful order)
+      → (equal : IsEquivalence same) → (b : Bound K) → IsKnownBound order b
+      → SameBound order (flipped_bound r.end) b
+      → IsRightSeam order same lawful equal (is_good stored) (rank stored)
+      (items stored) r place reach.window.count previous reach.last (seam_border found reach.last b)

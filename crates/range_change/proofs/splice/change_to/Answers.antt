@@ -4,7 +4,7 @@ use Rattle.range_change.proofs.BoundEdits.{kept_place}
 use Rattle.range_change.proofs.splice.change_to.Goals as goal
 
 pub replace_run_by-requires-clause-space : goal.replace_run_by-requires-clause-space
-replace_run_by-requires-clause-space g c = grind (arith, common_steps, length, length_started, length_ended)
+replace_run_by-requires-clause-space g c = grind (arith, common_steps, length_started, length_ended)
 
 pub returns : goal.returns
 returns g c = λ at end before behind start finish left_shape right_shape le.

@@ -1,6 +1,6 @@
-use Rattle.range_change.proofs.Common.{common_steps, length, get_or, arith}
+use Rattle.range_change.proofs.Common.{common_steps, arith}
 use Rattle.range_change.proofs.OuterBounds.{set_last}
 use Rattle.range_change.proofs.splice.end_at.Goals as goal
 
 pub returns-in-Some-last_mut : goal.returns-in-Some-last_mut
-returns-in-Some-last_mut g c = grind (arith, common_steps, length, set_last, get_or)
+returns-in-Some-last_mut g c = grind (arith, common_steps, set_last)
