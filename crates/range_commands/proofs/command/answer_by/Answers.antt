@@ -15,17 +15,6 @@ returns-in-Ok g c =
           { at_most = λ done. takes.at_most refl; at_least = takes.at_least; none = takes.none });
     }
 
-pub returns-in-Insert : goal.returns-in-Insert
-returns-in-Insert g c =
-    record {
-      step =
-          rw c.in-Insert.is c.in-Err-Memory.ensures.refused;
-      takes =
-          let takes = c.in-Err-Memory.ensures.takes in
-          rw c.in-Insert.is (record
-          { at_most = λ done. absurd done; at_least = takes.at_least; none = takes.none });
-    }
-
 pub returns-in-Ok-insert_disconnected-clause-step :
     goal.returns-in-Ok-insert_disconnected-clause-step
 returns-in-Ok-insert_disconnected-clause-step g c =
@@ -121,15 +110,6 @@ returns-in-Remove g c =
           }));
     }
 
-pub returns-in-Update : goal.returns-in-Update
-returns-in-Update g c =
-    record {
-      step =
-          rw c.in-Update.is (search rules);
-      takes =
-          rw c.in-Update.is refl;
-    }
-
 pub returns-in-Ok-get_cloned : goal.returns-in-Ok-get_cloned
 returns-in-Ok-get_cloned g c =
     record {
@@ -172,13 +152,4 @@ returns-in-Intersects g c =
           let told = c.intersects_counted.ensures in
           rw c.in-Intersects.is (lookup_if c.args.is_counted
           (record { counted = told.counted; idle = told.none; none = told.empty_uncounted }));
-    }
-
-pub returns : goal.returns
-returns g c =
-    record {
-      step =
-          rw c.in-Count.is (search rules);
-      takes =
-          rw c.in-Count.is refl;
     }

@@ -35,17 +35,6 @@ returns-clause-run g c =
     c.loop-command.invariant.left none in
     rw (← all) c.loop-command.invariant.chain
 
-pub answer_by-reply-requires : goal.answer_by-reply-requires
-answer_by-reply-requires g c =
-    record {
-      keys =
-          c.requires.keys;
-      values =
-          c.requires.values;
-      callable =
-          c.requires.callable;
-    }
-
 pub loop-command-init : goal.loop-command-init
 loop-command-init g c = record {
   left = c.into_iter-command-iterator.ensures.into_iter_gives.0;

@@ -44,12 +44,3 @@ pub returns-in-Err-Memory : goal.returns-in-Err-Memory
 returns-in-Err-Memory g c =
     let refused = c.in-Err-Memory.ensures in
     (λ empty. false≢true (refused.empty empty), refused.refused)
-
-pub update-requires-clause-free : goal.update-requires-clause-free
-update-requires-clause-free g c = λ shown shows. c.requires.callable
-
-pub update-requires-clause-keys : goal.update-requires-clause-keys
-update-requires-clause-keys g c = c.requires.keys
-
-pub update-requires-clause-values : goal.update-requires-clause-values
-update-requires-clause-values g c = c.requires.values
