@@ -2,9 +2,9 @@
 //!
 //! Where to find what:
 //!
-//! - a map in either shape, written and read: `src/map.rt`, the loop in `proofs/MapReading.antt`
-//! - a map of which the last element counts: `src/overwriting.rt`, `specs/Overwriting.antt`,
-//!   `proofs/OverwritingLoop.antt`
+//! - a map in either shape, written and read: `src/map.rt`, `proofs/MapReading.antt`
+//! - a map of which the last element counts: `src/overwriting.rt`, `specs/Overwriting.antt`
+//! - the loops over the elements of both: `proofs/{ElementLoop,WritingLoop}.antt`
 #![tactic(auto)]
 
 pub mod map;

@@ -2,8 +2,7 @@
 //!
 //! Where to find what:
 //!
-//! - a set as the array of its ranges: `src/set.rt`, `specs/Faults.antt`, the loop in
-//!   `proofs/SetReading.antt`
+//! - a set as the array of its ranges: `src/set.rt`, `specs/Faults.antt`
 //! - a multimap as a map of arrays: `src/multimap.rt`, `specs/MultimapFaults.antt`,
 //!   `proofs/Multimaps.antt`
 //! - what is written is read back: laws for users: `src/laws.rt`, `specs/Laws.antt`,

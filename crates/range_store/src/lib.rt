@@ -7,7 +7,7 @@
 //! - the B-tree, whose nodes hold the items: `src/btree.rt` and `btree/`
 //! - what the slab keeps of a node: `src/btree/node.rt`
 //! - the items of all nodes, in a row of cells for each number: how one is put, taken and moved:
-//!   `src/btree/rows.rt`, `specs/Rows.antt`, `proofs/{Cells,Rows,RowMoves,Dividing}.antt`
+//!   `src/btree/rows.rt`, `specs/Rows.antt`, `proofs/{Cells,Rows,RowMoves,Halves}.antt`
 //! - the nodes by their numbers in a slab, with spares that an insertion takes, and how items
 //!   move between nodes: `src/btree/nodes.rt`, `specs/{Heap,Spares}.antt`, `proofs/Spares.antt`
 //! - the shape of a tree of nodes, and the list that it is: `specs/Nodes.antt`
@@ -16,7 +16,7 @@
 //!   `proofs/Behind.antt`
 //! - the items after a position that lie together: `Run` and `chunk_from` in `src/storage.rt`,
 //!   `specs/Cells.antt`; in a leaf `proofs/LeafItems.antt`; the iterator `range_reads/src/iter.rt`
-//! - how a search goes down: `src/btree/searching.rt`, `proofs/{Ways,Descending}.antt`
+//! - how a search goes down: `src/btree/searching.rt`, `proofs/Descending.antt`
 //! - how a node is written or cut: `src/btree/insertion.rt`, `specs/Contents.antt`
 //! - how an empty tree is built of a list, from its leaves up, and how many items each child
 //!   gets: `src/btree/building.rt`, `specs/Building.antt`, `proofs/{Building,Shares}.antt`
