@@ -39,8 +39,3 @@ returns g c =
       λ empty. false≢true (refused.empty empty),
       refused.refused,
     )
-
-pub returns-in-Err-Memory : goal.returns-in-Err-Memory
-returns-in-Err-Memory g c =
-    let refused = c.in-Err-Memory.ensures in
-    (λ empty. false≢true (refused.empty empty), refused.refused)
