@@ -128,14 +128,14 @@ def linked(source, target):
     shutil.copytree(source, target, symlinks=True, copy_function=copy)
 
 
-def check(crate, texts, kept=("out/incremental",)):
+def check(crate, texts):
     """Returns what a check says of a copy of the crate with these texts, over what is kept of the crate."""
     with tempfile.TemporaryDirectory(dir=TOP.parent) as room:
         room = pathlib.Path(room)
         for name in ("HANDLES", "crates.txt"):
             shutil.copy2(TOP / name, room)
         for other in CRATES.iterdir():
-            names = ["src", "specs", "proofs", "out/rlib", *(kept if other == crate else ())]
+            names = ["src", "specs", "proofs", "out/rlib", *(["out/incremental"] if other == crate else [])]
             for name in names:
                 if (other / name).is_dir():
                     linked(other / name, room / "crates" / other.name / name)
