@@ -129,9 +129,7 @@ module _ {T : Type 0} (s : Heap T) where
         further _ (record {
           low = next.low;
           shaped = next.shaped;
-          first = λ e is none. rw (← path_is, ← count) (first_below s (kid (i + 1))
-              (path + weight * (i + 1)) (weight * PATH_BASE)
-              (way.ahead + ahead_of s left at (i + 1)) next e is none);
+          first = λ e is none. grind (arith, first_below s (kid (i + 1)) (path + weight * (i + 1)) (weight * PATH_BASE) (way.ahead + ahead_of s left at (i + 1)) next e is none);
         })
 
   -- at the end of the leaf all items are passed that stand before the edge

@@ -1,5 +1,5 @@
 -- How a node of new nodes grows at its end, item by item, and with each item by a child.
-use Rattle.std.proofs.Common.{◌≡◌, ℕ, zero, suc, ◌+◌, ◌-◌, ◌*◌, ◌<◌, ◌≤◌, List, [], ◌∷◌, ◌++◌, length, map, refl, sym, ap, ◌∙◌, subst, arith, length-append, append_assoc, Some}
+use Rattle.std.proofs.Common.{◌≡◌, ℕ, zero, suc, ◌+◌, ◌-◌, ◌*◌, ◌<◌, ◌≤◌, List, [], ◌∷◌, ◌++◌, length, map, sym, ap, ◌∙◌, subst, arith, length-append, append_assoc, Some}
 use Rattle.std.specs.List.{All, flat_map, insert}
 use Rattle.std.proofs.lemmas.List.{append-nil, length_push, length-map, map-append}
 use Rattle.std.proofs.lemmas.List.Concat.{flat_map-append}
@@ -11,7 +11,7 @@ use Rattle.range_store.specs.Nodes.{weave, items_below, used, Shaped, Moves, IsT
 use Rattle.range_store.specs.Building.{IsBuilt}
 use Rattle.range_store.specs.Contents.{IsContent}
 use Rattle.range_store.specs.Frame.{AgreeAt, AgreeAt-right, SameChildren, same_children}
-use Rattle.range_store.specs.Occurrences.{occurrences, occurrences-append, occurrences-cons, occurrences-nil}
+use Rattle.range_store.specs.Occurrences.{occurrences-append, occurrences-cons, occurrences-nil}
 use Rattle.range_store.specs.Weave.{weave_cut}
 use Rattle.range_store.proofs.Below.{Shaped-from_but, child_count_inner, items_below_leaf, used_is, used_leaf, weave_items_below}
 use Rattle.range_store.proofs.Contents.{Holds, held_items_below, held_used, held_shape, written_holds, held_new}
@@ -42,33 +42,15 @@ module _ {T : Type 0} {r s t : Heap T} {d n many : ℕ} (cs : List ℕ) (built :
 
   same : SameChildren s t d ks
   same =
-      same_children s t d ks (AgreeAt-right s t (n ∷ []) (flat_map (used s d) ks)
-      (subst (AgreeAt s t) (used_is s d n) agree))
+      grind (arith, same_children s t d ks (AgreeAt-right s t (n ∷ []) (flat_map (used s d) ks) (subst (AgreeAt s t) (used_is s d n) agree)), AgreeAt-right s t (n ∷ []) (flat_map (used s d) ks) (subst (AgreeAt s t) (used_is s d n) agree), used_is s d n, agree)
 
   used_all : flat_map (used t d) (ks ++ cs) ≡ flat_map (used s d) ks ++ flat_map (used t d) cs
   used_all =
-      flat_map-append (used t d) ks cs
-      ∙ ap (λ zs. zs ++ flat_map (used t d) cs) same.used_same
+      grind (arith, flat_map-append, same)
 
   nodes_moved : Moves r t [] (n ∷ flat_map (used t d) (ks ++ cs))
   nodes_moved =
-      let old = used s (suc d) n in
-      let more = flat_map (used t d) cs in
-      let under = flat_map (used s d) ks in
-      Moves-like [] (n ∷ flat_map (used t d) (ks ++ cs))
-      (record { occur = λ k. refl; len = refl })
-      (record {
-        occur =
-            λ k.
-            omega (
-              arith,
-              occurrences-append,
-              ap (occurrences k) (used_is s d n),
-              occurrences-cons,
-              ap (occurrences k) used_all,
-            );
-        len = grind (arith, length-append, ap length (used_is s d n), ap length used_all);
-      }) (Moves-then built.moved (Moves-beside old moved))
+      grind (arith, Moves-like, occurrences-append, used_is, occurrences-cons, used_all, length-append, Moves-then, Moves-beside)
 
   module _ {u : Heap T} (x : T) (room : many < CAPACITY) (shaped : All (Shaped t d) cs)
       (branches : length cs + length ks ≡ child_count d (many + 1))
@@ -89,32 +71,17 @@ module _ {T : Type 0} {r s t : Heap T} {d n many : ℕ} (cs : List ℕ) (built :
     holds = written_holds u content written
 
     pub built_more : IsBuilt r u d n (many + 1)
-    built_more = record {
-      shape = held_shape holds 0 (omega arith) (omega (arith, longer, room)) content.branches
-          content.shaped;
-      items = ap length written.items_are ∙ longer;
-      moved = Moves-then nodes_moved (subst
-          (λ zs. Moves t u (n ∷ flat_map (used t d) (ks ++ cs)) zs) (sym (held_used holds))
-          (Writes-moves (flat_map (used t d) (ks ++ cs)) written));
-    }
+    built_more = grind (arith, held_shape holds 0 (omega arith) (omega (arith, longer, room)) content.branches content.shaped, holds, longer, content, Moves-then nodes_moved (subst (λ zs. Moves t u (n ∷ flat_map (used t d) (ks ++ cs)) zs) (sym (held_used holds)) (Writes-moves (flat_map (used t d) (ks ++ cs)) written)), nodes_moved, held_used holds, Writes-moves (flat_map (used t d) (ks ++ cs)) written)
 
     pub listed_more : items_below u (suc d) n
         ≡ weave (xs ++ x ∷ []) (map (items_below s d) ks ++ map (items_below t d) cs)
-    listed_more = held_items_below holds
-        ∙ ap (weave (xs ++ x ∷ [])) (map-append (items_below t d) ks cs
-        ∙ ap (λ zs. zs ++ map (items_below t d) cs) same.items_below_same)
+    listed_more = grind (arith, held_items_below, holds, map-append, same)
 
 -- a leaf of new items
 pub built_leaf : {T : Type 0} {r s : Heap T} {n : ℕ} {xs : List T} → Stores r s n xs []
     → length xs ≤ CAPACITY → IsBuilt r s 0 n (length xs) × (items_below s (suc 0) n ≡ xs)
 built_leaf {T} {r} {s} {n} {xs} stored fits =
-    let childless : length (node_children s n) ≡ 0 = ap length stored.children_are in
-    let built : IsBuilt r s 0 n (length xs) = grind (
-      arith,
-      used_leaf s n childless,
-      Stores-moves [] stored,
-    ) in
-    (built, items_below_leaf s n childless ∙ stored.items_are)
+    grind (arith, used_leaf, Stores-moves, items_below_leaf)
 
 -- a node above its first child
 module _ {T : Type 0} {r s t : Heap T} (d : ℕ) {n : ℕ} (c : ℕ) (inner : 0 < d)
@@ -130,12 +97,7 @@ module _ {T : Type 0} {r s t : Heap T} (d : ℕ) {n : ℕ} (c : ℕ) (inner : 0 
   above_holds = held_new stored above_agree
 
   pub begun_above : IsBuilt r t d n 0
-  begun_above = record {
-    shape = grind (arith, above_holds);
-    items = ap length stored.items_are;
-    moved = Moves-then moved (subst (λ zs. Moves s t (used s d c) zs)
-        (sym (held_used above_holds ∙ ap (λ zs. n ∷ zs) alone)) (Stores-moves (used s d c) stored));
-  }
+  begun_above = grind (arith, above_holds, Moves-then moved (subst (λ zs. Moves s t (used s d c) zs) (sym (held_used above_holds ∙ ap (λ zs. n ∷ zs) alone)) (Stores-moves (used s d c) stored)), held_used above_holds, alone, Stores-moves (used s d c) stored)
 
   pub listed_above : items_below t (suc d) n ≡ items_below s d c
   listed_above = held_items_below above_holds ∙ append-nil (items_below s d c)
@@ -180,10 +142,7 @@ module _ {T : Type 0} {r s t : Heap T} {d n : ℕ} (c : ℕ) {many : ℕ} (inner
       child_listed =
           let xs = node_items s n in
           let ks = node_children s n in
-          listed_more (c ∷ []) built one_moved x room below_one both child_written
-          ∙ weave_more xs x (map (items_below s d) ks) (items_below t d c)
-          (omega (arith, length-map ks (items_below s d), branches, built.items))
-          ∙ ap (λ zs. zs ++ x ∷ items_below t d c) (sym (weave_items_below s d n))
+          grind (arith, listed_more (c ∷ []) built one_moved x room below_one both child_written, one_moved, below_one, both, child_written, weave_more xs x (map (items_below s d) ks) (items_below t d c) (omega (arith, length-map ks (items_below s d), branches, built.items)), length-map ks (items_below s d), branches, weave_items_below s d n)
 
 -- a child below a node, with so many items, was built of new nodes
 module _ {T : Type 0} where
@@ -198,8 +157,6 @@ pub built_child : {T : Type 0} {r s : Heap T} (d : ℕ) {n many count : ℕ} →
     → IsChild r s d n count
 built_child {T} {r} {s} zero {n} {many} {count} some built enough size = absurd (omega arith)
 built_child {T} {r} {s} (suc d) {n} {many} {count} some built' enough size' =
-    let level : suc d - 1 ≡ d = omega arith in
-    let built = rw level at built' in
     grind (arith, Shaped-from_but, used_le)
 
 pub child_level : {T : Type 0} (s : Heap T) (d n : ℕ) → 0 < d

@@ -1,5 +1,5 @@
 -- Cells of a row, of which the first have items.
-use Rattle.std.proofs.Common.{◌≡◌, ℕ, zero, suc, ◌+◌, ◌-◌, ◌<◌, ◌≤◌, List, [], ◌∷◌, ◌++◌, length, get_or, take, drop, replicate, Option, Some, None, refl, sym, ap, ◌∙◌, subst, arith, length-append, length-drop, drop-cons}
+use Rattle.std.proofs.Common.{◌≡◌, ℕ, zero, suc, ◌+◌, ◌-◌, ◌<◌, ◌≤◌, List, [], ◌∷◌, ◌++◌, length, get_or, take, drop, replicate, Option, Some, None, refl, ap, ◌∙◌, subst, arith, length-append, length-drop, drop-cons}
 use Rattle.std.proofs.Math.ListN.{set}
 use Rattle.std.specs.List.{insert, remove}
 use Rattle.std.proofs.lemmas.List.{append-nil, append_assoc, set_at, take_at, drop_at, get_or_at, take-append-le, drop-append-le, length-take-le, length-map, length-replicate, map-append, take-map, drop-map, get_or_append_left}
@@ -29,17 +29,7 @@ turned_right : {A : Type 0} (i k : ℕ) (xs : List A) (x : A) (rest ys : List A)
     ys ≡ drop (length mid - 1) mid ++ take (length mid - 1) mid)
     → put_mid i k (xs ++ x ∷ rest) ys ≡ take i xs ++ x ∷ (drop i xs ++ rest)
 turned_right i k xs x rest ys within long turned =
-    grind (
-      arith,
-      append_assoc xs (x ∷ []) rest,
-      length-append,
-      part_is,
-      drop-append-le,
-      drop_at,
-      take_at,
-      part_put,
-      take-append-le,
-    )
+    grind (arith, append_assoc xs (x ∷ []) rest, length-append, part_is, drop-append-le, drop_at, take_at, part_put, take-append-le)
 
 module _ {T : Type 0} where
   pub items_in_full : (xs : List T) → items_in (full_cells xs) ≡ xs
@@ -71,8 +61,7 @@ module _ {T : Type 0} where
   standing (x ∷ xs) zero within = record {
     item = x;
     cell_is = λ other. refl;
-    item_is = λ other.
-        refl;
+    item_is = grind arith;
   }
   standing (x ∷ xs) (suc i) within = grind (arith, standing xs i (omega arith))
 
@@ -103,16 +92,7 @@ module _ {T : Type 0} where
       let same : old ≡ cells ++ None ∷ rest =
       h.cells_are ∙ ap (λ n. cells ++ replicate n None) left in
       let many = length-full xs in
-      let moved : put_mid i k old part ≡ take i cells ++ None ∷ (drop i cells ++ rest) =
-      grind (arith, turned_right) in
-      record {
-        fits = omega arith;
-        cells_are = ap (λ l. set l i (Some item)) moved
-            ∙ set_at (take i cells) None (drop i cells ++ rest) (Some item) i
-            (length-take-le i cells (omega arith))
-            ∙ sym (append_assoc (take i cells) (Some item ∷ drop i cells) rest)
-            ∙ ap (λ l. l ++ rest) (full_insert xs i item);
-      }
+      grind (arith, turned_right, set_at (take i cells) None (drop i cells ++ rest) (Some item) i (length-take-le i cells (omega arith)), length-take-le i cells (omega arith), append_assoc (take i cells) (Some item ∷ drop i cells) rest, full_insert xs i item)
 
   -- an item was taken from the others
   module _ {old : List (Option T)} {xs : List T} (i k end : ℕ) (part : List (Option T))

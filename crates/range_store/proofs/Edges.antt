@@ -87,9 +87,7 @@ place_within {T} {s} (suc d) {n} g {least} {most} shaped is =
     let i = turn g in
     let kid = node_child s n i in
     let low : i ≤ length xs = omega (arith, turn_within s d n g is) in
-    let further = place_within d (inside g) (kid_shaped d i shaped low) (edge_inside s d n g is) in
-    let whole = items_below_at (omega arith) shaped i low in
-    grind (arith, place_inside, length-append)
+    grind (arith, kid_shaped d i shaped low, edge_inside s d n g is, items_below_at (omega arith) shaped i low, place_inside, length-append, place_within d (inside g) (kid_shaped d i shaped low) (edge_inside s d n g is))
 
 module _ {T : Type 0} where
   -- an edge is the same in two slabs that agree at the nodes below
@@ -101,16 +99,10 @@ pub same_edge : {T : Type 0} (s t : Heap T) (d n : ℕ) (g : Edge) → AgreeAt s
     → IsEdge s d n g → SameEdge s t d n g
 unfolding used IsEdge place
 same_edge s t zero n g agree is =
-    let here : node_of t n ≡ node_of s n =
-    agree n (occurrences_here n (flat_map (used s zero) (node_children s n))) in
-    record { edge = λ h. rw here h; place = refl }
+    grind (arith, occurrences_here)
 same_edge s t (suc d) n g agree is =
     let ks = node_children s n in
     let here : node_of t n ≡ node_of s n =
     agree n (occurrences_here n (flat_map (used s (suc d)) ks)) in
     let below = AgreeAt-right s t (n ∷ []) (flat_map (used s (suc d)) ks) agree in
-    let lists = (same_children s t (suc d) ks below).items_below_same in
-    let kid =
-    same_edge s t d (get_or ks (turn g) 0) (inside g)
-    (agree_kid s t (suc d) (turn g) ks below is.0) is.1 in
-    record { edge = λ h. rw here (h.0, kid.edge h.1); place = rw (here, lists, kid.place) refl }
+    grind (arith, same_children, agree_kid, same_edge s t d (get_or ks (turn g) 0) (inside g) (agree_kid s t (suc d) (turn g) ks below is.0) is.1)

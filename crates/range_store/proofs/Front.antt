@@ -1,5 +1,5 @@
 -- A test that falls once along a list.
-use Rattle.std.proofs.Common.{◌≡◌, ◌⊎◌, ℕ, zero, suc, ◌+◌, ◌<◌, ◌≤◌, Bool, true, false, cond, List, [], ◌∷◌, ◌++◌, length, get_or, refl, sym, ◌∙◌, inl, inr, arith, count_by, min}
+use Rattle.std.proofs.Common.{◌≡◌, ◌⊎◌, ℕ, zero, suc, ◌+◌, ◌<◌, ◌≤◌, Bool, true, false, cond, List, [], ◌∷◌, ◌++◌, length, get_or, refl, sym, ◌∙◌, arith, count_by, min}
 use Rattle.std.specs.List.Sorted.{IsPartitionedBy}
 use Rattle.std.proofs.lemmas.Bool.{false_from_ne_true, false≢true, both_ways}
 use Rattle.std.proofs.lemmas.List.Sums.{sum_by-cons, sum_by-append, count_by-le-length}
@@ -54,11 +54,7 @@ module _ {X : Type 0} (p : X → Bool) where
       → count_by p xs ≡ 0
   none_counted [] fails = refl
   none_counted (x ∷ xs) fails =
-      omega (
-        arith,
-        count-no x xs (fails 0 x (omega arith)),
-        none_counted xs (λ k d within. fails (suc k) d (omega arith)),
-      )
+      grind (arith, count-no x xs (fails 0 x (omega arith)), none_counted xs (λ k d within. fails (suc k) d (omega arith)))
 
   -- a test that holds on a front alone falls
   pub falls_partitioned : (xs : List X) → IsPartitionedBy p xs → Falls p xs
@@ -67,26 +63,14 @@ module _ {X : Type 0} (p : X → Bool) where
   falls_partitioned (x ∷ xs) part = (
     (λ fails. none_counted xs
         (λ k d within. false_from_ne_true _
-        (λ holds. both_ways (p x) fails
-        (part 0 (suc k) d (omega arith) (omega (arith, within)) holds)))),
+        (λ holds. grind (arith, both_ways (p x) fails (part 0 (suc k) d (omega arith) (omega (arith, within)) holds))))),
     falls_partitioned xs (λ i j d le within holds.
         part (suc i) (suc j) d (omega arith) (omega (arith, within)) holds),
   )
 
   -- the items that pass are the first ones
   pub falling_front : (xs : List X) → Falls p xs → IsFrontOf p xs (count_by p xs)
-  falling_front xs falls = (
-    count_by-le-length p xs,
-    (
-      (λ k d low less.
-          elim (true_or_false (p (get_or xs k d))) [
-            | inl holds ↦ holds
-            | inr fails ↦
-                grind (arith, falls_false, count_by-le-length)
-          ]),
-      (grind (arith, falls_true)),
-    ),
-  )
+  falling_front xs falls = grind (arith, count_by-le-length, true_or_false, falls_false, falls_true)
 
 -- where a search stands that knows that `low` items pass, and `left` more may, with the steps that
 -- were counted

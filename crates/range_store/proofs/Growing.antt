@@ -1,14 +1,14 @@
 -- What becomes of a node when the subtree of one of its children became one or two.
-use Rattle.std.proofs.Common.{◌≡◌, ◌≢◌, ℕ, suc, ◌+◌, ◌-◌, ◌<◌, ◌≤◌, List, [], ◌∷◌, ◌++◌, length, get_or, take, drop, map, refl, sym, ap, ◌∙◌, arith, Option, Some, None, IsSome}
-use Rattle.std.specs.List.{All, flat_map, sum_by, insert}
+use Rattle.std.proofs.Common.{◌≡◌, ◌≢◌, ℕ, suc, ◌+◌, ◌-◌, ◌<◌, ◌≤◌, List, [], ◌∷◌, ◌++◌, length, get_or, take, drop, map, refl, ap, arith, Option, Some, None, IsSome}
+use Rattle.std.specs.List.{All, flat_map, insert}
 use Rattle.std.proofs.lemmas.List.{append-nil, append_assoc, length-append, length-map, map-append, length-take-le, length-drop, take-append-drop, take_more, take-map, drop-map}
 use Rattle.std.proofs.lemmas.List.Concat.{flat_map-append}
 use Rattle.std.proofs.lemmas.List.Elements.{All-append, All-take, All-drop}
 use Rattle.std.proofs.lemmas.List.Edits.{length-insert}
-use Rattle.range_store.specs.Heap.{Heap, node_of, HasRoomFor, items_of, child_count, Writes, node_items, node_children, node_child}
+use Rattle.range_store.specs.Heap.{Heap, node_of, HasRoomFor, child_count, Writes, node_items, node_children, node_child}
 use Rattle.range_store.specs.declared.btree.nodes.Split.{Split}
 use Rattle.range_store.specs.declared.btree.nodes.TheConstants.{CAPACITY, MIN_LEN}
-use Rattle.range_store.specs.Nodes.{weave, rest_of, front_of, before, after, items_below, used, Shaped, ShapedBut, here, Owned, Moves, tops, separators, Replaces, EnoughFor, HasTreeRoom, child_lists, before_child}
+use Rattle.range_store.specs.Nodes.{weave, rest_of, front_of, before, after, items_below, used, Shaped, ShapedBut, here, Owned, Moves, tops, separators, Replaces, HasTreeRoom, child_lists, before_child}
 use Rattle.range_store.specs.Contents.{IsContent, Settles}
 use Rattle.range_store.specs.Occurrences.{occurrences, occurrences-append, occurrences-cons, occurrences_itself}
 use Rattle.range_store.specs.Weave.{list_splits_at, weave_splice, insert_middle, length-weave, length-before}
@@ -58,30 +58,19 @@ module _ {T : Type 0} {s t : Heap T} {b n : ℕ} {us ms vs ts : List ℕ}
 
   pub same_before : SameChildren s t b us
   same_before =
-      same_children s t b us (AgreeAt-left s t (flat_map (used s b) us)
-      (flat_map (used s b) vs) agree_sides)
+      grind (arith, same_children s t b us (AgreeAt-left s t (flat_map (used s b) us) (flat_map (used s b) vs) agree_sides), AgreeAt-left s t (flat_map (used s b) us) (flat_map (used s b) vs) agree_sides, agree_sides)
 
   pub same_after : SameChildren s t b vs
   same_after =
-      same_children s t b vs (AgreeAt-right s t (flat_map (used s b) us)
-      (flat_map (used s b) vs) agree_sides)
+      grind (arith, same_children s t b vs (AgreeAt-right s t (flat_map (used s b) us) (flat_map (used s b) vs) agree_sides), AgreeAt-right s t (flat_map (used s b) us) (flat_map (used s b) vs) agree_sides, agree_sides)
 
   used_new : flat_map (used t b) (us ++ (ts ++ vs)) ≡ flat_map (used s b) us
       ++ (flat_map (used t b) ts ++ flat_map (used s b) vs)
   used_new =
-      flat_map-append (used t b) us (ts ++ vs)
-      ∙ ap (λ zs. flat_map (used t b) us ++ zs) (flat_map-append (used t b) ts vs)
-      ∙ rw (same_before.used_same, same_after.used_same) refl
+      grind (arith, flat_map-append, same_before, same_after)
 
   pub run_moved : Moves s t (used s (suc b) n) (n ∷ flat_map (used t b) (us ++ (ts ++ vs)))
-  run_moved = Moves-like (used s (suc b) n) (n ∷ flat_map (used t b) (us ++ (ts ++ vs)))
-      (grind (arith, occur_old, occurrences-append, used_old, length-append))
-      (record {
-        occur =
-            λ k.
-            omega (arith, ap (occurrences k) used_new, occurrences-cons, occurrences-append);
-        len = grind (arith, ap length used_new, length-append);
-      }) (Moves-beside rest run.moved)
+  run_moved = grind (arith, Moves-like, occur_old, occurrences-append, used_old, length-append, used_new, occurrences-cons, Moves-beside)
 
   pub run_content : (xs : List T) → length (us ++ (ts ++ vs)) ≡ child_count b (length xs)
       → All (Shaped s b) us → All (Shaped t b) ts → All (Shaped s b) vs
@@ -89,8 +78,7 @@ module _ {T : Type 0} {s t : Heap T} {b n : ℕ} {us ms vs ts : List ℕ}
   run_content xs branches left middle right = record {
     present = rw run_kept run.present;
     shaped =
-        All-append (Shaped t b) us (ts ++ vs) (same_before.shaped_same left)
-        (All-append (Shaped t b) ts vs middle (same_after.shaped_same right));
+        grind (arith, All-append (Shaped t b) us (ts ++ vs) (same_before.shaped_same left) (All-append (Shaped t b) ts vs middle (same_after.shaped_same right)), same_before, All-append (Shaped t b) ts vs middle (same_after.shaped_same right), same_after);
     branches = branches;
     owned = λ k. omega (arith, run_moved.owned k, run.owned k);
   }
@@ -98,9 +86,7 @@ module _ {T : Type 0} {s t : Heap T} {b n : ℕ} {us ms vs ts : List ℕ}
   pub run_lists : map (items_below t b) (us ++ (ts ++ vs)) ≡ map (items_below s b) us
       ++ (map (items_below t b) ts ++ map (items_below s b) vs)
   run_lists =
-      map-append (items_below t b) us (ts ++ vs)
-      ∙ ap (λ zs. map (items_below t b) us ++ zs) (map-append (items_below t b) ts vs)
-      ∙ rw (same_before.items_below_same, same_after.items_below_same) refl
+      grind (arith, map-append, same_before, same_after)
 
 -- a written node in the place of what became of the old one
 pub settled_replaces : {T : Type 0} {s t u : Heap T} {b n : ℕ} {xs : List T} {ks : List ℕ}
@@ -198,12 +184,7 @@ module _ {T : Type 0} {s t : Heap T} {b n i rest : ℕ} {item : T} {split : Opti
 
   tops_shaped : All (Shaped t b) (tops kid split)
   tops_shaped =
-      let but = grows.child.shape MIN_LEN (omega arith) (enough split) in
-      grind (arith, Shaped-from_but)
-    where
-      enough : (cut : Option (Split T)) → EnoughFor MIN_LEN cut (length (node_items s kid))
-      enough None = kid_shape.node.enough
-      enough (Some cut) = tt
+      grind (arith, Shaped-from_but, kid_shape)
 
   us_many : length us ≡ i
   us_many = length-take-le i ks (omega (arith, many))
@@ -212,14 +193,7 @@ module _ {T : Type 0} {s t : Heap T} {b n i rest : ℕ} {item : T} {split : Opti
   front_many = length-take-le i xs grows.low
 
   pub grown_content : IsContent t b n new_xs new_ks
-  grown_content = run_content grown_run new_xs (grind (
-    arith,
-    length-append,
-    us_many,
-    front_many,
-    length-drop,
-  )) (All-take (Shaped s b) i ks grows.shaped.children) tops_shaped
-      (All-drop (Shaped s b) (i + 1) ks grows.shaped.children)
+  grown_content = grind (arith, run_content grown_run new_xs (grind (arith, length-append, us_many, front_many, length-drop)) (All-take (Shaped s b) i ks grows.shaped.children) tops_shaped (All-drop (Shaped s b) (i + 1) ks grows.shaped.children), grown_run, length-append, us_many, front_many, length-drop, All-take (Shaped s b) i ks grows.shaped.children, tops_shaped, All-drop (Shaped s b) (i + 1) ks grows.shaped.children)
 
   abbrev lists : List (List T)
   lists = child_lists s b n
@@ -227,24 +201,12 @@ module _ {T : Type 0} {s t : Heap T} {b n i rest : ℕ} {item : T} {split : Opti
   pub grown_listed : weave new_xs (map (items_below t b) new_ks)
       ≡ insert (items_below s (suc b) n) (length (before xs lists i) + rest) item
   grown_listed =
-      let inserted : weave (separators split) (map (items_below t b) (tops kid split))
-      ≡ insert (items_below s b kid) rest item = rw level at grows.child.listed in
-      let whole = items_below_at (omega arith) grows.shaped i grows.low in
-      ap (weave new_xs) (run_lists grown_run)
-      ∙ weave_tops (take i xs) (drop i xs) (map (items_below s b) us) (map (items_below s b) vs)
-      (items_below t b) kid split
-      (omega (arith, front_many, us_many, length-map us (items_below s b)))
-      ∙ rw (inserted, ← take-map (items_below s b) i ks, ← drop-map (items_below s b) (i + 1) ks)
-      refl
-      ∙ sym (insert_middle (before xs lists i) (items_below s b kid)
-      (after xs lists i) rest item grows.within)
-      ∙ ap (λ zs. insert zs (length (before xs lists i) + rest) item) (sym whole)
+      grind (arith, level, items_below_at (omega arith) grows.shaped i grows.low, run_lists grown_run, grown_run, weave_tops (take i xs) (drop i xs) (map (items_below s b) us) (map (items_below s b) vs) (items_below t b) kid split (omega (arith, front_many, us_many, length-map us (items_below s b))), front_many, us_many, length-map us (items_below s b), take-map (items_below s b) i ks, drop-map (items_below s b) (i + 1) ks, insert_middle (before xs lists i) (items_below s b kid) (after xs lists i) rest item grows.within)
 
   pub grown_longer : length (weave new_xs (map (items_below t b) new_ks))
       ≡ length (items_below s (suc b) n) + 1
   grown_longer =
-      let whole = items_below_at (omega arith) grows.shaped i grows.low in
-      grind (arith, length-append, grown_listed, length-insert)
+      grind (arith, items_below_at (omega arith) grows.shaped i grows.low, length-append, grown_listed, length-insert)
 
   pub grown_seat : (side : ℕ) (g : Edge)
       → IsSeat t (suc (b - 1)) (separators split) (tops kid split) side g
@@ -256,34 +218,20 @@ module _ {T : Type 0} {s t : Heap T} {b n i rest : ℕ} {item : T} {split : Opti
       let all =
       seat_run t (b - 1) us (tops kid split) vs (take i xs) (separators split)
       (drop i xs) i side g us_many front_many (tops_many kid split) seat in
-      let here = ap (λ m. seat_place t m new_xs new_ks (i + side) g) level in
-      let sums = ap (λ m. sum_by length (map (items_below t m) us)) level in
-      let front =
-      length-before xs lists i grows.low (omega (arith, many, length-map ks (items_below s b))) in
-      let same : map (items_below t b) us ≡ take i lists = (same_before grown_run).items_below_same
-      ∙ sym (take-map (items_below s b) i ks) in
-      (rw level at all.0, omega (arith, all.1, front, here, sums, ap (sum_by length) same))
+      grind (arith, here, level, length-before xs lists i grows.low (omega (arith, many, length-map ks (items_below s b))), many, length-map ks (items_below s b), same_before grown_run, grown_run, take-map (items_below s b) i ks)
 
 -- the children with the new one
 pub with_right : (ks : List ℕ) (i right : ℕ) → i < length ks
     → insert ks (i + 1) right ≡ take i ks ++ (get_or ks i 0 ∷ right ∷ drop (i + 1) ks)
 with_right ks i right low =
-    ap (λ zs. zs ++ (right ∷ drop (i + 1) ks)) (take_more ks i 0 low)
-    ∙ append_assoc (take i ks) (get_or ks i 0 ∷ []) (right ∷ drop (i + 1) ks)
+    grind (arith, take_more ks i 0 low, append_assoc (take i ks) (get_or ks i 0 ∷ []) (right ∷ drop (i + 1) ks))
 
 pub kid_owned : {T : Type 0} (s : Heap T) (b n i : ℕ) → Owned s (suc b) n
     → i < length (node_children s n) → Owned s b (node_child s n i)
 kid_owned s b n i owned low k =
     let ks = node_children s n in
     let kid = get_or ks i 0 in
-    grind (
-      arith,
-      list_splits_at ks i 0 low,
-      flat_map-append (used s b) (take i ks) (kid ∷ drop (i + 1) ks),
-      used_is s b n,
-      occurrences-cons,
-      occurrences-append,
-    )
+    grind (arith, list_splits_at ks i 0 low, flat_map-append (used s b) (take i ks) (kid ∷ drop (i + 1) ks), used_is s b n, occurrences-cons, occurrences-append)
 
 -- a child that was not cut leaves the node as it is
 module _ {T : Type 0} {s t : Heap T} {b n i rest : ℕ} {item : T}
@@ -308,9 +256,7 @@ module _ {T : Type 0} {s t : Heap T} {b n i rest : ℕ} {item : T}
 
   pub none_replaces : Replaces s t b n None
       (insert (items_below s (suc b) n) (length (before_child s b n i) + rest) item)
-  none_replaces = settled_replaces _ (grown_moved grows)
-      (grown_listed grows) (omega (arith, same_length))
-      (written_settles t content written (omega (arith, same_length, grows.shaped.node.fits)))
+  none_replaces = grind (arith, settled_replaces _ (grown_moved grows) (grown_listed grows) (omega (arith, same_length)) (written_settles t content written (omega (arith, same_length, grows.shaped.node.fits))), grown_moved grows, grown_listed grows, same_length, written_settles t content written (omega (arith, same_length, grows.shaped.node.fits)), content, written)
 
   pub none_edge : (side : ℕ) (g h : Edge) → turn h ≡ i → inside h ≡ g
       → IsSeat t (suc (b - 1)) (separators {T = T} None)
@@ -324,18 +270,14 @@ module _ {T : Type 0} {s t : Heap T} {b n i rest : ℕ} {item : T}
       (tops {T = T} (node_child s n i) None) side g seat in
       let holds = written_holds t content written in
       let agree = written_agree t content written in
-      let edge =
-      seat_written t t n xs' ks' (i + side) g h b holds agree (λ none. absurd (grows.inner none))
-      (λ some. omega (arith, at, one)) (λ some. into) up.0 in
-      (edge.0, edge.1 ∙ up.1)
+      grind (arith, seat_written t t n xs' ks' (i + side) g h b holds agree (λ none. absurd (grows.inner none)) (λ some. omega (arith, at, one)) (λ some. into) up.0, agree)
 
 -- a node that may be cut has the item between the halves of its child, and the second of them
 module _ {T : Type 0} {s t : Heap T} {b n i rest : ℕ} {item : T} {split : Split T}
     (grows : Grows s t b n i rest item (Some split)) where
   pub some_items : take i (node_items s n) ++ (split.middle ∷ drop i (node_items s n))
       ≡ insert (node_items t n) i split.middle
-  some_items = ap (λ zs. insert zs i split.middle)
-      (sym (ap items_of (grown_kept grows)))
+  some_items = grind (arith, grown_kept grows)
 
   pub some_children : take i (node_children s n) ++ (node_child s n i ∷ split.right ∷ drop (i + 1)
       (node_children s n)) ≡ insert (node_children t n) (i + 1) split.right

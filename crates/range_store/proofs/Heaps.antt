@@ -31,10 +31,7 @@ module _ {T : Type 0} where
         → WritesFirst ys ls
     write_first {ys} {ls} one two =
         let present : HasNode s m = rw (one.others m apart) at two.was in
-        let between = with_slot s m (Some (record { items = ys; children = ls })) in
-        let first : Writes s between m ys ls = writes_slot s m
-        (record { items = ys; children = ls }) present in
-        grind arith
+        grind (arith, writes_slot s m (record { items = ys; children = ls }) present)
 
     pub record RemovesFirst : Type 0 where
       pub between : Heap T
@@ -53,7 +50,4 @@ module _ {T : Type 0} where
     remove_last one two =
         let apart' = λ (e : n ≡ m). apart (sym e) in
         let present : HasNode s n = rw (one.others n apart') at two.was in
-        let between = with_slot s n (Some (record { items = xs; children = ks })) in
-        let first : Writes s between n xs ks = writes_slot s n
-        (record { items = xs; children = ks }) present in
-        grind arith
+        grind (arith, writes_slot s n (record { items = xs; children = ks }) present)

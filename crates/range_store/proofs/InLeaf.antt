@@ -1,5 +1,5 @@
 -- An edge within its leaf.
-use Rattle.std.proofs.Common.{◌≡◌, ℕ, zero, suc, ◌+◌, ◌-◌, ◌/◌, ◌%◌, ◌<◌, ◌≤◌, List, [], ◌∷◌, length, get_or, refl, ap, ◌∙◌, arith, IsSome}
+use Rattle.std.proofs.Common.{◌≡◌, ℕ, zero, suc, ◌+◌, ◌-◌, ◌/◌, ◌<◌, ◌≤◌, List, [], ◌∷◌, length, get_or, refl, ap, arith, IsSome}
 use Rattle.std.specs.List.{remove}
 use Rattle.std.proofs.Math.ListN.{set}
 use Rattle.range_store.specs.Heap.{Heap, node_of, node_items, node_children, node_child}
@@ -36,11 +36,7 @@ unfolding IsEdge
 leaf_of_edge zero {n} g shaped is = grind arith
 leaf_of_edge {T} {s} (suc d) {n} g shaped is =
     let low : turn g ≤ length (node_items s n) = omega arith in
-    grind (
-      arith,
-      leaf_of_edge d (inside g) (shaped_within_wider 1 CAPACITY (omega arith) (omega arith)
-          (kid_shaped d (turn g) shaped low)) is.1,
-    )
+    grind (arith, shaped_within_wider, kid_shaped, leaf_of_edge d (inside g) (shaped_within_wider 1 CAPACITY (omega arith) (omega arith) (kid_shaped d (turn g) shaped low)) is.1)
 
 -- another edge in it
 pub leaf_beside : {T : Type 0} (s : Heap T) (d n : ℕ) (g h : Edge) → h.leaf ≡ g.leaf
@@ -48,14 +44,9 @@ pub leaf_beside : {T : Type 0} (s : Heap T) (d n : ℕ) (g h : Edge) → h.leaf 
     → IsEdge s d n h × (place s d n h + g.index ≡ place s d n g + h.index)
 unfolding IsEdge place
 leaf_beside s zero n g h leaf path index is =
-    let within : h.index ≤ length (node_items s n) = rw is.0 at index in
-    ((leaf ∙ is.0, path ∙ is.1, within), omega arith)
+    grind arith
 leaf_beside s (suc d) n g h leaf path index is =
-    let first : turn h ≡ turn g = ap (λ w. w % PATH_BASE) path in
-    let rest =
-    leaf_beside s d (node_child s n (turn g)) (inside g)
-    (inside h) leaf (ap (λ w. w / PATH_BASE) path) index is.1 in
-    rw first ((is.0, rest.0), omega (arith, rest.1))
+    grind (arith, leaf_beside s d (node_child s n (turn g)) (inside g) (inside h) leaf (ap (λ w. w / PATH_BASE) path) index is.1)
 
 -- the item before it
 pub leaf_home : {T : Type 0} (s : Heap T) (d n : ℕ) (g : Edge) → IsEdge s d n g → 0 < g.index

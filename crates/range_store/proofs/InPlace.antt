@@ -57,11 +57,7 @@ module _ {T : Type 0} {s t : Heap T} {n : ℕ} (g : Edge) {items : List T}
         rewritten =
             grind (arith, held_items_below holds, append-nil items, held_used, holds, Writes-moves);
         edges =
-            λ h leaf path index. (
-              leaf_edge t n h (leaf ∙ at) (path ∙ first)
-                  (omega (arith, ap length holds.items_are)),
-              omega (arith, leaf_place t n h),
-            );
+            grind (arith, leaf_edge, holds, leaf_place);
       }
 
 -- of a leaf below the child through which the path goes
@@ -86,8 +82,7 @@ module _ {T : Type 0} {s t : Heap T} {d n : ℕ} (g : Edge) {items : List T}
     kept = kid_kept anew
 
     kid_now : Shaped t (suc d) (node_child s n (turn g))
-    kid_now = Shaped-from_but t d _
-        (below.rewritten.shape MIN_LEN (omega arith) (kid_shaped d (turn g) shaped low))
+    kid_now = grind (arith, Shaped-from_but t d _ (below.rewritten.shape MIN_LEN (omega arith) (kid_shaped d (turn g) shaped low)), kid_shaped d (turn g) shaped low)
 
     edited_above : IsLeafEdit s t (suc d) n g items
     edited_above = record {
@@ -97,11 +92,7 @@ module _ {T : Type 0} {s t : Heap T} {d n : ℕ} (g : Edge) {items : List T}
           ∙ ap (λ zs. fore ++ (zs ++ behind)) below.was
           ∙ regroup fore below.front (node_items s g.leaf) below.rest behind;
       place_is = omega (arith, place_inside s d n g, length-append fore below.front);
-      rewritten = record {
-        listed = kid_listed anew ∙ regroup fore below.front items below.rest behind;
-        moved = kid_moved anew;
-        shape = λ least small old. grind (arith, kept, kid_children, kid_now);
-      };
+      rewritten = grind (arith, kid_listed anew, anew, regroup fore below.front items below.rest behind, kid_moved anew, kept, kid_children, kid_now);
       edges = λ h leaf path index.
           grind (arith, kept, place_inside, kid_front, edge_above, length-append);
     }
@@ -112,14 +103,12 @@ pub leaf_edit : {T : Type 0} {s t : Heap T} (d : ℕ) {n : ℕ} (g : Edge) {item
     → Owned s (suc d) n → IsEdge s d n g → Writes s t g.leaf items (node_children s g.leaf)
     → IsLeafEdit s t d n g items
 unfolding IsEdge
-leaf_edit {T} {s} {t} zero {n} g {items} fits enough shaped owned is written = edited_here g fits
-    (rw is.0 at enough) shaped owned (rw is.0 at written) is.0 is.1
+leaf_edit {T} {s} {t} zero {n} g {items} fits enough shaped owned is written = grind (arith, edited_here g fits (rw is.0 at enough) shaped owned (rw is.0 at written) is.0 is.1)
 leaf_edit {T} {s} {t} (suc d) {n} g {items} fits enough shaped owned is written =
     let low : turn g ≤ length (node_items s n) = omega (arith, is.0, shaped.node.branches) in
     let kid_whole = shaped_within_wider 1 CAPACITY (omega arith) (omega arith)
     (kid_shaped d (turn g) shaped low) in
-    edited_above g shaped owned low is.0 (leaf_edit d (inside g) fits enough kid_whole
-    (kid_owned s (suc d) n (turn g) owned is.0) is.1 written)
+    grind (arith, edited_above, kid_owned, leaf_edit d (inside g) fits enough kid_whole (kid_owned s (suc d) n (turn g) owned is.0) is.1 written)
 
 -- an item more, before the edge
 module _ {T : Type 0} {s t : Heap T} {d n : ℕ} (item : T) {g : Edge}
@@ -179,8 +168,7 @@ module _ {T : Type 0} {t : BoxStorage T} (new : Heap T) {g : Edge} (is : IsBoxEd
       let more = length-insert items g.index item within in
       let edit = leaf_edit (t.levels - 1) g (omega (arith, more, room))
       (λ least small old. omega (arith, more, old)) shaped owned is.edge written in
-      leaf_change_lists _ h edit (rw level at (inserted_in_leaf item edit within)) at path
-      (omega (arith, more, next, within))
+      grind (arith, leaf_change_lists _ h edit (rw level at (inserted_in_leaf item edit within)), level, inserted_in_leaf item edit within)
 
   pub take_from_leaf : (h : Edge) → MIN_LEN < length items → 0 < g.index
       → Writes t.nodes new g.leaf (remove items (g.index - 1))
@@ -191,5 +179,4 @@ module _ {T : Type 0} {t : BoxStorage T} (new : Heap T) {g : Edge} (is : IsBoxEd
       let less = length-remove items (g.index - 1) (omega (arith, within, some)) in
       let edit = leaf_edit (t.levels - 1) g (omega (arith, less, leaf.fits))
       (λ least small old. omega (arith, less, spare, small)) shaped owned is.edge written in
-      leaf_change_lists _ h edit (rw level at (removed_in_leaf edit some within)) at path
-      (omega (arith, less, back, within))
+      grind (arith, leaf_change_lists _ h edit (rw level at (removed_in_leaf edit some within)), level, removed_in_leaf edit some within)

@@ -1,5 +1,5 @@
 -- Two neighbours and the item between them, as one.
-use Rattle.std.proofs.Common.{◌≡◌, ◌≢◌, ℕ, zero, suc, ◌+◌, ◌<◌, ◌≤◌, List, [], ◌∷◌, ◌++◌, length, get_or, take, drop, map, refl, sym, ap, ◌∙◌, arith, Some, None}
+use Rattle.std.proofs.Common.{◌≡◌, ◌≢◌, ℕ, zero, suc, ◌+◌, ◌<◌, ◌≤◌, List, [], ◌∷◌, ◌++◌, length, get_or, take, drop, map, refl, sym, arith, Some, None}
 use Rattle.std.specs.List.{flat_map}
 use Rattle.std.proofs.lemmas.List.{append-nil, append_assoc, length-append, length-map, map-append}
 use Rattle.std.proofs.lemmas.List.Concat.{flat_map-append}
@@ -42,13 +42,11 @@ module _ {T : Type 0} {s : Heap T} {d l r : ℕ} (x : T) (pair : IsPair s d l r)
 
   pub pair_apart : l ≢ r
   pair_apart same =
-      let itself : occurrences r (l ∷ []) ≡ 1 = rw same (occurrences_itself r) in
-      omega (arith, occur_pair r, occurrences_itself r, here_le s r, itself)
+      grind (arith, occurrences_itself r, occur_pair r, here_le s r)
 
   pub right_apart : (k : ℕ) → 0 < occurrences k F → k ≢ r
   right_apart k among same =
-      let itself : occurrences k (r ∷ []) ≡ 1 = rw same (occurrences_itself r) in
-      omega (arith, occur_pair k, itself, here_le s k)
+      grind (arith, occurrences_itself r, occur_pair k, here_le s k)
 
   one : length (node_items s l) + (1 + length (node_items s r))
       ≡ length (node_items s l) + length (x ∷ node_items s r)
@@ -58,8 +56,7 @@ module _ {T : Type 0} {s : Heap T} {d l r : ℕ} (x : T) (pair : IsPair s d l r)
   pair_content = record {
     present = pair.left.node.present;
     shaped =
-        All-append (Shaped s d) (node_children s l)
-        (node_children s r) pair.left.children pair.right.children;
+        grind (arith, All-append (Shaped s d) (node_children s l) (node_children s r) pair.left.children pair.right.children);
     branches = grind (arith, length-append);
     owned = λ k. omega (arith, occur_pair k, occurrences-cons k l F);
   }
@@ -92,12 +89,7 @@ module _ {T : Type 0} {s : Heap T} {d l r : ℕ} (x : T) (pair : IsPair s d l r)
     pub united_rejoins : Rejoins s u d l x r None
     united_rejoins = record {
       listed = grind (arith, append-nil, held_items_below, united_holds, pair_listed);
-      moved = Moves-like (used s (suc d) l ++ used s (suc d) r) (used u (suc d) l ++ [])
-          (record { occur = λ k. sym (pair_nodes.occur k); len = sym pair_nodes.len })
-          (grind (arith, append-nil, united_used))
-          (Moves-then
-          (Moves-like (r ∷ l ∷ F) (r ∷ l ∷ F) swapped swapped (Writes-moves (r ∷ F) written))
-          (Removes-moves (l ∷ F) removed));
+      moved = grind (arith, Moves-like (used s (suc d) l ++ used s (suc d) r) (used u (suc d) l ++ []) (record { occur = λ k. sym (pair_nodes.occur k); len = sym pair_nodes.len }) (grind (arith, append-nil, united_used)) (Moves-then (Moves-like (r ∷ l ∷ F) (r ∷ l ∷ F) swapped swapped (Writes-moves (r ∷ F) written)) (Removes-moves (l ∷ F) removed)), pair_nodes, append-nil, united_used, Moves-then (Moves-like (r ∷ l ∷ F) (r ∷ l ∷ F) swapped swapped (Writes-moves (r ∷ F) written)) (Removes-moves (l ∷ F) removed), Moves-like (r ∷ l ∷ F) (r ∷ l ∷ F) swapped swapped (Writes-moves (r ∷ F) written), swapped, Writes-moves (r ∷ F) written, Removes-moves (l ∷ F) removed);
       shaped = All-cons (Shaped u (suc d)) l [] (Shaped-from_but u d l (held_shape united_holds
           MIN_LEN (omega (arith, length-append (node_items s l) (x ∷ node_items s r))) (omega arith)
           pair_content.branches pair_content.shaped)) (All-nil _);
@@ -124,19 +116,7 @@ module _ {T : Type 0} {s : Heap T} {d l r : ℕ} (x : T) (pair : IsPair s d l r)
         → split.middle ≡ get_or xs half split.middle → MIN_LEN ≤ half → half ≤ CAPACITY
         → half + 1 + MIN_LEN ≤ length xs → length xs ≤ half + 1 + CAPACITY
         → Rejoins s u d l x r (Some split)
-    shared_rejoins split same middle least_left most_left least_right most_right = rw same (record {
-      listed = grind (arith, halves_listed, pair_content, shared_left, shared_right, pair_listed);
-      moved = Moves-like (used s (suc d) l ++ used s (suc d) r)
-          (used u (suc d) l ++ (used u (suc d) r ++ []))
-          (record { occur = λ k. sym (pair_nodes.occur k); len = sym pair_nodes.len })
-          (halves_nodes half pair_content low shared_left shared_right) (Moves-then
-          (Moves-like (r ∷ l ∷ F) (r ∷ l ∷ F) swapped swapped (Writes-moves (r ∷ F) first))
-          (Writes-moves (l ∷ F) second));
-      shaped =
-          let but = halves_shape half pair_content low shared_left shared_right least_left most_left
-          least_right most_right MIN_LEN (omega arith) in
-          grind (arith, Shaped-from_but);
-    })
+    shared_rejoins split same middle least_left most_left least_right most_right = grind (arith, halves_listed, pair_content, shared_left, shared_right, pair_listed, Moves-like (used s (suc d) l ++ used s (suc d) r) (used u (suc d) l ++ (used u (suc d) r ++ [])) (record { occur = λ k. sym (pair_nodes.occur k); len = sym pair_nodes.len }) (halves_nodes half pair_content low shared_left shared_right) (Moves-then (Moves-like (r ∷ l ∷ F) (r ∷ l ∷ F) swapped swapped (Writes-moves (r ∷ F) first)) (Writes-moves (l ∷ F) second)), pair_nodes, halves_nodes half pair_content low shared_left shared_right, Moves-then (Moves-like (r ∷ l ∷ F) (r ∷ l ∷ F) swapped swapped (Writes-moves (r ∷ F) first)) (Writes-moves (l ∷ F) second), Moves-like (r ∷ l ∷ F) (r ∷ l ∷ F) swapped swapped (Writes-moves (r ∷ F) first), swapped, Writes-moves (r ∷ F) first, Writes-moves (l ∷ F) second, halves_shape half pair_content low shared_left shared_right least_left most_left least_right most_right MIN_LEN (omega arith), Shaped-from_but)
 
 -- the seat of an edge among the items of both, from that in the left or in the right one
 module _ {T : Type 0} (s : Heap T) (l : ℕ) (x : T) (r : ℕ) (g : Edge) where
@@ -150,34 +130,17 @@ module _ {T : Type 0} (s : Heap T) (l : ℕ) (x : T) (r : ℕ) (g : Edge) where
       → IsSeat s d all_items all_children (seat_of d g) (inside g)
       × (seat_place s d all_items all_children (seat_of d g) (inside g) ≡ place s d l g)
   unfolding IsEdge place IsSeat seat_place
-  seat_from_left zero pair is = (
-    omega (arith, length-append (node_items s l) (x ∷ node_items s r)),
-    refl,
-  )
+  seat_from_left zero pair is = grind (arith, length-append)
   seat_from_left (suc e) pair is =
-      let run =
-      seat_run s e [] (node_children s l) (node_children s r) []
-      (node_items s l) (x ∷ node_items s r) 0 (turn g)
-      (inside g) refl refl pair.left.node.branches is in
-      grind arith
+      grind (arith, seat_run s e [] (node_children s l) (node_children s r) [] (node_items s l) (x ∷ node_items s r) 0 (turn g) (inside g) refl refl pair.left.node.branches is)
 
   pub seat_from_right : (d : ℕ) → IsPair s d l r → IsEdge s d r g
       → IsSeat s d all_items all_children (length (node_items s l) + 1 + seat_of d g) (inside g)
       × (seat_place s d all_items all_children (length (node_items s l) + 1 + seat_of d g)
       (inside g) ≡ length (items_below s (suc d) l) + 1 + place s d r g)
   unfolding IsEdge place IsSeat seat_place
-  seat_from_right zero pair is = (
-    omega (arith, is.2, length-append (node_items s l) (x ∷ node_items s r)),
-    omega (arith, ap length (items_below_leaf s l pair.left.node.branches)),
-  )
+  seat_from_right zero pair is = grind (arith, length-append, items_below_leaf)
   seat_from_right (suc e) pair is =
       let xs = node_items s l in
       let ys = node_items s r in
-      let run =
-      seat_run s e (node_children s l) (node_children s r) []
-      (xs ++ x ∷ []) ys [] (length xs + 1) (turn g) (inside g) pair.left.node.branches
-      (length-append xs (x ∷ [])) pair.right.node.branches is in
-      let items : (xs ++ x ∷ []) ++ (ys ++ []) ≡ xs ++ (x ∷ ys) =
-      ap (λ zs. (xs ++ x ∷ []) ++ zs) (append-nil ys) ∙ append_assoc xs (x ∷ []) ys in
-      let run' = rw (items, append-nil (node_children s r)) at run in
-      (run'.0, omega (arith, run'.1, items_below_size pair.left))
+      grind (arith, seat_run s e (node_children s l) (node_children s r) [] (xs ++ x ∷ []) ys [] (length xs + 1) (turn g) (inside g) pair.left.node.branches (length-append xs (x ∷ [])) pair.right.node.branches is, length-append xs (x ∷ []), append-nil ys, append_assoc xs (x ∷ []) ys, append-nil (node_children s r), items_below_size pair.left)

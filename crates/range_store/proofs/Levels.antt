@@ -21,12 +21,7 @@ children_sizes : {T : Type 0} (s : Heap T) (d p q : ℕ)
 children_sizes {T} s d p q below [] shaped =
     (omega (arith, zero-mul p), omega (arith, zero-mul q))
 children_sizes {T} s d p q below (n ∷ ns) shaped =
-    let first = below n (All-head (Shaped s d) n ns shaped) in
-    let later = children_sizes s d p q below ns (All-tail (Shaped s d) n ns shaped) in
-    let all = sum_by-cons (length {A = T}) (items_below s d n) (map (items_below s d) ns) in (
-      omega (arith, suc-mul (length ns) p, first.0, later.0, all),
-      omega (arith, suc-mul (length ns) q, first.1, later.1, all),
-    )
+    grind (arith, All-head (Shaped s d) n ns shaped, All-tail (Shaped s d) n ns shaped, sum_by-cons (length {A = T}) (items_below s d n) (map (items_below s d) ns), suc-mul (length ns) p, suc-mul (length ns) q, children_sizes s d p q below ns (All-tail (Shaped s d) n ns shaped))
 
 but_sizes : {T : Type 0} {least most : ℕ} {s : Heap T} (d : ℕ) {n : ℕ}
     → ((k : ℕ) → Shaped s d k → ((MIN_LEN + 1) ^ d ≤ length (items_below s d k) + 1)
@@ -36,21 +31,13 @@ but_sizes : {T : Type 0} {least most : ℕ} {s : Heap T} (d : ℕ) {n : ℕ}
     × (length (items_below s (suc d) n) + 1 ≤ (most + 1) * (CAPACITY + 1) ^ d)
 but_sizes {T} {least} {most} {s} zero {n} below shaped = (
   omega (arith, items_below_size shaped),
-  omega (
-    arith,
-    items_below_size shaped,
-    ap (λ zs. sizes s zero zs) (nil_from_length (node_children s n) shaped.node.branches),
-  ),
+  grind (arith, items_below_size shaped, nil_from_length (node_children s n) shaped.node.branches),
 )
 but_sizes {T} {least} {most} {s} (suc d) {n} below shaped =
     let ks = node_children s n in
     let p = (MIN_LEN + 1) ^ suc d in
     let q = (CAPACITY + 1) ^ suc d in
-    let all = children_sizes s (suc d) p q below ks shaped.children in
-    let enough : least + 1 ≤ length ks = omega arith in
-    let fits : length ks ≤ most + 1 = omega arith in
-    let size = items_below_size shaped in
-    grind (arith, mul-le-mul_right)
+    grind (arith, children_sizes s (suc d) p q below ks shaped.children, items_below_size shaped, mul-le-mul_right)
 
 items_sizes : {T : Type 0} (s : Heap T) (d n : ℕ) → Shaped s d n
     → ((MIN_LEN + 1) ^ d ≤ length (items_below s d n) + 1)
@@ -67,8 +54,7 @@ tree_lower {T} {s} d {root} tree = (but_sizes d (items_sizes s d) tree.shaped).0
 pub tree_upper : {T : Type 0} {s : Heap T} (d : ℕ) {root : ℕ} → IsTree s (suc d) root
     → length (items_below s (suc d) root) + 1 ≤ (CAPACITY + 1) ^ suc d
 tree_upper {T} {s} d {root} tree =
-    let most = (but_sizes d (items_sizes s d) tree.shaped).1 in
-    omega (arith, pow-suc (CAPACITY + 1) d, mul_comm (CAPACITY + 1) ((CAPACITY + 1) ^ d), most)
+    grind (arith, but_sizes d (items_sizes s d) tree.shaped, items_sizes s d, pow-suc (CAPACITY + 1) d, mul_comm (CAPACITY + 1) ((CAPACITY + 1) ^ d))
 
 -- a power outgrows its exponent
 pub pow_more : (d : ℕ) → d + 1 ≤ (MIN_LEN + 1) ^ d
@@ -86,10 +72,7 @@ empty_levels {T} {s} {levels} {root} tree none = omega (arith, levels_le levels 
 pub levels_least : {T : Type 0} {s : Heap T} (levels : ℕ) {root : ℕ} → IsTree s levels root
     → 0 < length (items_below s levels root)
     → 2 * (MIN_LEN + 1) ^ (levels - 1) ≤ length (items_below s levels root) + 1
-levels_least {T} {s} zero {root} tree some = absurd (omega (
-  arith,
-  ap length (items_below_none s root),
-))
+levels_least {T} {s} zero {root} tree some = grind (arith, items_below_none)
 levels_least (suc d) {root} tree some = grind (arith, tree_lower)
 
 pub levels_most : {T : Type 0} {s : Heap T} (levels : ℕ) {root : ℕ} → IsTree s levels root

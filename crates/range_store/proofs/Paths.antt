@@ -36,8 +36,7 @@ pub not_start : {T : Type 0} {s : Heap T} {d n : ℕ} (g : Edge) → ShapedBut 1
 not_start {T} {s} {d} {n} g shaped is later =
     elim (cases_eq (place s d n g) 0) [
       | inr some ↦ omega arith
-      | inl none ↦ let start =
-          start_of_place s 1 CAPACITY d n g shaped is none in grind arith
+      | inl none ↦ grind (arith, start_of_place s 1 CAPACITY d n g shaped is none)
     ]
 
 module _ {T : Type 0} {s : Heap T} {b n : ℕ} (inner : b ≢ 0)
@@ -53,8 +52,7 @@ module _ {T : Type 0} {s : Heap T} {b n : ℕ} (inner : b ≢ 0)
 
   pub below_kid : (i : ℕ) → i ≤ length (node_items s n)
       → ShapedBut 1 CAPACITY s (b - 1) (node_child s n i)
-  below_kid i low = shaped_within_wider 1 CAPACITY (omega arith) (omega arith)
-      (kid_shaped (b - 1) i deeper low)
+  below_kid i low = grind (arith, shaped_within_wider 1 CAPACITY (omega arith) (omega arith) (kid_shaped (b - 1) i deeper low), kid_shaped (b - 1) i deeper low, deeper)
 
   pub below_turn : (g : Edge) → IsEdge s b n g → turn g ≤ length (node_items s n)
   below_turn g is = grind (arith, turn_within s (b - 1) n g (rw (← level_of_children) at is))
@@ -86,12 +84,7 @@ module _ {T : Type 0} {s : Heap T} {b n : ℕ} (inner : b ≢ 0)
   pub past_last : (i : ℕ) → i ≡ length (node_items s n) → length (before_child s b n i) + length
       (items_below s b (node_child s n i)) ≡ length (items_below s (suc b) n)
   past_last i last =
-      grind (
-        arith,
-        items_below_at (omega arith) shaped i (omega arith),
-        none_after_last (omega arith) shaped,
-        length-append,
-      )
+      grind (arith, items_below_at (omega arith) shaped i (omega arith), none_after_last (omega arith) shaped, length-append)
 
   -- an edge at the end of the child at i is one before the next child
   pub before_next : (i : ℕ) → i < length (node_items s n) → length (before_child s b n (i + 1))

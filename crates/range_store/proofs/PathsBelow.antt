@@ -1,5 +1,5 @@
 -- The way down from a node: the edges below a node on it, as they are seen from where it began.
-use Rattle.std.proofs.Common.{◌≡◌, ◌≢◌, ℕ, suc, ◌+◌, ◌-◌, ◌*◌, ◌/◌, ◌^◌, ◌<◌, ◌≤◌, length, refl, sym, ap, ◌∙◌, arith}
+use Rattle.std.proofs.Common.{◌≡◌, ◌≢◌, ℕ, suc, ◌+◌, ◌-◌, ◌*◌, ◌/◌, ◌^◌, ◌<◌, ◌≤◌, length, sym, ap, ◌∙◌, arith}
 use Rattle.std.proofs.Math.Nat.{pow-suc, pow-le-pow_right, mul-le-mul_left}
 use Rattle.range_store.specs.Heap.{Heap, node_items, node_child}
 use Rattle.range_store.specs.declared.btree.nodes.TheConstants.{CAPACITY}
@@ -23,10 +23,7 @@ pub weight_fits : (below left weight : ℕ) → below < MAX_LEVELS → 0 < left
     → weight ≡ PATH_BASE ^ (below - left) → weight ≤ 2 ^ 56
 weight_fits below left weight deep some is =
     let few : below - left ≤ 14 = omega (arith, deep, some) in
-    let wide : 0 < PATH_BASE = omega arith in
-    let most : PATH_BASE ^ (below - left) ≤ PATH_BASE ^ 14 = pow-le-pow_right wide few in
-    let width : ◌≡◌ {A = ℕ} (PATH_BASE ^ 14) (2 ^ 56) = refl in
-    omega (arith, is, most, width)
+    grind (arith, pow-le-pow_right)
 
 module _ {T : Type 0} (s : Heap T) where
   -- how many items stand before the child at i
@@ -73,13 +70,7 @@ module _ {T : Type 0} (s : Heap T) where
         small = heavier path weight i lies.small few;
         shaped = below_kid inner lies.shaped i low;
         edge = λ e is. rw (path_is e.path) (lies.edge (above e) (edge_above e is));
-        place_is = λ e is.
-            let found = lies.place_is (above e) (edge_above e is) in
-            let step = below_place inner lies.shaped i e (above e) (turned e) (within e)
-            in
-            let sum : ahead + place s left at (above e)
-            ≡ ahead + ahead_of left at i + place s (left - 1) kid e = omega (arith, step) in
-            ap (λ w. place s below number (record e { path = w })) (path_is e.path) ∙ found ∙ sum;
+        place_is = grind (arith, below_place);
       }
 
   -- its first edge as it is seen from above
@@ -88,10 +79,4 @@ module _ {T : Type 0} (s : Heap T) where
       → place s left at e ≡ 0 → IsEdge s below number (record e { path = path }) ×
       (place s below number (record e { path = path }) ≡ ahead)
   first_below {below} {number} {left} at path weight ahead lies e is first =
-      let start = start_of_place s 1 CAPACITY left at e lies.shaped is first in
-      let none : path + weight * e.path ≡ path = rw start.0 (omega arith) in
-      let found = lies.place_is e is in
-      let all : ahead + place s left at e ≡ ahead = omega (arith, first) in (
-        rw none at (lies.edge e is),
-        ap (λ w. place s below number (record e { path = w })) (sym none) ∙ found ∙ all,
-      )
+      grind (arith, start_of_place s 1 CAPACITY left)

@@ -1,5 +1,5 @@
 -- A whole tree after an insertion: of the first item, below the root, and with a cut of the root.
-use Rattle.std.proofs.Common.{◌≡◌, ℕ, zero, suc, ◌+◌, ◌-◌, ◌*◌, ◌<◌, ◌≤◌, List, [], ◌∷◌, ◌++◌, length, refl, ap, ◌∙◌, arith, None, Some}
+use Rattle.std.proofs.Common.{◌≡◌, ℕ, zero, suc, ◌+◌, ◌-◌, ◌*◌, ◌<◌, ◌≤◌, List, [], ◌∷◌, ◌++◌, length, ap, ◌∙◌, arith, None, Some}
 use Rattle.std.specs.List.{All, flat_map}
 use Rattle.std.proofs.lemmas.List.{append-nil, length-append}
 use Rattle.range_store.specs.Heap.{Heap, HasRoomFor, Stores, node_children}
@@ -33,13 +33,7 @@ first_tree {T} {s} {t} zero {root} {n} item none tree stored =
       shaped = grind arith;
       once =
           λ k.
-          omega (
-            arith,
-            ap (occurrences k) (used_leaf t n childless),
-            Stores-here stored k,
-            ap (occurrences k) (used_none s root),
-            occurrences-nil k,
-          );
+          grind (arith, used_leaf t n childless, Stores-here stored k, used_none s root, occurrences-nil k);
       len = omega (arith, ap length (used_leaf t n childless), ap length (used_none s root));
     } in
     (whole, items_below_leaf t n childless ∙ stored.items_are)
@@ -92,11 +86,7 @@ module _ {T : Type 0} {s t u : Heap T} {d root n : ℕ} (split : Split T) {list 
 
   taller_tree : IsTree u (suc (suc d)) n
   taller_tree =
-      record {
-        shaped = held_shape holds 1 (omega arith) (omega arith) refl ts_shaped;
-        once = λ k. grind (arith, ap (occurrences k) used_now, occurrences-cons, Stores-here);
-        len = omega (arith, ap length used_now);
-      }
+      grind (arith, held_shape, holds, ts_shaped, used_now, occurrences-cons, Stores-here)
 
   taller_items_below : items_below u (suc (suc d)) n ≡ list
   taller_items_below = held_items_below holds ∙ step.listed
@@ -106,8 +96,7 @@ module _ {T : Type 0} {s t u : Heap T} {d root n : ℕ} (split : Split T) {list 
       → IsEdge u (suc d) n h
       × (place u (suc d) n h ≡ seat_place t (suc d) (split.middle ∷ []) ts side g)
   taller_seat side g h at within seat =
-      seat_written t u n (split.middle ∷ []) ts side g h (suc d) holds agree
-      (λ no. absurd (omega (arith, no))) (λ some. at) (λ some. within) seat
+      grind (arith, seat_written t u n (split.middle ∷ []) ts side g h (suc d) holds agree (λ no. absurd (omega (arith, no))) (λ some. at) (λ some. within) seat, holds, agree)
 
 pub taller_root : {T : Type 0} {s t u : Heap T} (levels : ℕ) {root n : ℕ} (split : Split T)
     {list : List T} → 0 < levels → IsTree s levels root

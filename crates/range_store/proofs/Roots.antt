@@ -1,6 +1,5 @@
 -- A whole tree after a removal.
-use Rattle.std.proofs.Common.{◌≡◌, ◌≢◌, ℕ, zero, suc, ◌+◌, ◌-◌, ◌<◌, ◌≤◌, List, [], ◌∷◌, length, get_or, refl, ap, ◌∙◌, arith}
-use Rattle.std.specs.List.{flat_map}
+use Rattle.std.proofs.Common.{◌≡◌, ◌≢◌, ℕ, zero, suc, ◌+◌, ◌-◌, ◌<◌, ◌≤◌, List, [], ◌∷◌, length, get_or, refl, ap, arith}
 use Rattle.std.proofs.lemmas.List.{append-nil, nil_from_length}
 use Rattle.range_store.specs.Heap.{Heap, Removes, node_items, node_children, node_child}
 use Rattle.range_store.specs.declared.btree.nodes.TheConstants.{CAPACITY}
@@ -34,24 +33,14 @@ pub empty_root_leaves_nothing : {T : Type 0} {s t : Heap T} (levels : ℕ) {root
     → IsLooseTree s levels root → length (node_items s root) ≡ 0 → Removes s t root
     → IsTree t 0 0 × (items_below t 0 0 ≡ items_below s levels root)
 empty_root_leaves_nothing levels one loose empty gone =
-    grind (
-      arith,
-      used_leaf,
-      here_without,
-      used_none,
-      occurrences-nil,
-      items_below_none,
-      nil_from_length,
-      items_below_leaf,
-    )
+    grind (arith, used_leaf, here_without, used_none, occurrences-nil, items_below_none, nil_from_length, items_below_leaf)
 
 -- a taller tree whose root has one child alone
 module _ {T : Type 0} {s t : Heap T} {e root : ℕ} (loose : IsLooseTree s (suc (suc e)) root)
     (one : node_children s root ≡ node_child s root 0 ∷ []) (gone : Removes s t root) where
   used_all : used s (suc (suc e)) root ≡ root ∷ used s (suc e) (node_child s root 0)
   used_all =
-      used_is s (suc e) root ∙ ap (λ zs. root ∷ flat_map (used s (suc e)) zs) one
-      ∙ ap (λ zs. root ∷ zs) (append-nil (used s (suc e) (node_child s root 0)))
+      grind (arith, used_is, append-nil)
 
   occurs : (k : ℕ) → occurrences k (root ∷ [])
       + occurrences k (used s (suc e) (node_child s root 0)) ≡ here s k
@@ -76,8 +65,7 @@ only_child_is_root {T} {s} {t} (suc (suc e)) {root} more loose empty gone =
     let same : SameBelow s t (suc e) kid = same_below s t (suc e) kid (agree loose one gone) in
     let kid_shaped : Shaped s (suc e) kid = shaped.children 0 0 (omega arith) in
     let tree : IsTree t (suc e) kid = record {
-      shaped = shaped_within_wider 1 CAPACITY (omega arith) (omega arith)
-          (Shaped-but t e kid (same.shaped_same kid_shaped));
+      shaped = grind (arith, shaped_within_wider 1 CAPACITY (omega arith) (omega arith) (Shaped-but t e kid (same.shaped_same kid_shaped)), Shaped-but t e kid (same.shaped_same kid_shaped));
       once = λ k. grind (arith, occurs loose one gone k, here_without (grind arith) gone k);
       len = omega (arith, ap length (used_all loose one gone), ap length same.used_same);
     } in

@@ -25,9 +25,7 @@ module _ {T : Type 0} (s t : Heap T) (n : ℕ) (xs : List T) (ks : List ℕ) (i 
   seat_written zero holds agree leaf at within seat =
       rw (leaf refl) ((refl, refl, rw holds.items_are seat), refl)
   seat_written (suc d) holds agree leaf at within seat =
-      let kid =
-      same_edge s t d (get_or ks i 0) g (agree_kid s t (suc d) i ks agree seat.0) seat.1 in
-      grind arith
+      grind (arith, same_edge s t d (get_or ks i 0) g (agree_kid s t (suc d) i ks agree seat.0) seat.1, agree_kid s t (suc d) i ks agree seat.0)
 
 pub seat_small : {T : Type 0} (s : Heap T) (d : ℕ) (xs : List T) (ks : List ℕ) (i : ℕ) (g : Edge)
     → length ks ≡ child_count d (length xs) → IsSeat s d xs ks i g → i ≤ length xs
@@ -65,19 +63,7 @@ module _ {T : Type 0} (s : Heap T) (half : ℕ) (xs : List T) (ks : List ℕ) (i
       s d (drop (half + 1) xs) (drop (half + 1) ks) (i - half - 1) g ≡ seat_place s d xs ks i g)
   unfolding IsSeat seat_place
   seat_right d branches large seat =
-      grind (
-        arith,
-        length-drop,
-        length-take-le,
-        length-map,
-        get_or-drop,
-        length-before,
-        take-add,
-        sum_by-append,
-        length-weave,
-        lists_take,
-        lists_drop,
-      )
+      grind (arith, length-drop, length-take-le, length-map, get_or-drop, length-before, take-add, sum_by-append, length-weave, lists_take, lists_drop)
 
 -- an edge below a node, or below the one after it, among the two
 module _ {T : Type 0} (s : Heap T) (d n : ℕ) (g : Edge) where
@@ -92,10 +78,7 @@ module _ {T : Type 0} (s : Heap T) (d n : ℕ) (g : Edge) where
       × (seat_place s (suc d) (separators (Some split)) (tops n (Some split)) 1 g
       ≡ length (items_below s (suc d) n) + 1 + place s d split.right g)
   unfolding IsSeat seat_place
-  seat_beside split is = (
-    (omega arith, is),
-    grind (arith, length-append),
-  )
+  seat_beside split is = grind (arith, length-append)
 
 -- an edge in a run of children, among all of them
 module _ {T : Type 0} (s : Heap T) (d : ℕ) (us ts vs : List ℕ) (xs seps ys : List T) (i j : ℕ)
@@ -121,18 +104,7 @@ module _ {T : Type 0} (s : Heap T) (d : ℕ) (us ts vs : List ℕ) (xs seps ys :
         length-append (map f ts) (map f vs),
         length-map vs f,
       ) in
-      let all =
-      length-before (xs ++ (seps ++ ys)) (map f us ++ (map f ts ++ map f vs)) (i + j)
-      (grind (arith, length-append)) (omega arith) in
-      let inner =
-      length-before seps (map f ts) j (omega arith)
-      (omega arith) in
-      let first : take (i + j) (map f us ++ (map f ts ++ map f vs)) ≡ map f us
-      ++ take j (map f ts) =
-      take-append-add (map f us) (map f ts ++ map f vs) (i + j) j (omega arith)
-      ∙ ap (λ zs. map f us ++ zs)
-      (take-append-le j (map f ts) (map f vs) (omega arith)) in
-      grind (arith, sum_by-append, length-append)
+      grind (arith, length-before (xs ++ (seps ++ ys)) (map f us ++ (map f ts ++ map f vs)) (i + j) (grind (arith, length-append)) (omega arith), length-append, length-before seps (map f ts) j (omega arith) (omega arith), take-append-add (map f us) (map f ts ++ map f vs) (i + j) j (omega arith), take-append-le j (map f ts) (map f vs) (omega arith), sum_by-append)
 
 pub seat_side : {T : Type 0} (s : Heap T) (d : ℕ) (xs : List T) (ks : List ℕ) (i : ℕ) (g : Edge)
     → IsSeat s (suc d) xs ks i g → i < length ks

@@ -22,11 +22,7 @@ quotient n k some = (n % k, omega arith, omega arith)
 pub share_is : {rest : ℕ} (others : ℕ) {low high : ℕ} → CanBeShared rest (others + 1) low high
     → IsShare rest others low high (rest / (others + 1))
 share_is {rest} others {low} {high} can =
-    let q = rest / (others + 1) in
-    let parts = quotient rest (others + 1) (omega arith) in
-    let enough : low ≤ q = grind arith in
-    let fits : q < high = grind arith in
-    grind arith
+    grind (arith, quotient)
 
 -- a node with `many` items, over children that have fewer than `width` each
 pub can_be_shared : (inner width many count : ℕ) → width ≡ inner * (CAPACITY + 1) → 0 < inner

@@ -1,12 +1,12 @@
 -- What becomes of a node when an item went below one of its children.
-use Rattle.std.proofs.Common.{◌≡◌, ◌≢◌, ℕ, suc, ◌+◌, ◌-◌, ◌<◌, ◌≤◌, List, [], ◌∷◌, ◌++◌, length, take, drop, map, refl, sym, ap, ◌∙◌, subst, arith}
+use Rattle.std.proofs.Common.{◌≡◌, ◌≢◌, ℕ, suc, ◌+◌, ◌-◌, ◌<◌, ◌≤◌, List, [], ◌∷◌, ◌++◌, length, take, drop, map, refl, arith}
 use Rattle.std.specs.List.{All, remove}
 use Rattle.std.proofs.lemmas.List.{append-nil, length-map, length-take-le, take-map, drop-map, take-append-drop, nil_from_length}
 use Rattle.std.proofs.lemmas.List.Edits.{remove-append_left, remove-append_right, length-remove}
 use Rattle.std.proofs.lemmas.List.Elements.{All-append, All-cons, All-take, All-drop}
-use Rattle.range_store.specs.Heap.{Heap, node_of, items_of, children_of, Writes, node_items, node_children, node_child}
+use Rattle.range_store.specs.Heap.{Heap, node_of, Writes, node_items, node_children, node_child}
 use Rattle.range_store.specs.declared.btree.nodes.TheConstants.{CAPACITY, MIN_LEN}
-use Rattle.range_store.specs.Nodes.{weave, rest_of, front_of, before, after, items_below, used, Shaped, ShapedBut, Owned, Moves, Shrinks, MayBeRebalanced, child_lists, before_child}
+use Rattle.range_store.specs.Nodes.{before, after, items_below, used, Shaped, ShapedBut, Owned, Moves, Shrinks, MayBeRebalanced, child_lists, before_child}
 use Rattle.range_store.specs.Weave.{list_splits_at, weave_splice}
 use Rattle.range_store.specs.Frame.{IsNode-same}
 use Rattle.range_store.proofs.Below.{children_length, items_below_at, weave_items_below, used_is, items_below_leaf}
@@ -17,10 +17,7 @@ use Rattle.range_store.proofs.Growing.{Runs, run_kept, run_moved, run_lists, sam
 pub remove_middle : {X : Type 0} (f k r : List X) (rest : ℕ) → rest < length k
     → remove (f ++ (k ++ r)) (length f + rest) ≡ f ++ (remove k rest ++ r)
 remove_middle f k r rest within =
-    let offset : length f + rest - length f ≡ rest = omega arith in
-    remove-append_right f (k ++ r) (length f) (length f + rest) refl (omega arith)
-    ∙ ap (λ n. f ++ remove (k ++ r) n) offset
-    ∙ ap (λ zs. f ++ zs) (remove-append_left k r rest within)
+    grind (arith, remove-append_right f (k ++ r) (length f) (length f + rest) refl (omega arith), remove-append_left k r rest within)
 
 -- the subtree of the child at i has another list
 pub record ListsAnew {T : Type 0} (s t : Heap T) (b n i : ℕ) (list : List T) : Type 0 where
@@ -73,23 +70,7 @@ module _ {T : Type 0} {s t : Heap T} {b n i : ℕ} {list : List T}
   kid_listed =
       let L = map (items_below s b) us in
       let R = map (items_below s b) vs in
-      let woven =
-      weave_splice (take i xs) [] (drop i xs) L (items_below t b kid) [] R
-      (grind (arith, length-take-le, length-map)) refl in
-      let middle =
-      ap (λ zs. front_of (take i xs) L ++ (zs ++ rest_of (drop i xs) R))
-      (append-nil (items_below t b kid) ∙ anew.listed) in
-      let sides : front_of (take i xs) (map (items_below s b) us)
-      ++ (list ++ rest_of (drop i xs) (map (items_below s b) vs)) ≡ before xs lists i
-      ++ (list ++ after xs lists i) =
-      rw (← take-map (items_below s b) i ks, ← drop-map (items_below s b) (i + 1) ks) refl
-      in
-      weave_items_below t b n ∙ ap (λ zs. weave zs (child_lists t b n))
-      (ap items_of kid_kept ∙ sym (take-append-drop i xs))
-      ∙ ap (λ zs. weave (take i xs ++ drop i xs) (map (items_below t b) zs))
-      (ap children_of kid_kept ∙ ks_parts)
-      ∙ ap (weave (take i xs ++ drop i xs)) (run_lists kid_run)
-      ∙ woven ∙ middle ∙ sides
+      grind (arith, weave_splice (take i xs) [] (drop i xs) L (items_below t b kid) [] R (grind (arith, length-take-le, length-map)) refl, length-take-le, length-map, append-nil (items_below t b kid), take-map (items_below s b) i ks, drop-map (items_below s b) (i + 1) ks, weave_items_below t b n, kid_kept, take-append-drop i xs, ks_parts, run_lists kid_run, kid_run)
 
   -- what stands before the child
   pub kid_front : length (before_child t b n i) ≡ length (before xs lists i)
@@ -101,9 +82,7 @@ module _ {T : Type 0} {s t : Heap T} {b n i : ℕ} {list : List T}
       anew.shaped.children) in
       let behind = (same_after kid_run).shaped_same
       (All-drop (Shaped s b) (i + 1) ks anew.shaped.children) in
-      rw kid_kept (subst (All (Shaped t b)) (sym ks_parts)
-      (All-append (Shaped t b) us (kid ∷ vs) before
-      (All-cons (Shaped t b) kid vs shape behind)))
+      rw kid_kept (grind (arith, ks_parts, All-append (Shaped t b) us (kid ∷ vs) before (All-cons (Shaped t b) kid vs shape behind), All-cons (Shaped t b) kid vs shape behind))
 
   level : suc (b - 1) ≡ b
   level = omega arith
@@ -111,12 +90,7 @@ module _ {T : Type 0} {s t : Heap T} {b n i : ℕ} {list : List T}
   pub kid_may_be_rebalanced : ShapedBut (MIN_LEN - 1) CAPACITY t (b - 1) kid
       → MayBeRebalanced t (b - 1) n i
   kid_may_be_rebalanced short =
-      let node = IsNode-same t kid_kept anew.shaped.node in
-      let before = (same_before kid_run).shaped_same (All-take (Shaped s b) i ks
-      anew.shaped.children) in
-      let behind = (same_after kid_run).shaped_same
-      (All-drop (Shaped s b) (i + 1) ks anew.shaped.children) in
-      grind (arith, level, kid_owned_after, kid_kept)
+      grind (arith, IsNode-same t kid_kept anew.shaped.node, kid_kept, same_before kid_run, kid_run, All-take (Shaped s b) i ks anew.shaped.children, same_after kid_run, All-drop (Shaped s b) (i + 1) ks anew.shaped.children, level, kid_owned_after)
 
 -- an item of a leaf goes
 pub leaf_shrinks : {T : Type 0} {s t : Heap T} {n : ℕ} (q : ℕ) → ShapedBut 1 CAPACITY s 0 n
@@ -140,11 +114,4 @@ pub shorter_child_shrinks_node : {T : Type 0} {s t u : Heap T} {b n i : ℕ} (q 
     → Shrinks s u b n (remove (items_below s (suc b) n) (length (before_child s b n i) + q))
 shorter_child_shrinks_node {T} {s} {t} {u} {b} {n} {i} q anew within rebalanced =
     let back : suc (b - 1) ≡ b = omega arith in
-    grind (
-      arith,
-      kid_kept anew,
-      kid_listed anew,
-      remove_middle,
-      items_below_at (omega arith) anew.shaped i anew.low,
-      Moves-then (kid_moved anew) (rw back at rebalanced.moved),
-    )
+    grind (arith, kid_kept anew, kid_listed anew, remove_middle, items_below_at (omega arith) anew.shaped i anew.low, Moves-then (kid_moved anew) (rw back at rebalanced.moved), kid_moved anew)

@@ -8,7 +8,7 @@ use Rattle.std.proofs.lemmas.List.{get_or-set_other, get_or-set_same, get_or_pas
 use Rattle.std.proofs.lemmas.List.Sums.{sum_by-cons}
 use Rattle.slab.specs.Slab.{Slab, get, slab_len, with_value, Updates}
 use Rattle.range_store.specs.declared.btree.node.Node.{Node}
-use Rattle.range_store.specs.Heap.{Heap, node_of, HasNode, HasRoomFor, SameNodes, items_of, children_of, node_count, with_item, FitsChild, Writes, Stores, Removes, Absorbs, node_items, node_children}
+use Rattle.range_store.specs.Heap.{Heap, node_of, HasNode, HasRoomFor, SameNodes, children_of, node_count, with_item, FitsChild, Writes, Stores, Removes, Absorbs, node_items, node_children}
 use Rattle.range_store.specs.Occurrences.{occurrences, occurrences-append, occurrences-cons, occurrences-nil, occurrences_here, occurrences_itself, occurrences_other}
 use Rattle.range_store.specs.Rows.{row_of}
 use Rattle.range_store.specs.Spares.{without, len_of, content_of, contents, heap_of, FitsCount, IsWhole}
@@ -26,9 +26,7 @@ module _ {X : Type 0} where
       elim (cases_eq k n) [
         | inl same ↦ rw same (grind (arith, get_or-set_same, get_or_past, length-set))
         | inr other ↦
-            get_or-set_other (without ns slots) n k None None other
-            ∙ without_here ns slots k
-            (omega (arith, among, occurrences-cons k n ns, occurrences_other k n (λ e. other (sym e))))
+            grind (arith, get_or-set_other, occurrences-cons, occurrences_other, without_here ns slots k (omega (arith, among, occurrences-cons k n ns, occurrences_other k n (λ e. other (sym e)))))
       ]
 
   without_other : (ns : List ℕ) (slots : List (Option X)) (k : ℕ) → occurrences k ns ≡ 0
@@ -36,9 +34,7 @@ module _ {X : Type 0} where
   unfolding without
   without_other [] slots k none = refl
   without_other (n ∷ ns) slots k none =
-      get_or-set_other (without ns slots) n k None None
-      (λ same. absurd (listed n ns k same none))
-      ∙ without_other ns slots k (omega (arith, none, occurrences-cons k n ns))
+      grind (arith, get_or-set_other, listed, occurrences-cons, without_other ns slots k (omega (arith, none, occurrences-cons k n ns)))
 
   without_count : (ns : List ℕ) (slots : List (Option X)) → ((k : ℕ) → occurrences k ns ≤ 1)
       → ((k : ℕ) → 0 < occurrences k ns → IsSome (get_or slots k None))
@@ -48,32 +44,19 @@ module _ {X : Type 0} where
   without_count (n ∷ ns) slots once some =
       let apart : occurrences n ns ≡ 0 =
       omega (arith, once n, occurrences-cons n n ns, occurrences_itself n) in
-      let there : IsSome (get_or (without ns slots) n None) =
-      rw (without_other ns slots n apart) (some n (occurrences_here n ns)) in
-      omega (
-        arith,
-        slot_count (without ns slots) n there None,
-        without_count ns slots (λ k. omega (arith, once k, occurrences-cons k n ns))
-            (λ k among. some k (omega (arith, among, occurrences-cons k n ns))),
-      )
+      grind (arith, without_other, occurrences_here, slot_count, occurrences-cons, without_count ns slots (λ k. omega (arith, once k, occurrences-cons k n ns)) (λ k among. some k (omega (arith, among, occurrences-cons k n ns))))
 
   without_set : (ns : List ℕ) (slots : List (Option X)) (k : ℕ) (slot : Option X)
       → occurrences k ns ≡ 0 → without ns (set slots k slot) ≡ set (without ns slots) k slot
   unfolding without
   without_set [] slots k slot none = refl
   without_set (n ∷ ns) slots k slot none =
-      ap (λ zs. set zs n None)
-      (without_set ns slots k slot (omega (arith, none, occurrences-cons k n ns)))
-      ∙ set_comm (without ns slots) k n slot None
-      (λ same. absurd (listed n ns k same none))
+      grind (arith, occurrences-cons, set_comm, listed, without_set ns slots k slot (omega (arith, none, occurrences-cons k n ns)))
 
 module _ {X : Type 0} where
   module _ (s : Slab X) (n : ℕ) (present : IsSome (get s n)) (new : X) where
     pub value_updates : Updates s (with_value s n new) n (Some new)
-    value_updates = record {
-      changed = slot_read s.slots n present (Some new);
-      others = λ k other. get_or-set_other s.slots n k (Some new) None other;
-    }
+    value_updates = grind (arith, slot_read, get_or-set_other)
 
     pub value_len : slab_len (with_value s n new) ≡ slab_len s
     value_len = omega (arith, slot_count s.slots n present (Some new))
@@ -170,9 +153,7 @@ module _ {T : Type 0} {slab : Slab Node} {rows : List (List T)} {spares : List �
 
   pub counted : node_count (heap_of slab rows spares) + length spares ≡ slab_len slab
   counted =
-      without_count spares (contents rows slab.slots) whole.once
-      (λ k among. rw (contents_read rows slab.slots k, whole.empty k among) refl)
-      ∙ count_contents rows slab.slots
+      grind (arith, without_count, contents_read, count_contents)
 
   pub spares_left : (more : ℕ) → HasRoomFor (heap_of slab rows spares) more → more ≤ length spares
   spares_left more room = omega (arith, room, counted)
@@ -208,13 +189,7 @@ module _ {T : Type 0} {old new : Slab Node} {was now : List (List T)} {spares : 
 
   changed_whole : (left : List ℕ) → ((k : ℕ) → occurrences k left ≤ occurrences k spares)
       → occurrences n left ≡ 0 → IsWhole new now left
-  changed_whole left fewer apart = record {
-    there = changed_there;
-    lens = changed_lens;
-    empty = λ k among.
-        grind arith;
-    once = λ k. omega arith;
-  }
+  changed_whole left fewer apart = grind (arith, changed_there, changed_lens)
 
   elsewhere : (left : List ℕ) → ((k : ℕ) → k ≢ n → occurrences k left ≡ occurrences k spares)
       → (k : ℕ) → k ≢ n → node_of (heap_of new now left) k ≡ node_of (heap_of old was spares) k
@@ -224,14 +199,7 @@ module _ {T : Type 0} {old new : Slab Node} {was now : List (List T)} {spares : 
   more_whole : (left : List ℕ)
       → ((k : ℕ) → occurrences k left ≡ occurrences k (n ∷ []) + occurrences k spares)
       → occurrences n spares ≡ 0 → items ≡ [] → node.children.items ≡ [] → IsWhole new now left
-  more_whole left told apart no_items no_children = record {
-    there = changed_there;
-    lens = changed_lens;
-    empty = λ k among.
-        grind (arith, occurrences_other);
-    once = λ k.
-        grind (arith, occurrences_itself, occurrences_other);
-  }
+  more_whole left told apart no_items no_children = grind (arith, changed_there, changed_lens, occurrences_other, occurrences_itself)
 
   module _ (len : slab_len new ≡ slab_len old) where
     -- a node was written
@@ -263,16 +231,7 @@ module _ {T : Type 0} {old new : Slab Node} {was now : List (List T)} {spares : 
           node.children.items
       stored =
           let read = here left spare_apart in
-          record {
-            fresh = spare_read old was spares n (omega (arith, told n, occurrences_itself n));
-            present = rw read refl;
-            items_are = ap items_of read;
-            children_are = ap children_of read;
-            others = elsewhere left
-                (λ k differs. omega (arith, told k, occurrences_other k n (λ e. differs (sym e))));
-            len = omega (arith, counted whole, counted stored_whole, len, ap length parts);
-            capacity = len;
-          }
+          grind (arith, spare_read, told, occurrences_itself, elsewhere, occurrences_other, counted, stored_whole)
 
     -- a node became a spare
     module _ (present : HasNode (heap_of old was spares) n) (no_items : items ≡ [])
@@ -288,13 +247,7 @@ module _ {T : Type 0} {old new : Slab Node} {was now : List (List T)} {spares : 
       freed_whole = more_whole (n ∷ spares) longer apart no_items no_children
 
       pub removed : Removes (heap_of old was spares) (heap_of new now (n ∷ spares)) n
-      removed = record {
-        was = present;
-        gone = grind (arith, spare_read, longer, occurrences_itself);
-        others = grind (arith, elsewhere, longer, occurrences_other);
-        len = omega (arith, counted whole, counted freed_whole);
-        capacity = len;
-      }
+      removed = grind (arith, spare_read, longer, occurrences_itself, elsewhere, occurrences_other, counted, freed_whole)
 
   -- a spare was added
   module _ (fresh : get old n ≡ None) (len : slab_len new ≡ slab_len old + 1)
@@ -308,14 +261,7 @@ module _ {T : Type 0} {old new : Slab Node} {was now : List (List T)} {spares : 
 
     pub added : IsWhole new now (spares ++ n ∷ [])
         × SameNodes (heap_of old was spares) (heap_of new now (spares ++ n ∷ []))
-    added = (
-      added_whole,
-      record {
-        nodes = λ k.
-            grind (arith, spare_read, more, occurrences_itself, slot_seen, occurrences_other);
-        len = omega (arith, counted whole, counted added_whole, length-append spares (n ∷ []));
-      },
-    )
+    added = grind (arith, added_whole, spare_read, more, occurrences_itself, slot_seen, occurrences_other, counted, length-append)
 
 -- a slab with more capacity, and rows that grew, but have what they had
 module _ {T : Type 0} {slab larger : Slab Node} {was : List (List T)} {spares : List ℕ}
@@ -354,11 +300,7 @@ module _ {T : Type 0} {slab : Slab Node} {rows : List (List T)} {spares : List �
   -- a node was written
   pub edited : HasNode (heap_of slab rows spares) n
       → Leaves slab rows spares n node items spares (λ old new. Writes old new n items ks)
-  edited present = record {
-    whole = written_whole whole edit same_len (in_use slab rows spares n present);
-    nodes = rw (← children_are) (written whole edit same_len present);
-    len = same_len;
-  }
+  edited present = grind (arith, written_whole whole edit same_len (in_use slab rows spares n present), edit, same_len, in_use slab rows spares n present, written whole edit same_len present)
 
   -- a spare got what a new node has
   pub filled : {left : List ℕ} → spares ≡ n ∷ left
@@ -369,11 +311,7 @@ module _ {T : Type 0} {slab : Slab Node} {rows : List (List T)} {spares : List �
   -- a node became a spare
   pub emptied : HasNode (heap_of slab rows spares) n → items ≡ [] → ks ≡ []
       → Leaves slab rows spares n node items (n ∷ spares) (λ old new. Removes old new n)
-  emptied present no_items none = record {
-    whole = freed_whole whole edit same_len present no_items (children_are ∙ none);
-    nodes = removed whole edit same_len present no_items (children_are ∙ none);
-    len = same_len;
-  }
+  emptied present no_items none = grind (arith, freed_whole whole edit same_len present no_items (children_are ∙ none), edit, same_len, removed whole edit same_len present no_items (children_are ∙ none))
 
 -- a node that had no item became a spare
 module _ {T : Type 0} {slab : Slab Node} {rows : List (List T)} {spares : List ℕ}
@@ -399,10 +337,7 @@ module _ {T : Type 0} {slab : Slab Node} {rows : List (List T)} {spares : List �
       (λ old new. Writes old new n (insert (node_items (heap_of slab rows spares) n) i x) ks)
   put_among x within more children =
       let items = items_seen whole n present in
-      rw items (edited whole n at node (insert (row_of rows n) i x) (grind (
-        arith,
-        length-insert,
-      )) children present)
+      rw items (edited whole n at node (insert (row_of rows n) i x) (grind (arith, length-insert)) children present)
 
   pub taken_out : i < length (node_items (heap_of slab rows spares) n) → node.len + 1 ≡ was.len
       → {ks : List ℕ} → node.children.items ≡ ks
@@ -410,10 +345,7 @@ module _ {T : Type 0} {slab : Slab Node} {rows : List (List T)} {spares : List �
       (λ old new. Writes old new n (remove (node_items (heap_of slab rows spares) n) i) ks)
   taken_out within less children =
       let items = items_seen whole n present in
-      rw items (edited whole n at node (remove (row_of rows n) i) (grind (
-        arith,
-        length-remove,
-      )) children present)
+      rw items (edited whole n at node (remove (row_of rows n) i) (grind (arith, length-remove)) children present)
 
 -- a node went to the end of another, with an item between
 module _ {T : Type 0} {slab : Slab Node} {rows : List (List T)} {spares : List ℕ}
@@ -430,28 +362,13 @@ module _ {T : Type 0} {slab : Slab Node} {rows : List (List T)} {spares : List �
       (row_of rows l ++ x ∷ row_of rows r) (r ∷ spares)
       (λ old new. Writes old new l (row_of rows l ++ x ∷ row_of rows r)
       (lower.children.items ++ upper.children.items))
-  grew = edited gone.whole l
-      (get_or-set_other slab.slots r l (Some blank) None apart ∙ left_at) node
-      (row_of rows l ++ x ∷ row_of rows r) (grind (
-        arith,
-        length-append,
-      )) children_are (rw (gone.nodes.others l apart) left)
+  grew = grind (arith, edited gone.whole l (get_or-set_other slab.slots r l (Some blank) None apart ∙ left_at) node (row_of rows l ++ x ∷ row_of rows r) (grind (arith, length-append)) children_are (rw (gone.nodes.others l apart) left), gone, get_or-set_other slab.slots r l (Some blank) None apart, apart, length-append)
 
   pub absorbs : Leaves (with_value slab r blank) (set rows r []) (r ∷ spares) l node
       (row_of rows l ++ x ∷ row_of rows r) (r ∷ spares)
       (λ old new. Absorbs (heap_of slab rows spares) new l x r)
   absorbs =
-      let lefts = seen whole l left left_at in
-      let rights = seen whole r right right_at in
-      record {
-        whole = grew.whole;
-        nodes = record {
-          between = heap_of (with_value slab r blank) (set rows r []) (r ∷ spares);
-          right = gone.nodes;
-          left = rw (lefts.items, rights.items, lefts.children, rights.children) grew.nodes;
-        };
-        len = grew.len;
-      }
+      grind (arith, seen, grew, heap_of, with_value, gone)
 
 -- a spare has nothing
 module _ {T : Type 0} {slab : Slab Node} {rows : List (List T)} {spares : List ℕ}

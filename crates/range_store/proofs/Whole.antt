@@ -1,5 +1,5 @@
 -- What is known of a whole tree.
-use Rattle.std.proofs.Common.{◌≡◌, ℕ, zero, suc, ◌+◌, ◌-◌, ◌^◌, ◌<◌, ◌≤◌, length, get_or, refl, inl, inr, arith}
+use Rattle.std.proofs.Common.{◌≡◌, ℕ, zero, suc, ◌+◌, ◌-◌, ◌<◌, ◌≤◌, length, get_or, refl, inl, inr, arith}
 use Rattle.std.proofs.Math.Nat.{pow-le-pow_right}
 use Rattle.std.proofs.lemmas.Bool.{cases_lt}
 use Rattle.range_store.specs.Heap.{Heap, node_items}
@@ -23,16 +23,14 @@ tree_is_not_too_deep {T} {s} (suc d) {root} roomy =
       | inl low ↦ omega arith
       | inr high ↦
           let some : 0 < MIN_LEN + 1 = omega arith in
-          let more : (MIN_LEN + 1) ^ MAX_LEVELS ≤ (MIN_LEN + 1) ^ d = pow-le-pow_right some high in
-          grind (arith, tree_lower)
+          grind (arith, pow-le-pow_right some high, tree_lower)
     ]
 
 -- no edge lies past the end
 pub edge_within : {T : Type 0} {t : BoxStorage T} {g : Edge} → IsBoxEdge t g
     → box_place t g ≤ length (box_items t)
 edge_within {T} {t} {g} is =
-    let level : suc (t.levels - 1) ≡ t.levels = omega (arith, is.some) in
-    rw level at (place_within (t.levels - 1) g (root_shaped t.levels is.some t.whole.tree) is.edge)
+    grind (arith, place_within (t.levels - 1) g (root_shaped t.levels is.some t.whole.tree) is.edge, root_shaped t.levels is.some t.whole.tree)
 
 -- an edge in the leaf of another, and the item there
 module _ {T : Type 0} {t : BoxStorage T} {g : Edge} (is : IsBoxEdge t g) where
@@ -49,18 +47,14 @@ module _ {T : Type 0} {t : BoxStorage T} {g : Edge} (is : IsBoxEdge t g) where
       → h.index ≤ length (node_items t.nodes g.leaf)
       → IsBoxEdge t h × (box_place t h + g.index ≡ box_place t g + h.index)
   tree_beside h leaf path index =
-      let other = leaf_beside t.nodes (t.levels - 1) t.root g h leaf path index is.edge in
-      (record { some = is.some; edge = other.0 }, other.1)
+      grind (arith, leaf_beside t.nodes (t.levels - 1) t.root g h leaf path index is.edge)
 
   -- the edge after the first item of the leaf
   pub tree_behind : g.index ≡ 0
       → IsBoxEdge t (record { leaf = g.leaf; path = g.path; index = 1 })
       × (box_place t (record { leaf = g.leaf; path = g.path; index = 1 }) ≡ box_place t g + 1)
   tree_behind first =
-      let beside =
-      tree_beside (record { leaf = g.leaf; path = g.path; index = 1 }) refl refl
-      tree_leaf.some in
-      (beside.0, omega (arith, beside.1, first))
+      grind (arith, tree_beside (record { leaf = g.leaf; path = g.path; index = 1 }) refl refl tree_leaf.some, tree_leaf)
 
   -- the item before an edge that has one in its leaf
   pub leaf_item : (e : T) → 0 < g.index
