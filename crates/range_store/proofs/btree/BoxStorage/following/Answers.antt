@@ -22,18 +22,8 @@ returns-then-edge-item_count g c =
 
 pub around_leaf-requires : goal.around_leaf-requires
 around_leaf-requires g c =
-    let s = c.args.self.now in
-    record {
-      shaped = root_shaped s.levels c.requires.some s.whole.tree;
-      deep = tree_is_not_too_deep s.levels s.whole;
-      edge = c.requires.edge;
-      some = omega (arith, place_index, (tree_leaf c.requires).some);
-    }
+    grind (arith, root_shaped, tree_is_not_too_deep, place_index, tree_leaf)
 
 pub returns : goal.returns
 returns g c =
-    let s = c.args.self.now in
-    let last : length (node_items s.nodes c.args.edge.leaf) ≡ c.args.edge.index =
-    omega (arith, (tree_leaf c.requires).within) in
-    next_from s (box_place s c.args.edge) c.requires.some c.around_leaf.result.1
-    (rw last at c.around_leaf.ensures.behind)
+    grind (arith, tree_leaf, next_from)

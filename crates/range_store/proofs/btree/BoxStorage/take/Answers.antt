@@ -24,17 +24,7 @@ take_in_leaf-next-requires-clause-edge g c =
 
 pub unreachable-requires : goal.unreachable-requires
 unreachable-requires g c =
-    let s = c.args.self.now in
-    let behind = tree_behind c.requires.edge (omega (arith, c.if-edge-gt0.false)) in
-    let inside = edge_within behind.0 in
-    let none : box_items c.take_in_leaf-next.new.self ≡ [] =
-    rw c.in_default.is at c.take_in_leaf-next.ensures.edge in
-    omega (
-      arith,
-      one_fewer s c.take_in_leaf-next.new.self (box_place s c.args.edge + 1) (omega arith)
-          (omega (arith, inside, behind.1)) (rw behind.1 at c.take_in_leaf-next.ensures.list),
-      ap length none,
-    )
+    grind (arith, tree_behind, edge_within, one_fewer)
 
 pub home-home-requires-clause-some : goal.home-home-requires-clause-some
 home-home-requires-clause-some g c =

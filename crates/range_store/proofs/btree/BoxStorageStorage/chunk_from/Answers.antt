@@ -26,9 +26,7 @@ slice_bounds-of_cells-count g c =
 
 pub slice_bounds-of_cells-start : goal.slice_bounds-of_cells-start
 slice_bounds-of_cells-start g c =
-    let low : c.args.p.index ≤ c.item_count-len.result =
-    omega (arith, (tree_leaf c.requires.is).within, c.item_count-len.ensures) in
-    search rules
+    grind (arith, tree_leaf)
 
 pub item_at-requires : goal.item_at-requires
 item_at-requires g c =
@@ -37,13 +35,11 @@ item_at-requires g c =
 
 pub of_cells-requires : goal.of_cells-requires
 of_cells-requires g c =
-    rw c.item_count-len.ensures
-    (rest_full c.cells-cells.ensures c.args.p.index (tree_leaf c.requires.is).within)
+    grind (arith, rest_full, tree_leaf)
 
 pub around_leaf-behind-requires-clause-deep : goal.around_leaf-behind-requires-clause-deep
 around_leaf-behind-requires-clause-deep g c =
-    let s = c.args.self.now in
-    tree_is_not_too_deep s.levels s.whole
+    grind (arith, tree_is_not_too_deep)
 
 pub returns : goal.returns
 returns g c =

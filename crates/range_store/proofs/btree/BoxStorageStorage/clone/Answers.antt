@@ -11,14 +11,11 @@ copied_one : {T : Type 0} (Q : T → T → Type 0) (items before after : List T)
     → AllZip Q (take (length before) items) before → Q x y
     → AllZip Q (take (length after) items) after
 copied_one Q items before after x y longer within read copied holds =
-    rw (longer, length_push before y)
-    (all_zip_more Q items before (length before) x y within read copied holds)
+    grind (arith, length_push, all_zip_more)
 
 pub push_reserved-requires : goal.push_reserved-requires
 push_reserved-requires g c =
-    let here = rw c.in-Some.is at c.loop-at.invariant.position in
-    let within = rw here.1 at (good_in_range c.args.self.now c.in-Some.p here.0) in
-    omega (arith, c.loop-at.invariant.space, within)
+    grind (arith, good_in_range)
 
 pub loop-at-preserved : goal.loop-at-preserved
 loop-at-preserved g c =
@@ -47,22 +44,8 @@ fewer_left n m k count within = omega arith
 
 pub loop-at-smaller : goal.loop-at-smaller
 loop-at-smaller g c =
-    let before = c.loop-at.copies.items in
-    let after = c.push_reserved.new.self.items in
-    let here = rw c.in-Some.is at c.loop-at.invariant.position in
-    let count : length after ≡ length before + 1 =
-    rw (c.push_reserved.ensures.items) (length_push before c.in_ok-item.item) in
-    fewer_left (length (box_items c.args.self.now)) (length before) (length after) count
-    (rw here.1 at (good_in_range c.args.self.now c.in-Some.p here.0))
+    grind (arith, length_push, fewer_left, good_in_range)
 
 pub returns : goal.returns
 returns g c =
-    let items = box_items c.args.self.now in
-    let copies = c.loop-at.copies.items in
-    let whole : length copies ≡ length items = rw c.in_default.is at c.loop-at.invariant.position in
-    let copied = rw (take_all (length copies) items (omega (arith, whole))) at
-    c.loop-at.invariant.copied in
-    let none : box_items c.reserve.new.self ≡ [] = c.reserve.ensures.list ∙ c.new-copy.ensures in
-    let list : box_items c.append.new.self ≡ copies =
-    c.append.ensures.list ∙ ap (λ l. l ++ copies) none in
-    rw list copied
+    grind (arith, take_all)

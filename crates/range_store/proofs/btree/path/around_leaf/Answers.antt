@@ -32,21 +32,12 @@ few g c = omega (arith, low g c, c.down.invariant.way.lies.shaped.node.fits)
 
 pub child_at-at-requires-clause-within : goal.child_at-at-requires-clause-within
 child_at-at-requires-clause-within g c =
-    let a = (goal.at.child_at-at-requires-clause-within g c).After-first_turn-index in
-    child_within (omega (arith, c.down-test.true)) c.down.invariant.way.lies.shaped _
-    (low g a)
+    grind (arith, child_within, low)
 
 small : (g : Over) (c : After-first_turn-index g)
     → c.down.path + c.down.weight * c.first_turn-index.result + c.down.weight < 2 ^ 64
 small g c =
-    let d = c.down.invariant.way.lies in
-    omega (
-      arith,
-      d.small,
-      weight_fits c.args.below c.down.left c.down.weight c.requires.deep c.down-test.true
-          d.weight_is,
-      mul-le-mul_left c.down.weight (few g c),
-    )
+    grind (arith, weight_fits, mul-le-mul_left)
 
 pub overflow_mul-path : goal.overflow_mul-path
 overflow_mul-path g c = omega
@@ -62,11 +53,7 @@ overflow_add-later g c = omega
 
 pub overflow_mul-weight : goal.overflow_mul-weight
 overflow_mul-weight g c =
-    omega (
-      arith,
-      weight_fits c.args.below c.down.left c.down.weight c.requires.deep c.down-test.true
-          c.down.invariant.way.lies.weight_is,
-    )
+    grind (arith, weight_fits)
 
 pub down-preserved-then-index-item_count : goal.down-preserved-then-index-item_count
 down-preserved-then-index-item_count g c =

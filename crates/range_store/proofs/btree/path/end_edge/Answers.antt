@@ -14,44 +14,18 @@ down-init g c =
 
 pub overflow_mul-path : goal.overflow_mul-path
 overflow_mul-path g c =
-    let d = c.down.invariant.lies in
-    let few : c.item_count-last.result ≤ CAPACITY =
-    omega (arith, c.item_count-last.ensures, d.shaped.node.fits) in
-    omega (
-      arith,
-      d.small,
-      weight_fits c.args.below c.down.left c.down.weight c.requires.deep c.down-test.true
-          d.weight_is,
-      mul-le-mul_left c.down.weight few,
-    )
+    grind (arith, weight_fits, mul-le-mul_left)
 
 pub overflow_add-path : goal.overflow_add-path
 overflow_add-path g c =
-    let d = c.down.invariant.lies in
-    let few : c.item_count-last.result ≤ CAPACITY =
-    omega (arith, c.item_count-last.ensures, d.shaped.node.fits) in
-    omega (
-      arith,
-      d.small,
-      weight_fits c.args.below c.down.left c.down.weight c.requires.deep c.down-test.true
-          d.weight_is,
-      mul-le-mul_left c.down.weight few,
-    )
+    grind (arith, weight_fits, mul-le-mul_left)
 
 pub overflow_mul-weight : goal.overflow_mul-weight
 overflow_mul-weight g c =
-    let d = c.down.invariant.lies in
-    omega (
-      arith,
-      weight_fits c.args.below c.down.left c.down.weight c.requires.deep c.down-test.true
-          d.weight_is,
-    )
+    grind (arith, weight_fits)
 
 pub down-preserved : goal.down-preserved
-down-preserved g c = rw c.child_at-leaf.ensures (descends (λ _. true) c.args.nodes.now c.down.leaf
-    c.down.path c.down.weight (omega (arith, c.down-test.true)) c.down.invariant
-    c.item_count-last.result
-    (c.item_count-last.ensures ∙ sym (count_all (node_items c.args.nodes.now c.down.leaf))))
+down-preserved g c = grind (arith, descends, count_all)
 
 pub returns : goal.returns
 returns g c =

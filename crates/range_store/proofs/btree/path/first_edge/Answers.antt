@@ -8,11 +8,7 @@ use Rattle.range_store.proofs.btree.path.first_edge.Goals as goal
 
 pub down-init : goal.down-init
 down-init g c =
-    let all =
-    begins (λ _. false) c.args.nodes.now c.args.below c.args.number c.requires.shaped
-    (falls_none _) in
-    subst (λ weight. Descent (λ _. false) c.args.nodes.now c.args.below c.args.number c.args.below
-    c.args.number 0 weight) all.lies.weight_is all
+    grind (arith, begins, falls_none)
 
 pub down-preserved : goal.down-preserved
 down-preserved g c =

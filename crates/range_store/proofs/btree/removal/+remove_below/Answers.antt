@@ -15,12 +15,7 @@ use Rattle.range_store.proofs.btree.removal.+remove_below.Goals as goal
 
 pub take_beside-item-requires-clause-within : goal.take_beside-item-requires-clause-within
 take_beside-item-requires-clause-within g t c =
-    omega (
-      arith,
-      leaf_index c.args.nodes.now c.args.number c.args.edge
-          (rw c.if-below-eq0.true at c.requires.edge),
-      c.requires.in_leaf,
-    )
+    grind (arith, leaf_index)
 
 pub returns-then-below-eq0 : goal.returns-then-below-eq0
 returns-then-below-eq0 g t c =
@@ -43,8 +38,7 @@ returns-then-below-eq0 g t c =
 
 pub child_at-child-requires-clause-within : goal.child_at-child-requires-clause-within
 child_at-child-requires-clause-within g t c =
-    rw c.first_turn-index.ensures (child_within c.if-below-eq0.false c.requires.shaped _
-    (below_turn c.if-below-eq0.false c.requires.shaped c.args.edge c.requires.edge))
+    grind (arith, child_within, below_turn)
 
 pub remove_below-taken-requires : goal.remove_below-taken-requires
 remove_below-taken-requires g t c κs inside =

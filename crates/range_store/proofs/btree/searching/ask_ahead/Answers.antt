@@ -37,10 +37,8 @@ tells g c =
 
 pub returns-clause-passes : goal.returns-clause-passes
 returns-clause-passes g c more =
-    let tells = tells g (goal.at.returns-clause-passes g c).After-ask in
-    rw (c.from.ensures, tells.0 (omega (arith, more, c.requires.some))) (omega arith)
+    grind (arith, tells)
 
 pub returns-clause-fails : goal.returns-clause-fails
 returns-clause-fails g c less =
-    let tells = tells g (goal.at.returns-clause-fails g c).After-ask in
-    rw (c.from.ensures, tells.1 (omega (arith, less, c.requires.some))) (omega arith)
+    grind (arith, tells)

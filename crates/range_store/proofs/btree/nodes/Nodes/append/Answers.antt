@@ -9,8 +9,7 @@ use Rattle.range_store.proofs.btree.nodes.Nodes.append.Goals.{After-index_mut-2}
 
 module _ (g : Over) (c : After-index_mut-2 g) where
   left_at : get c.self.inside.slab c.args.left ≡ Some c.index_mut-2.result.now
-  left_at = sym (get_or-set_other c.self.inside.slab.slots c.args.right c.args.left
-      (Some c.replace-upper.new.dest) None c.requires.apart) ∙ c.index_mut-2.ensures.value
+  left_at = grind (arith, get_or-set_other)
 
   left_seen : IsSeen c.self.inside.slab c.self.inside.rows c.self.inside.spares.items c.args.left
       c.index_mut-2.result.now
@@ -21,51 +20,30 @@ module _ (g : Over) (c : After-index_mut-2 g) where
 
   right_seen : IsSeen c.self.inside.slab c.self.inside.rows c.self.inside.spares.items c.args.right
       c.replace-upper.result
-  right_seen = seen c.self.invariant.0 c.args.right (rw (← c.self.view_is) at c.requires.right)
-      right_at
+  right_seen = grind (arith, seen, right_at)
 
 pub index_mut-requires : goal.index_mut-requires
-index_mut-requires g c = found c.self.invariant.0 c.args.right
-    (rw (← c.self.view_is) at c.requires.right)
+index_mut-requires g c = grind (arith, found)
 
 pub index_mut-requires-2 : goal.index_mut-requires-2
 index_mut-requires-2 g c =
-    rw (get_or-set_other c.self.inside.slab.slots c.args.right c.args.left
-    (Some c.replace-upper.new.dest) None c.requires.apart)
-    (found c.self.invariant.0 c.args.left (rw (← c.self.view_is) at c.requires.left))
+    grind (arith, get_or-set_other, found)
 
 pub absorb-len-requires-clause-room : goal.absorb-len-requires-clause-room
 absorb-len-requires-clause-room g c =
-    let a = (goal.at.absorb-len-requires-clause-room g c).After-index_mut-2 in
-    omega (
-      arith,
-      (left_seen g a).len,
-      (right_seen g a).len,
-      rw (← c.self.view_is) at c.requires.room,
-    )
+    grind (arith, left_seen, right_seen)
 
 pub absorb-len-requires-clause-places : goal.absorb-len-requires-clause-places
 absorb-len-requires-clause-places g c =
-    let a = (goal.at.absorb-len-requires-clause-places g c).After-index_mut-2 in
-    rw (← (left_seen g a).children, ← (right_seen g a).children)
-    (rw (← c.self.view_is) at c.requires.places)
+    grind (arith, left_seen, right_seen)
 
 pub absorb-requires-clause-room : goal.absorb-requires-clause-room
 absorb-requires-clause-room g c =
-    let a = (goal.at.absorb-requires-clause-room g c).After-index_mut-2 in
-    omega (
-      arith,
-      (left_seen g a).len,
-      (right_seen g a).len,
-      rw (← c.self.view_is) at c.requires.room,
-    )
+    grind (arith, left_seen, right_seen)
 
 pub push_front_reserved-requires : goal.push_front_reserved-requires
 push_front_reserved-requires g c =
-    let s = c.self.inside in
-    let fewer = fewer_spares c.self.invariant.0 c.args.right
-    (rw (← c.self.view_is) at c.requires.right) in
-    omega (arith, fewer, s.spares.ok.0, c.self.invariant.1)
+    grind (arith, fewer_spares)
 
 pub invariant_of-self : goal.invariant_of-self
 invariant_of-self g c =

@@ -4,14 +4,11 @@ use Rattle.range_store.proofs.Spares.{fewer_spares, found, freed}
 use Rattle.range_store.proofs.btree.nodes.Nodes.remove_node.Goals as goal
 
 pub index_mut-requires : goal.index_mut-requires
-index_mut-requires g c = found c.self.invariant.0 c.args.number
-    (rw (← c.self.view_is) at c.requires.present)
+index_mut-requires g c = grind (arith, found)
 
 pub push_front_reserved-requires : goal.push_front_reserved-requires
 push_front_reserved-requires g c =
-    let fewer = fewer_spares c.self.invariant.0 c.args.number
-    (rw (← c.self.view_is) at c.requires.present) in
-    omega (arith, fewer, c.self.inside.spares.ok.0, c.self.invariant.1)
+    grind (arith, fewer_spares)
 
 pub invariant_of-self : goal.invariant_of-self
 invariant_of-self g c =

@@ -5,15 +5,11 @@ use Rattle.range_store.proofs.btree.rows.Rows.cells.Goals as goal
 
 pub overflow_mul-start : goal.overflow_mul-start
 overflow_mul-start g c =
-    let less = rw (← c.self.view_is, length-rows) at c.requires.number in
-    let some = rw (← c.self.view_is) at c.requires.some in
-    omega (arith, room c.self.invariant.0 c.args.number less some, c.self.inside.cells.ok)
+    grind (arith, length-rows, room)
 
 pub overflow_add-result : goal.overflow_add-result
 overflow_add-result g c =
-    let less = rw (← c.self.view_is, length-rows) at c.requires.number in
-    let some = rw (← c.self.view_is) at c.requires.some in
-    omega (arith, room c.self.invariant.0 c.args.number less some, c.self.inside.cells.ok)
+    grind (arith, length-rows, room)
 
 pub offset_bounds-cells-start : goal.offset_bounds-cells-start
 offset_bounds-cells-start g c =

@@ -7,9 +7,7 @@ use Rattle.range_store.proofs.btree.rows.Rows.item_mut.Goals as goal
 
 pub overflow_mul-number : goal.overflow_mul-number
 overflow_mul-number g c =
-    let less = rw (← c.self.view_is, length-rows) at c.requires.number in
-    let within = rw (← c.self.view_is) at c.requires.within in
-    omega (arith, room c.self.invariant.0 c.args.number less within, c.self.inside.cells.ok)
+    grind (arith, length-rows, room)
 
 pub overflow_add-number : goal.overflow_add-number
 overflow_add-number g c =
@@ -38,9 +36,7 @@ filled-requires g c =
 
 pub invariant_of-self-lent : goal.invariant_of-self-lent
 invariant_of-self-lent g c w =
-    let less = rw (← c.self.view_is, length-rows) at c.requires.number in
-    let within = rw (← c.self.view_is) at c.requires.within in
-    ((cell_written c.self.invariant.0 less within w).rows, c.self.invariant.1)
+    grind (arith, length-rows, cell_written)
 
 pub returns : goal.returns
 returns g c =

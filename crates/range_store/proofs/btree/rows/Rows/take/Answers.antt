@@ -31,33 +31,23 @@ module _ (g : Over) (c : After-deref_mut g) where
 
 pub overflow_mul-start : goal.overflow_mul-start
 overflow_mul-start g c =
-    let less = rw (← c.self.view_is, length-rows) at c.requires.number in
-    let within = rw (c.requires.len, ← c.self.view_is) at c.requires.within in
-    omega (arith, room c.self.invariant.0 c.args.number less within, c.self.inside.cells.ok)
+    grind (arith, less, length-rows, within, room)
 
 pub overflow_add-start : goal.overflow_add-start
 overflow_add-start g c =
-    let less = rw (← c.self.view_is, length-rows) at c.requires.number in
-    let within = rw (c.requires.len, ← c.self.view_is) at c.requires.within in
-    omega (arith, room c.self.invariant.0 c.args.number less within, c.self.inside.cells.ok)
+    grind (arith, less, length-rows, within, room)
 
 pub offset_bounds-deref_mut-start : goal.offset_bounds-deref_mut-start
 offset_bounds-deref_mut-start g c =
-    let enough = enough g (goal.at.offset_bounds-deref_mut-start g c).After-deref_mut in
-    let front : CAPACITY * c.args.number ≤ length c.deref_mut.result.now = omega (arith, enough) in
-    scaled_fits≤ (CAPACITY * c.args.number) (length c.deref_mut.result.now) _ front
-    c.deref_mut.type_inv.1
+    grind (arith, enough, scaled_fits≤)
 
 pub slice_bounds-take_item-end : goal.slice_bounds-take_item-end
 slice_bounds-take_item-end g c =
-    let enough : CAPACITY * c.args.number + CAPACITY ≤ length c.deref_mut.result.now =
-    enough g (goal.at.slice_bounds-take_item-end g c).After-deref_mut in
-    search rules
+    grind (arith, enough)
 
 pub take_item-requires-clause-len : goal.take_item-requires-clause-len
 take_item-requires-clause-len g c =
-    let same = same g (goal.at.take_item-requires-clause-len g c).After-deref_mut in
-    (rw (← c.self.view_is) at c.requires.len) ∙ sym (ap length same)
+    grind (arith, same)
 
 pub invariant_of-self : goal.invariant_of-self
 invariant_of-self g c =
