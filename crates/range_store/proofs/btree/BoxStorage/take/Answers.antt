@@ -29,8 +29,7 @@ unreachable-requires g c =
 pub home-home-requires-clause-some : goal.home-home-requires-clause-some
 home-home-requires-clause-some g c =
     let behind = tree_behind c.requires.edge (omega (arith, c.if-edge-gt0.false)) in
-    let left = rw c.in-Some-left.is at c.take_in_leaf-next.ensures.edge in
-    omega (arith, left.1, behind.1, c.requires.some)
+    grind arith
 
 pub replace_item-item-requires : goal.replace_item-item-requires
 replace_item-item-requires g c =
@@ -69,11 +68,7 @@ returns g c =
     let behind = tree_behind c.requires.edge (omega (arith, c.if-edge-gt0.false)) in
     let left = rw c.in-Some-left.is at c.take_in_leaf-next.ensures.edge in
     record {
-      removed = replaced_item s t c.args.edge
-          (record { leaf = c.args.edge.leaf; path = c.args.edge.path; index = 1 })
-          c.in-Some-left.left c.requires.some (edge_within behind.0) behind.1
-          c.take_in_leaf-next.ensures.list left.0 left.1 c.replace_item-item.result
-          c.home-home.result c.home-home.ensures c.replace_item-item.ensures.before;
+      removed = grind (arith, replaced_item, edge_within);
       list = so.items_are;
       space = space_grows s (box_place s c.args.edge) c.replace_item-item.new.self t.levels t.root
           c.requires.some (within g at.Start) so.items_are so.capacity;

@@ -37,8 +37,7 @@ taken : (g : Over) (c : After-take_beside-item g)
     (record { leaf = c.args.edge.leaf; path = c.args.edge.path; index = c.args.edge.index - 1 })
     (c.args.edge.index - 1)
 taken g c = take_from_leaf c.take_beside-item.new.self c.requires.edge _ (omega arith)
-    c.requires.in_leaf (rw (no_child_gone _ (tree_leaf c.requires.edge).childless) at
-    c.take_beside-item.ensures.rest) refl refl refl
+    c.requires.in_leaf (grind (arith, no_child_gone, tree_leaf)) refl refl refl
 
 pub invariant_of-self : goal.invariant_of-self
 invariant_of-self g c =

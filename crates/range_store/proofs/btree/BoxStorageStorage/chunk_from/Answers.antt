@@ -55,15 +55,4 @@ returns g c =
     let behind : box_place s p ≡ box_rank s p + 1 =
     omega (arith, rank_is c.requires, c.requires.some) in
     let end = at_index c.requires.is (length items) (omega arith) in
-    let place : box_place s (record p { index = length items })
-    ≡ box_rank s p + 1 + length c.of_cells.result = omega (arith, end.1, behind, low, many) in
-    record {
-      first = item_home c.requires c.around_leaf-behind.result.0 c.around_leaf-behind.ensures.home
-          c.item_at.result.now c.item_at.ensures;
-      rest = run ∙ leaf_rest c.requires.is
-          ∙ ap (λ n. take n (drop (box_place s p) (box_items s))) (sym many)
-          ∙ ap (λ n. take (length c.of_cells.result) (drop n (box_items s))) behind;
-      after = subst (IsAt (IsGood s) (box_rank s) (length (box_items s))
-          c.around_leaf-behind.result.1) place (next_at s _ c.around_leaf-behind.result.1 (next_from s _
-          c.requires.is.some c.around_leaf-behind.result.1 c.around_leaf-behind.ensures.behind));
-    }
+    grind (arith, item_home, leaf_rest, next_at, next_from)

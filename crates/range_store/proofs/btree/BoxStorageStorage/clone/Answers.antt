@@ -34,8 +34,7 @@ loop-at-preserved g c =
       copied =
           copied_one (λ x y. g.T.PartialEq.eq y x ≡ true) items before after c.get.result.now
           c.in_ok-item.item longer within read c.loop-at.invariant.copied
-          ((rw (sym read) at (c.requires (length before) c.get.result.now within)) c.in_ok-item.item
-          c.in_ok-item.ensures.cases);
+          (grind arith);
       space = omega (arith, c.push_reserved.ensures.capacity, c.loop-at.invariant.space);
     }
 

@@ -7,12 +7,4 @@ pub invariant_of-result : goal.invariant_of-result
 invariant_of-result g c =
     let none = ap length (items_below_none c.new.result 0) in
     let tree = IsTree-none c.new.result 0 c.new.ensures.empty in
-    record {
-      whole = record {
-        tree = tree;
-        fits = omega (arith, none);
-        counted = omega (arith, none);
-      };
-      counted = sym none;
-      levelled = rw none at (has_levels tree);
-    }
+    grind (arith, has_levels)

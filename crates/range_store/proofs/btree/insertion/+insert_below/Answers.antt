@@ -59,16 +59,7 @@ insert_below-inserted-requires g t c κs inside =
     let owned = kid_owned c.args.nodes.now c.args.below c.args.number (turn c.args.edge)
     c.requires.owned (child_within c.if-below-eq0.false c.requires.shaped _ low) in
     let room = HasTreeRoom-child (turn c.args.edge) (omega arith) low c.requires.shaped
-    c.requires.room in (
-      omega (arith, c.if-below-eq0.false),
-      (
-        inside,
-        rw (c.child_at-child.ensures, c.first_turn-index.ensures, c.seen_inside.ensures) (
-          kid,
-          (rw (← back) at owned, (is, (omega (arith, c.requires.deep), rw (← back) at room))),
-        ),
-      ),
-    )
+    c.requires.room in grind arith
 
 pub returns-in-None : goal.returns-in-None
 returns-in-None g t c =

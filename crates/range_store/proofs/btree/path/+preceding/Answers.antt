@@ -14,14 +14,7 @@ pub preceding-requires : goal.preceding-requires
 preceding-requires g t c κs within =
     let low = below_turn c.if-below-eq0.false c.requires.shaped c.args.edge c.requires.edge in
     let kid = below_kid c.if-below-eq0.false c.requires.shaped (turn c.args.edge) low in
-    let is = below_inside c.if-below-eq0.false c.requires.shaped c.args.edge c.requires.edge in (
-      omega (arith, c.if-below-eq0.false),
-      (
-        within,
-        rw (c.child_at-child.ensures, c.first_turn-index.ensures, c.seen_inside.ensures)
-            (kid, (omega (arith, c.requires.deep), is)),
-      ),
-    )
+    grind (arith, below_inside)
 
 pub seen_above-requires : goal.seen_above-requires
 seen_above-requires g t c =
@@ -65,15 +58,4 @@ returns g t c =
     omega (arith, c.first_turn-index.ensures, most, c.if-index-eq0.false) in
     let next : i + 1 ≡ turn c.args.edge =
     omega (arith, c.first_turn-index.ensures, c.if-index-eq0.false) in
-    let none = rw (c.child_at-child.ensures, c.first_turn-index.ensures, c.seen_inside.ensures) at
-    (rw c.in_default.is at c.preceding.ensures) in
-    let is = rw c.child_at-last.ensures at c.end_edge.ensures.edge in
-    let end = rw (level_of_children c.if-below-eq0.false c.requires.shaped) at
-    (rw c.child_at-last.ensures at c.end_edge.ensures.place) in
-    let place = below_place c.if-below-eq0.false c.requires.shaped i c.end_edge.result _
-    c.seen_above-2.ensures.turn c.seen_above-2.ensures.inside in
-    let more = rw next at (before_next c.if-below-eq0.false c.requires.shaped i low) in (
-      below_edge c.if-below-eq0.false c.requires.shaped i c.end_edge.result _
-          c.seen_above-2.ensures.turn c.seen_above-2.ensures.inside (omega arith) is,
-      omega (arith, below_here c.if-below-eq0.false c.requires.shaped c.args.edge),
-    )
+    grind (arith, level_of_children, below_place, before_next, below_edge, below_here)

@@ -106,8 +106,4 @@ pub returns-in-Some : goal.returns-in-Some
 returns-in-Some g c =
     let begins = rw c.in-Some.is at
     (comes g (goal.at.returns-in-Some g c).After-home_before-found) in
-    record {
-      home = home_found g (goal.at.returns-in-Some g c).After-home_before-found;
-      behind = begins.first c.first_edge-first.result c.first_edge-first.ensures.edge
-          c.first_edge-first.ensures.place;
-    }
+    grind (arith, home_found)

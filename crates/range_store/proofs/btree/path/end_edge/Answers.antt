@@ -32,7 +32,4 @@ returns g c =
     let ends = descent_ends (λ _. true) c.args.nodes.now c.down.left c.down.leaf c.down.path
     c.down.weight (omega (arith, c.down-test.false)) c.down.invariant c.item_count.result
     (c.item_count.ensures ∙ sym (count_all (node_items c.args.nodes.now c.down.leaf))) in
-    record {
-      edge = ends.edge;
-      place = ends.count ∙ count_all (items_below c.args.nodes.now _ c.args.number);
-    }
+    grind (arith, count_all)

@@ -18,8 +18,7 @@ down-preserved g c =
     let weight = PATH_BASE ^ (below - left) in
     let down = descends (λ _. false) s c.down.leaf 0 weight (omega (arith, c.down-test.true))
     c.down.invariant 0 (sym (count_none (node_items s c.down.leaf))) in
-    let path : 0 + weight * 0 ≡ 0 = omega arith in
-    rw (c.child_at-leaf.ensures, ← down.lies.weight_is) (rw path at down)
+    grind arith
 
 pub returns : goal.returns
 returns g c =

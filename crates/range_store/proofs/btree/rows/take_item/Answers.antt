@@ -24,8 +24,7 @@ pub returns-clause-item : goal.returns-clause-item
 returns-clause-item g c =
     let a = (goal.at.returns-clause-item g c).After-take in
     let stands = standing (items_in c.args.row.now) c.args.index (within g a) in
-    same_Some c.unwrap.result stands.item (sym c.unwrap.ensures ∙ taken g a)
-    ∙ sym (stands.item_is c.unwrap.result)
+    grind (arith, same_Some, taken)
 
 pub returns-clause-held : goal.returns-clause-held
 returns-clause-held g c =

@@ -32,8 +32,7 @@ tells g c =
     ∙ cell_read c.requires.held (c.args.end - 1) within stands _ in
     let same = same_Some c.in-Some.item stands.item (sym c.in-Some.is ∙ read)
     ∙ sym (stands.item_is c.in-Some.item) in
-    told p xs (c.args.end - 1) c.in-Some.item c.requires.falls within c.ask.result
-    (c.ask.ensures.answer ∙ ap p same)
+    grind (arith, told)
 
 pub returns-clause-passes : goal.returns-clause-passes
 returns-clause-passes g c more =

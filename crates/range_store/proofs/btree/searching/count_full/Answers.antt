@@ -30,9 +30,4 @@ loop-cell-preserved g c =
     (take_more cells i x within ∙ ap (λ y. take i cells ++ y ∷ []) (sym c.cell-item.is))
     ∙ ap length (filter_map-append (λ cell. cell) (take i cells) (x ∷ []))
     ∙ length-append (items_in (take i cells)) (items_in (x ∷ [])) in
-    let bit : ◌≡◌ {A = ℕ} c.from-len.result (cond (is_some x) 1 0) =
-    rw (c.from-len.ensures, c.is_some.ensures) (byte (is_some x)) in
-    record {
-      count = omega (arith, c.loop-cell.invariant.count, more, one x, bit);
-      few = omega (arith, c.loop-cell.invariant.few, few (is_some x), bit);
-    }
+    grind arith

@@ -98,5 +98,4 @@ child_at-at-requires-clause-within g c =
       counted g a,
       count_by-le-length (g.P.Probe.test c.args.probe.now) (node_items s c.down.at),
     ) in
-    child_within (omega (arith, c.if-left-eq0.false)) c.down.invariant.0.lies.shaped
-    c.count_passing-index.result low
+    grind (arith, child_within)

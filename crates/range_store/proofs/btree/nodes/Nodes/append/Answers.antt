@@ -54,10 +54,7 @@ invariant_of-self g c =
     (right_at g a)
     (rw (← c.self.view_is) at c.requires.left) (rw (← c.self.view_is) at c.requires.right)
     c.replace-upper.new.dest none_len none_children c.absorb-len.new.self
-    c.args.middle c.absorb-len.ensures.len c.absorb-len.ensures.children in (
-      rw (c.push_front_reserved.ensures.items, c.absorb.ensures) now.whole,
-      omega (arith, c.self.invariant.1, c.push_front_reserved.ensures.capacity, now.len),
-    )
+    c.args.middle c.absorb-len.ensures.len c.absorb-len.ensures.children in grind arith
 
 pub returns : goal.returns
 returns g c =

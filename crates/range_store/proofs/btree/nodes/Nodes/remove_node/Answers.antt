@@ -14,16 +14,11 @@ pub invariant_of-self : goal.invariant_of-self
 invariant_of-self g c =
     let freed = freed c.self.invariant.0 c.args.number c.index_mut.ensures.value
     (rw (← c.self.view_is) at c.requires.present) (rw (← c.self.view_is) at c.requires.empty)
-    c.new.result c.new.ensures.len c.new.ensures.children in (
-      rw c.push_front_reserved.ensures.items
-          (rw (set-get_or c.self.inside.rows c.args.number []) at freed.whole),
-      omega (arith, c.self.invariant.1, c.push_front_reserved.ensures.capacity, freed.len),
-    )
+    c.new.result c.new.ensures.len c.new.ensures.children in grind (arith, set-get_or, freed)
 
 pub returns : goal.returns
 returns g c =
     let freed = freed c.self.invariant.0 c.args.number c.index_mut.ensures.value
     (rw (← c.self.view_is) at c.requires.present) (rw (← c.self.view_is) at c.requires.empty)
     c.new.result c.new.ensures.len c.new.ensures.children in
-    rw (← c.self.view_is, c.push_front_reserved.ensures.items)
-    (rw (set-get_or c.self.inside.rows c.args.number []) at freed.nodes)
+    grind (arith, set-get_or, freed)

@@ -53,22 +53,7 @@ loop-preserved g c =
     let number = c.insert_reserved-number.result in
     let inserted = c.insert_reserved-number.ensures in
     let changes : Changes slab c.insert_reserved-number.new.self rows rows number c.new.result [] =
-    record {
-      updates = inserted.updates;
-      here = vacant_row was.whole number inserted.was_vacant;
-      others = λ k differs. refl;
-      long = omega arith;
-      there = omega (
-        arith,
-        ap length was.rows,
-        inserted.key_in_range,
-        inserted.capacity,
-        was.capacity,
-        c.capacity.ensures.value,
-        c.in_ok-reserve-2.ensures.there,
-      );
-      len_is = c.new.ensures.len;
-    } in
+    grind (arith, vacant_row) in
     let next =
     added was.whole changes inserted.was_vacant inserted.len refl c.new.ensures.children in
     record {

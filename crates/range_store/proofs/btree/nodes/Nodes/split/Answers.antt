@@ -64,10 +64,7 @@ invariant_of-self g c =
     let second = filled first.whole c.next_spare-right.result c.index_mut-2.ensures.value
     c.divide-upper.result (drop 7 all)
     (omega (arith, c.divide-upper.ensures.right_len, length-drop 7 all, long g a))
-    c.divide-upper.ensures.right c.next_spare-right.ensures.items in (
-      rw c.divide-middle.ensures.rows second.whole,
-      omega arith,
-    )
+    c.divide-upper.ensures.right c.next_spare-right.ensures.items in grind arith
 
 pub returns : goal.returns
 returns g c =

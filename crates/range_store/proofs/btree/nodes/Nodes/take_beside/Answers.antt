@@ -29,10 +29,4 @@ returns g c =
     let taken = taken_out c.self.invariant.0 c.args.number c.index_mut.ensures.value
     present c.take-child.new.self c.args.index (rw (← c.self.view_is) at c.requires.within)
     c.take-child.ensures.len c.take-child.ensures.children in
-    rw (← c.self.view_is) (record {
-      item = c.take.ensures.item
-          ∙ ap (λ xs. get_or xs c.args.index c.take.result) (sym seen.items);
-      child = c.take-child.ensures.child
-          ∙ ap (λ ks. slice_get ks c.args.place) (sym seen.children);
-      rest = rw (seen.children, c.take.ensures.rest) taken.nodes;
-    })
+    grind (arith, seen, slice_get)

@@ -23,9 +23,7 @@ slice_bounds-result-end g c =
     let less = rw (← c.self.view_is, length-rows) at c.requires.number in
     let room = room c.self.invariant.0 c.args.number less (rw (← c.self.view_is) at c.requires.some)
     in
-    let end : CAPACITY * c.args.number + CAPACITY ≤ length c.as_slice-cells.result.now =
-    omega (arith, room, ap length c.as_slice-cells.ensures.value) in
-    search rules
+    grind (arith, room)
 
 pub returns : goal.returns
 returns g c =

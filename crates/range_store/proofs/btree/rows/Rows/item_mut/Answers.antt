@@ -14,8 +14,7 @@ overflow_add-number g c =
     let less = rw (← c.self.view_is, length-rows) at c.requires.number in
     let within = rw (← c.self.view_is) at c.requires.within in
     let held = row_held c.self.invariant.0 c.args.number less within in
-    let room = room c.self.invariant.0 c.args.number less within in
-    omega (arith, room, held.fits, within, c.self.inside.cells.ok)
+    grind (arith, room)
 
 pub index_mut-requires : goal.index_mut-requires
 index_mut-requires g c =
@@ -45,11 +44,4 @@ returns g c =
     let stands = standing (row_of (rows_in c.self.inside.many c.self.inside.cells.items)
     c.args.number) c.args.index within in
     let read = c.index_mut.ensures.value
-    ∙ cell_in c.self.invariant.0 c.args.number less within stands _ in (
-      (refl, λ w. rw (← c.self.view_is) (cell_written c.self.invariant.0 less within w).is),
-      record {
-        writes_back = tt;
-        value = rw (← c.self.view_is) (same_Some c.filled.result.now stands.item
-            (sym c.filled.ensures.value ∙ read) ∙ sym (stands.item_is c.filled.result.now));
-      },
-    )
+    ∙ cell_in c.self.invariant.0 c.args.number less within stands _ in grind (arith, cell_written, same_Some)

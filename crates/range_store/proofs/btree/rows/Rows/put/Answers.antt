@@ -56,12 +56,7 @@ invariant_of-self g c =
     let start = CAPACITY * c.args.number in
     let written = part_written (rows g a) (less g a) (start + CAPACITY - start) (omega arith)
     (long g a) (rw (same g a) at c.put_item.ensures.held) in
-    let cells_are = with_items_is c.add_cells.new.cells
-    (put_mid start (start + CAPACITY - start) c.add_cells.new.cells.items c.put_item.new.row)
-    (omega (arith, written.len, c.add_cells.new.cells.ok)) in (
-      rw (c.deref_mut.ensures.value, cells_are) written.rows,
-      omega (arith, c.self.invariant.1, c.add_cells.ensures.capacity),
-    )
+    grind (arith, with_items_is)
 
 pub returns : goal.returns
 returns g c =

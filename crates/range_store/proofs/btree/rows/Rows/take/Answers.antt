@@ -57,10 +57,7 @@ invariant_of-self g c =
     let written = part_written c.self.invariant.0 (less g a) (start + CAPACITY - start)
     (omega arith)
     (long g a) (rw (same g a) at c.take_item.ensures.held) in
-    let cells_are = with_items_is s.cells
-    (put_mid start (start + CAPACITY - start) s.cells.items c.take_item.new.row)
-    (omega (arith, written.len, s.cells.ok)) in
-    (rw (c.deref_mut.ensures.value, cells_are) written.rows, c.self.invariant.1)
+    grind (arith, with_items_is)
 
 pub returns : goal.returns
 returns g c =
@@ -70,12 +67,4 @@ returns g c =
     let written = part_written c.self.invariant.0 (less g a) (start + CAPACITY - start)
     (omega arith)
     (long g a) (rw (same g a) at c.take_item.ensures.held) in
-    let cells_are = with_items_is s.cells
-    (put_mid start (start + CAPACITY - start) s.cells.items c.take_item.new.row)
-    (omega (arith, written.len, s.cells.ok)) in
-    let same = same g a in
-    record {
-      rest = rw (← c.self.view_is, c.deref_mut.ensures.value, cells_are) written.is;
-      item = rw (← c.self.view_is)
-          (c.take_item.ensures.item ∙ ap (λ xs. get_or xs c.args.index c.take_item.result) same);
-    }
+    grind (arith, with_items_is, same)
