@@ -92,7 +92,7 @@ module _ {T : Type 0} where
       let same : old ≡ cells ++ None ∷ rest =
       h.cells_are ∙ ap (λ n. cells ++ replicate n None) left in
       let many = length-full xs in
-      grind (arith, turned_right, set_at (take i cells) None (drop i cells ++ rest) (Some item) i (length-take-le i cells (omega arith)), length-take-le i cells (omega arith), append_assoc (take i cells) (Some item ∷ drop i cells) rest, full_insert xs i item)
+      grind (arith, turned_right, set_at, length-take-le i cells (omega arith), append_assoc (take i cells) (Some item ∷ drop i cells) rest, full_insert xs i item)
 
   -- an item was taken from the others
   module _ {old : List (Option T)} {xs : List T} (i k end : ℕ) (part : List (Option T))
@@ -124,12 +124,7 @@ module _ {T : Type 0} where
         let fewer = length-remove xs i within in
         let many = length-full (remove xs i) in
         let stands = standing xs i within in
-        grind (
-          arith,
-          left stands,
-          set_at (full_cells (remove xs i)) (Some stands.item)
-              (replicate (CAPACITY - length xs) None) None end (omega arith),
-        )
+        grind (arith, left stands, set_at)
 
   -- a row with no item
   pub held_none : HoldsItems {T = T} (replicate CAPACITY None) []

@@ -165,12 +165,7 @@ module _ {T : Type 0} {s t : Heap T} {d n r : ℕ} (half : ℕ) {xs : List T} {k
       → length xs ≤ half + 1 + CAPACITY → (least : ℕ) → least ≤ MIN_LEN
       → All (ShapedBut least CAPACITY t d) (n ∷ r ∷ [])
   halves_shape least_left most_left least_right most_right least small = All-cons
-      (ShapedBut least CAPACITY t d) n (r ∷ []) (held_shape left least (omega (
-        arith,
-        left_length,
-        least_left,
-        small,
-      )) (omega (arith, left_length, most_left))
+      (ShapedBut least CAPACITY t d) n (r ∷ []) (held_shape left least (omega (arith, left_length)) (omega (arith, left_length, most_left))
       (branches_left ∙ ap (child_count d) (sym left_length))
       (All-take (Shaped s d) (half + 1) ks content.shaped)) (All-cons (ShapedBut least CAPACITY t d)
       r [] (held_shape right least (omega (arith, right_length, least_right, small)) (omega (

@@ -63,7 +63,7 @@ module _ {X : Type 0} (p : X → Bool) where
   falls_partitioned (x ∷ xs) part = (
     (λ fails. none_counted xs
         (λ k d within. false_from_ne_true _
-        (λ holds. grind (arith, both_ways (p x) fails (part 0 (suc k) d (omega arith) (omega (arith, within)) holds))))),
+        (λ holds. grind (arith, both_ways (p x) fails (part 0 (suc k) d (omega arith) (omega arith) holds))))),
     falls_partitioned xs (λ i j d le within holds.
         part (suc i) (suc j) d (omega arith) (omega (arith, within)) holds),
   )

@@ -58,11 +58,11 @@ module _ {T : Type 0} {s t : Heap T} {b n : ℕ} {us ms vs ts : List ℕ}
 
   pub same_before : SameChildren s t b us
   same_before =
-      grind (arith, same_children s t b us (AgreeAt-left s t (flat_map (used s b) us) (flat_map (used s b) vs) agree_sides), AgreeAt-left s t (flat_map (used s b) us) (flat_map (used s b) vs) agree_sides, agree_sides)
+      grind (arith, same_children s t b us (AgreeAt-left s t (flat_map (used s b) us) (flat_map (used s b) vs) agree_sides), agree_sides)
 
   pub same_after : SameChildren s t b vs
   same_after =
-      grind (arith, same_children s t b vs (AgreeAt-right s t (flat_map (used s b) us) (flat_map (used s b) vs) agree_sides), AgreeAt-right s t (flat_map (used s b) us) (flat_map (used s b) vs) agree_sides, agree_sides)
+      grind (arith, same_children s t b vs (AgreeAt-right s t (flat_map (used s b) us) (flat_map (used s b) vs) agree_sides), agree_sides)
 
   used_new : flat_map (used t b) (us ++ (ts ++ vs)) ≡ flat_map (used s b) us
       ++ (flat_map (used t b) ts ++ flat_map (used s b) vs)
@@ -70,7 +70,7 @@ module _ {T : Type 0} {s t : Heap T} {b n : ℕ} {us ms vs ts : List ℕ}
       grind (arith, flat_map-append, same_before, same_after)
 
   pub run_moved : Moves s t (used s (suc b) n) (n ∷ flat_map (used t b) (us ++ (ts ++ vs)))
-  run_moved = grind (arith, Moves-like, occur_old, occurrences-append, used_old, length-append, used_new, occurrences-cons, Moves-beside)
+  run_moved = grind (arith, Moves-like, occur_old, occurrences-append, used_old, length-append, used_new, occurrences-cons)
 
   pub run_content : (xs : List T) → length (us ++ (ts ++ vs)) ≡ child_count b (length xs)
       → All (Shaped s b) us → All (Shaped t b) ts → All (Shaped s b) vs
@@ -78,7 +78,7 @@ module _ {T : Type 0} {s t : Heap T} {b n : ℕ} {us ms vs ts : List ℕ}
   run_content xs branches left middle right = record {
     present = rw run_kept run.present;
     shaped =
-        grind (arith, All-append (Shaped t b) us (ts ++ vs) (same_before.shaped_same left) (All-append (Shaped t b) ts vs middle (same_after.shaped_same right)), same_before, All-append (Shaped t b) ts vs middle (same_after.shaped_same right), same_after);
+        grind (arith, All-append (Shaped t b) us (ts ++ vs) (same_before.shaped_same left) (All-append (Shaped t b) ts vs middle (same_after.shaped_same right)), same_before, same_after);
     branches = branches;
     owned = λ k. omega (arith, run_moved.owned k, run.owned k);
   }
@@ -193,7 +193,7 @@ module _ {T : Type 0} {s t : Heap T} {b n i rest : ℕ} {item : T} {split : Opti
   front_many = length-take-le i xs grows.low
 
   pub grown_content : IsContent t b n new_xs new_ks
-  grown_content = grind (arith, run_content grown_run new_xs (grind (arith, length-append, us_many, front_many, length-drop)) (All-take (Shaped s b) i ks grows.shaped.children) tops_shaped (All-drop (Shaped s b) (i + 1) ks grows.shaped.children), grown_run, length-append, us_many, front_many, length-drop, All-take (Shaped s b) i ks grows.shaped.children, tops_shaped, All-drop (Shaped s b) (i + 1) ks grows.shaped.children)
+  grown_content = grind (arith, run_content grown_run new_xs (grind (arith, length-append, us_many, front_many, length-drop)) (All-take (Shaped s b) i ks grows.shaped.children) tops_shaped (All-drop (Shaped s b) (i + 1) ks grows.shaped.children), grown_run, length-append, us_many, front_many, length-drop, All-take (Shaped s b) i ks grows.shaped.children, tops_shaped)
 
   abbrev lists : List (List T)
   lists = child_lists s b n
@@ -201,7 +201,7 @@ module _ {T : Type 0} {s t : Heap T} {b n i rest : ℕ} {item : T} {split : Opti
   pub grown_listed : weave new_xs (map (items_below t b) new_ks)
       ≡ insert (items_below s (suc b) n) (length (before xs lists i) + rest) item
   grown_listed =
-      grind (arith, level, items_below_at (omega arith) grows.shaped i grows.low, run_lists grown_run, grown_run, weave_tops (take i xs) (drop i xs) (map (items_below s b) us) (map (items_below s b) vs) (items_below t b) kid split (omega (arith, front_many, us_many, length-map us (items_below s b))), front_many, us_many, length-map us (items_below s b), take-map (items_below s b) i ks, drop-map (items_below s b) (i + 1) ks, insert_middle (before xs lists i) (items_below s b kid) (after xs lists i) rest item grows.within)
+      grind (arith, level, items_below_at (omega arith) grows.shaped i grows.low, run_lists grown_run, grown_run, weave_tops, front_many, us_many, length-map us (items_below s b), take-map (items_below s b) i ks, drop-map (items_below s b) (i + 1) ks, insert_middle (before xs lists i) (items_below s b kid) (after xs lists i) rest item grows.within)
 
   pub grown_longer : length (weave new_xs (map (items_below t b) new_ks))
       ≡ length (items_below s (suc b) n) + 1
@@ -218,20 +218,19 @@ module _ {T : Type 0} {s t : Heap T} {b n i rest : ℕ} {item : T} {split : Opti
       let all =
       seat_run t (b - 1) us (tops kid split) vs (take i xs) (separators split)
       (drop i xs) i side g us_many front_many (tops_many kid split) seat in
-      grind (arith, here, level, length-before xs lists i grows.low (omega (arith, many, length-map ks (items_below s b))), many, length-map ks (items_below s b), same_before grown_run, grown_run, take-map (items_below s b) i ks)
+      grind (arith, here, level, length-before xs lists i grows.low (omega (arith, many, length-map ks (items_below s b))), many, same_before grown_run, grown_run, take-map (items_below s b) i ks)
 
 -- the children with the new one
 pub with_right : (ks : List ℕ) (i right : ℕ) → i < length ks
     → insert ks (i + 1) right ≡ take i ks ++ (get_or ks i 0 ∷ right ∷ drop (i + 1) ks)
-with_right ks i right low =
-    grind (arith, take_more ks i 0 low, append_assoc (take i ks) (get_or ks i 0 ∷ []) (right ∷ drop (i + 1) ks))
+with_right ks i right low = grind (arith, take_more ks i 0 low, append_assoc)
 
 pub kid_owned : {T : Type 0} (s : Heap T) (b n i : ℕ) → Owned s (suc b) n
     → i < length (node_children s n) → Owned s b (node_child s n i)
 kid_owned s b n i owned low k =
     let ks = node_children s n in
     let kid = get_or ks i 0 in
-    grind (arith, list_splits_at ks i 0 low, flat_map-append (used s b) (take i ks) (kid ∷ drop (i + 1) ks), used_is s b n, occurrences-cons, occurrences-append)
+    grind (arith, list_splits_at ks i 0 low, flat_map-append, used_is s b n, occurrences-cons, occurrences-append)
 
 -- a child that was not cut leaves the node as it is
 module _ {T : Type 0} {s t : Heap T} {b n i rest : ℕ} {item : T}
@@ -256,7 +255,7 @@ module _ {T : Type 0} {s t : Heap T} {b n i rest : ℕ} {item : T}
 
   pub none_replaces : Replaces s t b n None
       (insert (items_below s (suc b) n) (length (before_child s b n i) + rest) item)
-  none_replaces = grind (arith, settled_replaces _ (grown_moved grows) (grown_listed grows) (omega (arith, same_length)) (written_settles t content written (omega (arith, same_length, grows.shaped.node.fits))), grown_moved grows, grown_listed grows, same_length, written_settles t content written (omega (arith, same_length, grows.shaped.node.fits)), content, written)
+  none_replaces = grind (arith, grown_moved grows, grown_listed grows, same_length, written_settles t content written (omega (arith, same_length, grows.shaped.node.fits)), content, written)
 
   pub none_edge : (side : ℕ) (g h : Edge) → turn h ≡ i → inside h ≡ g
       → IsSeat t (suc (b - 1)) (separators {T = T} None)
@@ -270,7 +269,7 @@ module _ {T : Type 0} {s t : Heap T} {b n i rest : ℕ} {item : T}
       (tops {T = T} (node_child s n i) None) side g seat in
       let holds = written_holds t content written in
       let agree = written_agree t content written in
-      grind (arith, seat_written t t n xs' ks' (i + side) g h b holds agree (λ none. absurd (grows.inner none)) (λ some. omega (arith, at, one)) (λ some. into) up.0, agree)
+      grind (arith, seat_written t t n xs' ks' (i + side) g h b holds agree (λ none. absurd (grows.inner none)) (λ some. omega (arith, at, one)) (λ some. into) up.0)
 
 -- a node that may be cut has the item between the halves of its child, and the second of them
 module _ {T : Type 0} {s t : Heap T} {b n i rest : ℕ} {item : T} {split : Split T}

@@ -12,11 +12,11 @@ module _ {X : Type 0} (xs : List X) (i k : ℕ) (x : X) where
   pub take_insert_after : i ≤ k → i ≤ length xs
       → take (suc k) (insert xs i x) ≡ insert (take k xs) i x
   take_insert_after low within =
-      grind (arith, take-append-add (take i xs) (x ∷ drop i xs) (suc k) (suc (k - i)) (omega (arith, length-take-le i xs within)), length-take-le i xs within, between_is xs i k, take-take i k xs low)
+      grind (arith, take-append-add (take i xs) (x ∷ drop i xs) (suc k) (suc (k - i)) (omega (arith, length-take-le i xs within)), length-take-le, between_is xs i k, take-take i k xs low)
 
   pub drop_insert_after : i ≤ k → i ≤ length xs → drop (suc k) (insert xs i x) ≡ drop k xs
   drop_insert_after low within =
-      grind (arith, drop-append-add (take i xs) (x ∷ drop i xs) (suc k) (suc (k - i)) (omega (arith, length-take-le i xs within)), length-take-le i xs within, drop-drop (k - i) i xs)
+      grind (arith, drop-append-add (take i xs) (x ∷ drop i xs) (suc k) (suc (k - i)) (omega (arith, length-take-le i xs within)), length-take-le i xs within, drop-drop)
 
   pub drop_insert_before : k ≤ i → i ≤ length xs
       → drop k (insert xs i x) ≡ insert (drop k xs) (i - k) x

@@ -82,7 +82,7 @@ module _ {T : Type 0} {s t : Heap T} {d n : ℕ} (g : Edge) {items : List T}
     kept = kid_kept anew
 
     kid_now : Shaped t (suc d) (node_child s n (turn g))
-    kid_now = grind (arith, Shaped-from_but t d _ (below.rewritten.shape MIN_LEN (omega arith) (kid_shaped d (turn g) shaped low)), kid_shaped d (turn g) shaped low)
+    kid_now = grind (arith, Shaped-from_but, kid_shaped d (turn g) shaped low)
 
     edited_above : IsLeafEdit s t (suc d) n g items
     edited_above = record {
@@ -92,7 +92,7 @@ module _ {T : Type 0} {s t : Heap T} {d n : ℕ} (g : Edge) {items : List T}
           ∙ ap (λ zs. fore ++ (zs ++ behind)) below.was
           ∙ regroup fore below.front (node_items s g.leaf) below.rest behind;
       place_is = omega (arith, place_inside s d n g, length-append fore below.front);
-      rewritten = grind (arith, kid_listed anew, anew, regroup fore below.front items below.rest behind, kid_moved anew, kept, kid_children, kid_now);
+      rewritten = grind (arith, kid_listed anew, regroup fore below.front items below.rest behind, kid_moved anew, kept, kid_children, kid_now);
       edges = λ h leaf path index.
           grind (arith, kept, place_inside, kid_front, edge_above, length-append);
     }
@@ -108,7 +108,7 @@ leaf_edit {T} {s} {t} (suc d) {n} g {items} fits enough shaped owned is written 
     let low : turn g ≤ length (node_items s n) = omega (arith, is.0, shaped.node.branches) in
     let kid_whole = shaped_within_wider 1 CAPACITY (omega arith) (omega arith)
     (kid_shaped d (turn g) shaped low) in
-    grind (arith, edited_above, kid_owned, leaf_edit d (inside g) fits enough kid_whole (kid_owned s (suc d) n (turn g) owned is.0) is.1 written)
+    grind (arith, edited_above, leaf_edit d (inside g) fits enough kid_whole (kid_owned s (suc d) n (turn g) owned is.0) is.1 written)
 
 -- an item more, before the edge
 module _ {T : Type 0} {s t : Heap T} {d n : ℕ} (item : T) {g : Edge}
@@ -168,7 +168,7 @@ module _ {T : Type 0} {t : BoxStorage T} (new : Heap T) {g : Edge} (is : IsBoxEd
       let more = length-insert items g.index item within in
       let edit = leaf_edit (t.levels - 1) g (omega (arith, more, room))
       (λ least small old. omega (arith, more, old)) shaped owned is.edge written in
-      grind (arith, leaf_change_lists _ h edit (rw level at (inserted_in_leaf item edit within)), level, inserted_in_leaf item edit within)
+      grind (arith, level, inserted_in_leaf item edit within)
 
   pub take_from_leaf : (h : Edge) → MIN_LEN < length items → 0 < g.index
       → Writes t.nodes new g.leaf (remove items (g.index - 1))
@@ -179,4 +179,4 @@ module _ {T : Type 0} {t : BoxStorage T} (new : Heap T) {g : Edge} (is : IsBoxEd
       let less = length-remove items (g.index - 1) (omega (arith, within, some)) in
       let edit = leaf_edit (t.levels - 1) g (omega (arith, less, leaf.fits))
       (λ least small old. omega (arith, less, spare, small)) shaped owned is.edge written in
-      grind (arith, leaf_change_lists _ h edit (rw level at (removed_in_leaf edit some within)), level, removed_in_leaf edit some within)
+      grind (arith, level, removed_in_leaf edit some within)

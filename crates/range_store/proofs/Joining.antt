@@ -58,7 +58,7 @@ module _ {T : Type 0} {s : Heap T} {d l r : ℕ} (x : T) (pair : IsPair s d l r)
     shaped =
         grind (arith, All-append (Shaped s d) (node_children s l) (node_children s r) pair.left.children pair.right.children);
     branches = grind (arith, length-append);
-    owned = λ k. omega (arith, occur_pair k, occurrences-cons k l F);
+    owned = λ k. omega (arith, occur_pair k, occurrences-cons);
   }
 
   pub pair_listed : weave xs (map (items_below s d) ks) ≡ items_below s (suc d) l
@@ -89,7 +89,7 @@ module _ {T : Type 0} {s : Heap T} {d l r : ℕ} (x : T) (pair : IsPair s d l r)
     pub united_rejoins : Rejoins s u d l x r None
     united_rejoins = record {
       listed = grind (arith, append-nil, held_items_below, united_holds, pair_listed);
-      moved = grind (arith, Moves-like (used s (suc d) l ++ used s (suc d) r) (used u (suc d) l ++ []) (record { occur = λ k. sym (pair_nodes.occur k); len = sym pair_nodes.len }) (grind (arith, append-nil, united_used)) (Moves-then (Moves-like (r ∷ l ∷ F) (r ∷ l ∷ F) swapped swapped (Writes-moves (r ∷ F) written)) (Removes-moves (l ∷ F) removed)), pair_nodes, append-nil, united_used, Moves-then (Moves-like (r ∷ l ∷ F) (r ∷ l ∷ F) swapped swapped (Writes-moves (r ∷ F) written)) (Removes-moves (l ∷ F) removed), Moves-like (r ∷ l ∷ F) (r ∷ l ∷ F) swapped swapped (Writes-moves (r ∷ F) written), swapped, Writes-moves (r ∷ F) written, Removes-moves (l ∷ F) removed);
+      moved = grind (arith, pair_nodes, append-nil, united_used, Moves-then (Moves-like (r ∷ l ∷ F) (r ∷ l ∷ F) swapped swapped (Writes-moves (r ∷ F) written)) (Removes-moves (l ∷ F) removed), Moves-like (r ∷ l ∷ F) (r ∷ l ∷ F) swapped swapped (Writes-moves (r ∷ F) written), swapped, Writes-moves (r ∷ F) written, Removes-moves (l ∷ F) removed);
       shaped = All-cons (Shaped u (suc d)) l [] (Shaped-from_but u d l (held_shape united_holds
           MIN_LEN (omega (arith, length-append (node_items s l) (x ∷ node_items s r))) (omega arith)
           pair_content.branches pair_content.shaped)) (All-nil _);
@@ -116,7 +116,7 @@ module _ {T : Type 0} {s : Heap T} {d l r : ℕ} (x : T) (pair : IsPair s d l r)
         → split.middle ≡ get_or xs half split.middle → MIN_LEN ≤ half → half ≤ CAPACITY
         → half + 1 + MIN_LEN ≤ length xs → length xs ≤ half + 1 + CAPACITY
         → Rejoins s u d l x r (Some split)
-    shared_rejoins split same middle least_left most_left least_right most_right = grind (arith, halves_listed, pair_content, shared_left, shared_right, pair_listed, Moves-like (used s (suc d) l ++ used s (suc d) r) (used u (suc d) l ++ (used u (suc d) r ++ [])) (record { occur = λ k. sym (pair_nodes.occur k); len = sym pair_nodes.len }) (halves_nodes half pair_content low shared_left shared_right) (Moves-then (Moves-like (r ∷ l ∷ F) (r ∷ l ∷ F) swapped swapped (Writes-moves (r ∷ F) first)) (Writes-moves (l ∷ F) second)), pair_nodes, halves_nodes half pair_content low shared_left shared_right, Moves-then (Moves-like (r ∷ l ∷ F) (r ∷ l ∷ F) swapped swapped (Writes-moves (r ∷ F) first)) (Writes-moves (l ∷ F) second), Moves-like (r ∷ l ∷ F) (r ∷ l ∷ F) swapped swapped (Writes-moves (r ∷ F) first), swapped, Writes-moves (r ∷ F) first, Writes-moves (l ∷ F) second, halves_shape half pair_content low shared_left shared_right least_left most_left least_right most_right MIN_LEN (omega arith), Shaped-from_but)
+    shared_rejoins split same middle least_left most_left least_right most_right = grind (arith, halves_listed, pair_content, shared_left, shared_right, pair_listed, pair_nodes, halves_nodes half pair_content low shared_left shared_right, Moves-then (Moves-like (r ∷ l ∷ F) (r ∷ l ∷ F) swapped swapped (Writes-moves (r ∷ F) first)) (Writes-moves (l ∷ F) second), Moves-like (r ∷ l ∷ F) (r ∷ l ∷ F) swapped swapped (Writes-moves (r ∷ F) first), swapped, Writes-moves (r ∷ F) first, Writes-moves (l ∷ F) second, halves_shape half pair_content low shared_left shared_right least_left most_left least_right most_right MIN_LEN (omega arith), Shaped-from_but)
 
 -- the seat of an edge among the items of both, from that in the left or in the right one
 module _ {T : Type 0} (s : Heap T) (l : ℕ) (x : T) (r : ℕ) (g : Edge) where
@@ -143,4 +143,4 @@ module _ {T : Type 0} (s : Heap T) (l : ℕ) (x : T) (r : ℕ) (g : Edge) where
   seat_from_right (suc e) pair is =
       let xs = node_items s l in
       let ys = node_items s r in
-      grind (arith, seat_run s e (node_children s l) (node_children s r) [] (xs ++ x ∷ []) ys [] (length xs + 1) (turn g) (inside g) pair.left.node.branches (length-append xs (x ∷ [])) pair.right.node.branches is, length-append xs (x ∷ []), append-nil ys, append_assoc xs (x ∷ []) ys, append-nil (node_children s r), items_below_size pair.left)
+      grind (arith, seat_run s e (node_children s l) (node_children s r) [] (xs ++ x ∷ []) ys [] (length xs + 1) (turn g) (inside g) pair.left.node.branches (length-append xs (x ∷ [])) pair.right.node.branches is, length-append xs (x ∷ []), append-nil ys, append_assoc xs (x ∷ []) ys, append-nil, items_below_size pair.left)

@@ -79,26 +79,25 @@ module _ {T : Type 0} {s : Heap T} {low n j : ℕ} (x : T) (levelled : IsLevelle
         grind (arith, length-append, front_many, length-drop)
 
     new_content : IsContent t (suc low) n new_xs new_ks
-    new_content = grind (arith, run_content pair_run new_xs (grind (arith, new_length, length-append, us_many, length-drop)) levelled.before rejoins.shaped levelled.behind, pair_run, new_length, length-append, us_many, length-drop)
+    new_content = grind (arith, run_content pair_run new_xs (grind (arith, new_length, length-append, us_many, length-drop)) levelled.before rejoins.shaped levelled.behind, pair_run, new_length, us_many, length-drop)
 
     woven_old : items_below s (suc (suc low)) n
         ≡ front_of (take j xs) (map (items_below s (suc low)) us)
         ++ ((items_below s (suc low) l ++ (x ∷ items_below s (suc low) r))
         ++ rest_of (drop (j + 1) xs) (map (items_below s (suc low)) vs))
     woven_old =
-        grind (arith, weave_items_below s (suc low) n, xs_parts, ks_parts, run_lists same_run, same_run, weave_splice (take j xs) (x ∷ []) (drop (j + 1) xs) (map (items_below s (suc low)) us) (items_below s (suc low) l) (items_below s (suc low) r ∷ []) (map (items_below s (suc low)) vs) (omega (arith, front_many, us_many, length-map us (items_below s (suc low)))) refl, front_many, us_many, length-map us (items_below s (suc low)), append-nil (items_below s (suc low) r))
+        grind (arith, weave_items_below s (suc low) n, xs_parts, ks_parts, run_lists same_run, same_run, weave_splice (take j xs) (x ∷ []) (drop (j + 1) xs) (map (items_below s (suc low)) us) (items_below s (suc low) l) (items_below s (suc low) r ∷ []) (map (items_below s (suc low)) vs) (omega (arith, front_many, us_many, length-map us (items_below s (suc low)))) refl, front_many, us_many, append-nil (items_below s (suc low) r))
 
     new_listed : weave new_xs (map (items_below t (suc low)) new_ks)
         ≡ items_below s (suc (suc low)) n
-    new_listed = grind (arith, run_lists pair_run, pair_run, weave_tops (take j xs) (drop (j + 1) xs) (map (items_below s (suc low)) us) (map (items_below s (suc low)) vs) (items_below t (suc low)) l split (omega (arith, front_many, us_many, length-map us (items_below s (suc low)))), front_many, us_many, length-map us (items_below s (suc low)), woven_old)
+    new_listed = grind (arith, run_lists pair_run, pair_run, weave_tops, front_many, us_many, length-map us (items_below s (suc low)), woven_old)
 
     -- what is written to the node
     pub pair_children : (cut : Option (Split T))
         → take (j + 1) ks ++ (drop 1 (tops l cut) ++ vs) ≡ us ++ (tops l cut ++ vs)
-    pair_children None =
-        grind (arith, take_more ks j 0 (omega (arith, many, levelled.within)), many, append_assoc us (l ∷ []) vs)
+    pair_children None = grind (arith, take_more, many, append_assoc us (l ∷ []) vs)
     pair_children (Some cut) =
-        grind (arith, take_more ks j 0 (omega (arith, many, levelled.within)), many, append_assoc us (l ∷ []) (cut.right ∷ vs))
+        grind (arith, take_more, many, append_assoc us (l ∷ []) (cut.right ∷ vs))
 
     module _ {u : Heap T} (written : Writes t u n new_xs new_ks) where
       pub levelled_shrinks : Shrinks s u (suc low) n (items_below s (suc (suc low)) n)
@@ -106,7 +105,7 @@ module _ {T : Type 0} {s : Heap T} {low n j : ℕ} (x : T) (levelled : IsLevelle
           let holds = written_holds u new_content written in
           record {
             listed = held_items_below holds ∙ new_listed;
-            moved = grind (arith, held_used holds, Moves-then (run_moved pair_run) (Writes-moves (flat_map (used t (suc low)) new_ks) written), run_moved pair_run, pair_run, Writes-moves (flat_map (used t (suc low)) new_ks) written);
+            moved = grind (arith, held_used holds, Moves-then, run_moved pair_run, pair_run, Writes-moves (flat_map (used t (suc low)) new_ks) written);
             shape = λ least more. held_shape holds least (omega (arith, new_length, more))
                 (grind (arith, new_length, levelled.node.fits)) new_content.branches
                 new_content.shaped;
@@ -124,4 +123,4 @@ module _ {T : Type 0} {s : Heap T} {low n j : ℕ} (x : T) (levelled : IsLevelle
           (drop (j + 1) xs) j side g us_many front_many (tops_many l split) seat in
           let holds = written_holds u new_content written in
           let agree = written_agree u new_content written in
-          grind (arith, seat_written t u n new_xs new_ks (j + side) g h (suc low) holds agree (λ none. absurd (omega (arith, none))) (λ some. at) (λ some. into) run.0, length-before xs (map (items_below s (suc low)) ks) j (omega (arith, levelled.within)) (omega (arith, many, levelled.within, length-map ks (items_below s (suc low)))), many, length-map ks (items_below s (suc low)), same_before pair_run, pair_run, take-map (items_below s (suc low)) j ks)
+          grind (arith, seat_written t u n new_xs new_ks (j + side) g h (suc low) holds agree (λ none. absurd (omega (arith, none))) (λ some. at) (λ some. into) run.0, length-before, many, length-map ks (items_below s (suc low)), same_before pair_run, pair_run, take-map (items_below s (suc low)) j ks)

@@ -21,7 +21,7 @@ children_sizes : {T : Type 0} (s : Heap T) (d p q : ℕ)
 children_sizes {T} s d p q below [] shaped =
     (omega (arith, zero-mul p), omega (arith, zero-mul q))
 children_sizes {T} s d p q below (n ∷ ns) shaped =
-    grind (arith, All-head (Shaped s d) n ns shaped, All-tail (Shaped s d) n ns shaped, sum_by-cons (length {A = T}) (items_below s d n) (map (items_below s d) ns), suc-mul (length ns) p, suc-mul (length ns) q, children_sizes s d p q below ns (All-tail (Shaped s d) n ns shaped))
+    grind (arith, All-head (Shaped s d) n ns shaped, All-tail (Shaped s d) n ns shaped, sum_by-cons (length {A = T}) (items_below s d n) (map (items_below s d) ns), suc-mul (length ns) q, children_sizes s d p q below ns (All-tail (Shaped s d) n ns shaped))
 
 but_sizes : {T : Type 0} {least most : ℕ} {s : Heap T} (d : ℕ) {n : ℕ}
     → ((k : ℕ) → Shaped s d k → ((MIN_LEN + 1) ^ d ≤ length (items_below s d k) + 1)
@@ -54,7 +54,7 @@ tree_lower {T} {s} d {root} tree = (but_sizes d (items_sizes s d) tree.shaped).0
 pub tree_upper : {T : Type 0} {s : Heap T} (d : ℕ) {root : ℕ} → IsTree s (suc d) root
     → length (items_below s (suc d) root) + 1 ≤ (CAPACITY + 1) ^ suc d
 tree_upper {T} {s} d {root} tree =
-    grind (arith, but_sizes d (items_sizes s d) tree.shaped, items_sizes s d, pow-suc (CAPACITY + 1) d, mul_comm (CAPACITY + 1) ((CAPACITY + 1) ^ d))
+    grind (arith, but_sizes d (items_sizes s d) tree.shaped, items_sizes s d, pow-suc (CAPACITY + 1) d)
 
 -- a power outgrows its exponent
 pub pow_more : (d : ℕ) → d + 1 ≤ (MIN_LEN + 1) ^ d

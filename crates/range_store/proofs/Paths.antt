@@ -52,7 +52,7 @@ module _ {T : Type 0} {s : Heap T} {b n : ℕ} (inner : b ≢ 0)
 
   pub below_kid : (i : ℕ) → i ≤ length (node_items s n)
       → ShapedBut 1 CAPACITY s (b - 1) (node_child s n i)
-  below_kid i low = grind (arith, shaped_within_wider 1 CAPACITY (omega arith) (omega arith) (kid_shaped (b - 1) i deeper low), kid_shaped (b - 1) i deeper low, deeper)
+  below_kid i low = grind (arith, kid_shaped (b - 1) i deeper low, deeper)
 
   pub below_turn : (g : Edge) → IsEdge s b n g → turn g ≤ length (node_items s n)
   below_turn g is = grind (arith, turn_within s (b - 1) n g (rw (← level_of_children) at is))

@@ -29,7 +29,7 @@ children_le_from : {T : Type 0} (s : Heap T) (d : ℕ)
     → (ns : List ℕ) → All (Shaped s d) ns → MIN_LEN * length (flat_map (used s d) ns) ≤ sizes s d ns
 children_le_from s d below [] shaped = omega arith
 children_le_from {T} s d below (n ∷ ns) shaped =
-    grind (arith, All-head (Shaped s d) n ns shaped, All-tail (Shaped s d) n ns shaped, length-append (used s d n) (flat_map (used s d) ns), sum_by-cons (length {A = T}) (items_below s d n) (map (items_below s d) ns), children_le_from s d below ns (All-tail (Shaped s d) n ns shaped))
+    grind (arith, All-head (Shaped s d) n ns shaped, All-tail (Shaped s d) n ns shaped, length-append, sum_by-cons (length {A = T}) (items_below s d n) (map (items_below s d) ns), children_le_from s d below ns (All-tail (Shaped s d) n ns shaped))
 
 pub used_le : {T : Type 0} (s : Heap T) (d n : ℕ) → Shaped s d n
     → MIN_LEN * length (used s d n) ≤ length (items_below s d n)
@@ -37,7 +37,7 @@ unfolding used items_below
 used_le s zero n shaped = omega arith
 used_le s (suc d) n shaped =
     let but = Shaped-but s d n shaped in
-    grind (arith, items_below_size but, children_le_from s d (used_le s d) (node_children s n) but.children, used_le s d)
+    grind (arith, items_below_size but, children_le_from, used_le s d)
 
 pub children_le : {T : Type 0} (s : Heap T) (d : ℕ) (ns : List ℕ) → All (Shaped s d) ns
     → MIN_LEN * length (flat_map (used s d) ns) ≤ sizes s d ns

@@ -33,7 +33,7 @@ first_tree {T} {s} {t} zero {root} {n} item none tree stored =
       shaped = grind arith;
       once =
           λ k.
-          grind (arith, used_leaf t n childless, Stores-here stored k, used_none s root, occurrences-nil k);
+          grind (arith, used_leaf, Stores-here stored k, used_none s root, occurrences-nil k);
       len = omega (arith, ap length (used_leaf t n childless), ap length (used_none s root));
     } in
     (whole, items_below_leaf t n childless ∙ stored.items_are)
@@ -96,7 +96,7 @@ module _ {T : Type 0} {s t u : Heap T} {d root n : ℕ} (split : Split T) {list 
       → IsEdge u (suc d) n h
       × (place u (suc d) n h ≡ seat_place t (suc d) (split.middle ∷ []) ts side g)
   taller_seat side g h at within seat =
-      grind (arith, seat_written t u n (split.middle ∷ []) ts side g h (suc d) holds agree (λ no. absurd (omega (arith, no))) (λ some. at) (λ some. within) seat, holds, agree)
+      grind (arith, seat_written t u n (split.middle ∷ []) ts side g h (suc d) holds agree (λ no. absurd (omega (arith, no))) (λ some. at) (λ some. within) seat, agree)
 
 pub taller_root : {T : Type 0} {s t u : Heap T} (levels : ℕ) {root n : ℕ} (split : Split T)
     {list : List T} → 0 < levels → IsTree s levels root

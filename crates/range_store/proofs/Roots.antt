@@ -65,7 +65,7 @@ only_child_is_root {T} {s} {t} (suc (suc e)) {root} more loose empty gone =
     let same : SameBelow s t (suc e) kid = same_below s t (suc e) kid (agree loose one gone) in
     let kid_shaped : Shaped s (suc e) kid = shaped.children 0 0 (omega arith) in
     let tree : IsTree t (suc e) kid = record {
-      shaped = grind (arith, shaped_within_wider 1 CAPACITY (omega arith) (omega arith) (Shaped-but t e kid (same.shaped_same kid_shaped)), Shaped-but t e kid (same.shaped_same kid_shaped));
+      shaped = grind (arith, Shaped-but t e kid (same.shaped_same kid_shaped));
       once = λ k. grind (arith, occurs loose one gone k, here_without (grind arith) gone k);
       len = omega (arith, ap length (used_all loose one gone), ap length same.used_same);
     } in

@@ -18,7 +18,7 @@ module _ {T : Type 0} where
       → (set now n (insert (row_of now n) k x) ≡ set rows n (take (k + 1) items))
       × (rest ≡ drop (k + 1) items)
   filled_more rows now n k items rest x there within was next =
-      grind (arith, get_or-set_same rows n (take k items) [] there, length-take-le k items (omega arith), taken_more, insert_end, set-set)
+      grind (arith, get_or-set_same, length-take-le k items (omega arith), taken_more, insert_end, set-set)
 
 -- two rows of many have these items, and one is changed
 module _ {T : Type 0} (rows : List (List T)) (l r : ℕ) (l_there : l < length rows)
@@ -60,7 +60,7 @@ moved_last rows now from to left from_there to_there apart some few was item is 
     let tail = held ++ drop left source in
     let less = take (left - 1) source in
     let next : suc (left - 1) ≡ left = omega arith in
-    grind (arith, less_left rows from to from_there to_there apart now xs tail was (left - 1) (omega (arith, length-take-le left source few)), length-take-le left source few, take-take (left - 1) left source (omega arith), left_row, get_or-take, right_anew, right_row, insert-append_left, insert_end, append_assoc, drop-cons)
+    grind (arith, less_left rows from to from_there to_there apart now xs tail was (left - 1) (omega (arith, length-take-le left source few)), length-take-le left source few, take-take, left_row, get_or-take, right_anew, right_row, insert-append_left, insert_end, append_assoc, drop-cons)
 
 -- a full row was cut in two, and an item put among those of one half
 module _ {T : Type 0} (rows one two three : List (List T)) (l r : ℕ) (l_there : l < length rows)
@@ -80,7 +80,7 @@ module _ {T : Type 0} (rows one two three : List (List T)) (l r : ℕ) (l_there 
 
   halves : two ≡ set (set rows l left) r right
   halves =
-      grind (arith, less_left rows l r l_there r_there apart one (take k whole) right (cut ∙ ap (λ ys. set (set rows l (take k whole)) r (ys ++ right)) bare) (k - 1) (omega (arith, length-take-le k whole (omega (arith, many)))), length-take-le k whole (omega (arith, many)), take-take (k - 1) k whole (omega arith))
+      grind (arith, less_left, length-take-le k whole (omega (arith, many)), take-take (k - 1) k whole (omega arith))
 
   pub divided_low : suc i ≤ k → three ≡ set two l (insert (row_of two l) i x)
       → three ≡ set (set rows l (take k (insert whole i x))) r (drop (suc k) (insert whole i x))

@@ -47,7 +47,7 @@ module _ {T : Type 0} where
       pub cell_in : (stands : Standing (row_of (rows_in many cells) n) i) → (d : Option T)
           → get_or cells (CAPACITY * n + i) d ≡ Some stands.item
       cell_in stands d =
-          grind (arith, get_or-take CAPACITY (drop (CAPACITY * n) cells) i d (omega (arith, row_held.fits)), row_held, get_or-drop (CAPACITY * n) cells i d, cell_read row_held i within stands d)
+          grind (arith, row_held, get_or-drop (CAPACITY * n) cells i d, cell_read row_held i within stands d)
 
   -- the cells of one number are new, and hold these items
   pub record Rewrites (cells new : List (Option T)) (n : ℕ) (items : List T) : Type 0 where
@@ -67,7 +67,7 @@ module _ {T : Type 0} where
     row_written : IsRowWritten many cells new n items
     row_written =
         let long = length-rows many cells in
-        grind (arith, items_held, ext_get_or [] (rows_in many new) (set (rows_in many cells) n items) (length-rows many new ∙ sym (length-set (rows_in many cells) n items ∙ long)) (grind (arith, length-rows, rows_read, items_held, get_or-set_same, get_or-set_other)), length-rows many new, length-set (rows_in many cells) n items, length-rows, rows_read, get_or-set_same, get_or-set_other)
+        grind (arith, items_held, ext_get_or [] (rows_in many new) (set (rows_in many cells) n items) (length-rows many new ∙ sym (length-set (rows_in many cells) n items ∙ long)) (grind (arith, length-rows, rows_read, items_held, get_or-set_same, get_or-set_other)), length-rows many new, length-rows, rows_read, get_or-set_same, get_or-set_other)
 
   -- the cells of a number were written at once
   all_written : (n : ℕ) (cells : List (Option T)) {part : List (Option T)} {items : List T}
@@ -83,7 +83,7 @@ module _ {T : Type 0} where
       simp (drop_at, take_at) in
       record {
         len =
-            grind (arith, length-append front (part ++ back), length-append part back, length-drop CAPACITY (drop (CAPACITY * n) cells), length-drop (CAPACITY * n) cells);
+            grind (arith, length-append front (part ++ back), length-append part back, length-drop (CAPACITY * n) cells);
         others = λ m other.
             elim (cases_lt m n) [
               | inl less ↦
@@ -124,7 +124,7 @@ module _ {T : Type 0} where
       record {
         len = length-set cells (CAPACITY * n + i) cell;
         others = λ m other.
-            grind (arith, drop-take (CAPACITY * m) CAPACITY (set cells (CAPACITY * n + i) cell), take-set-le, drop-take (CAPACITY * m) CAPACITY cells, drop-set-lt);
+            grind (arith, drop-take (CAPACITY * m) CAPACITY (set cells (CAPACITY * n + i) cell), take-set-le, drop-take, drop-set-lt);
         here = rw here (grind (arith, length-set, set-append_left, length-full, map-set));
       }
 
@@ -132,7 +132,7 @@ module _ {T : Type 0} where
       → {i : ℕ} → i < length (row_of (rows_in many cells) n) → (item : T)
       → IsRowWritten many cells (set cells (CAPACITY * n + i) (Some item)) n
       (set (row_of (rows_in many cells) n) i item)
-  cell_written {many} {cells} rows {n} less {i} within item = grind (arith, row_written rows less (cell_rewritten n i cells item within (row_held rows n less within)), cell_rewritten n i cells item within (row_held rows n less within), row_held rows n less within)
+  cell_written {many} {cells} rows {n} less {i} within item = grind (arith, row_written rows less (cell_rewritten n i cells item within (row_held rows n less within)), row_held rows n less within)
 
   -- empty cells were added up to a row
   module _ {many : ℕ} {cells : List (Option T)} (rows : IsRows many cells) (n : ℕ)
@@ -151,7 +151,7 @@ module _ {T : Type 0} where
 
     old_cells : (m : ℕ) → m < rows.there → cells_of topped m ≡ cells_of cells m
     old_cells m less =
-        grind (arith, drop-take (CAPACITY * m) CAPACITY topped, take-append-le, drop-take (CAPACITY * m) CAPACITY cells)
+        grind (arith, drop-take (CAPACITY * m) CAPACITY topped, take-append-le, drop-take)
 
     new_cells : (m : ℕ) → rows.there ≤ m → m ≤ n → cells_of topped m ≡ replicate CAPACITY None
     new_cells m past least =
@@ -212,7 +212,7 @@ module _ {T : Type 0} where
           | inr past ↦
               elim (cases_lt n more) [
                 | inl new ↦
-                    grind (arith, rows_read more cells n new, cells_past rows n (omega arith), get_or_past, length-rows)
+                    grind (arith, rows_read, cells_past rows n (omega arith), get_or_past, length-rows)
                 | inr other ↦
                     grind (arith, get_or_past, length-rows)
               ]

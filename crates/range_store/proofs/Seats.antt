@@ -25,7 +25,7 @@ module _ {T : Type 0} (s t : Heap T) (n : ℕ) (xs : List T) (ks : List ℕ) (i 
   seat_written zero holds agree leaf at within seat =
       rw (leaf refl) ((refl, refl, rw holds.items_are seat), refl)
   seat_written (suc d) holds agree leaf at within seat =
-      grind (arith, same_edge s t d (get_or ks i 0) g (agree_kid s t (suc d) i ks agree seat.0) seat.1, agree_kid s t (suc d) i ks agree seat.0)
+      grind (arith, same_edge s t d (get_or ks i 0) g (agree_kid s t (suc d) i ks agree seat.0) seat.1)
 
 pub seat_small : {T : Type 0} (s : Heap T) (d : ℕ) (xs : List T) (ks : List ℕ) (i : ℕ) (g : Edge)
     → length ks ≡ child_count d (length xs) → IsSeat s d xs ks i g → i ≤ length xs
@@ -104,7 +104,7 @@ module _ {T : Type 0} (s : Heap T) (d : ℕ) (us ts vs : List ℕ) (xs seps ys :
         length-append (map f ts) (map f vs),
         length-map vs f,
       ) in
-      grind (arith, length-before (xs ++ (seps ++ ys)) (map f us ++ (map f ts ++ map f vs)) (i + j) (grind (arith, length-append)) (omega arith), length-append, length-before seps (map f ts) j (omega arith) (omega arith), take-append-add (map f us) (map f ts ++ map f vs) (i + j) j (omega arith), take-append-le j (map f ts) (map f vs) (omega arith), sum_by-append)
+      grind (arith, length-before, length-append, length-before seps (map f ts) j (omega arith) (omega arith), take-append-add (map f us) (map f ts ++ map f vs) (i + j) j (omega arith), take-append-le j (map f ts) (map f vs) (omega arith), sum_by-append)
 
 pub seat_side : {T : Type 0} (s : Heap T) (d : ℕ) (xs : List T) (ks : List ℕ) (i : ℕ) (g : Edge)
     → IsSeat s (suc d) xs ks i g → i < length ks

@@ -36,14 +36,14 @@ module _ {T : Type 0} (s : Heap T) (low n i : ℕ) (m : MayBeRebalanced s low n 
 
   pub all_present : All (λ c. IsSome (node_of s c)) ks
   all_present =
-      grind (arith, kids, All-append Present (take i ks) (kid ∷ drop (i + 1) ks) (All-weaker P Present present_of (take i ks) m.before) (grind (arith, present_of)), All-weaker P Present present_of (take i ks) m.before, present_of)
+      grind (arith, kids, All-append Present (take i ks) (kid ∷ drop (i + 1) ks) (All-weaker P Present present_of (take i ks) m.before) (grind (arith, present_of)), present_of)
 
   pub stays_balanced : MIN_LEN ≤ length (node_items s kid)
       → Shrinks s s (suc low) n (items_below s (suc (suc low)) n)
   stays_balanced enough =
       let here = Shaped-from_but s low kid
       (grind arith) in
-      grind (arith, kids, All-append P (take i ks) (kid ∷ drop (i + 1) ks) m.before (All-cons P kid (drop (i + 1) ks) here m.behind), All-cons P kid (drop (i + 1) ks) here m.behind)
+      grind (arith, kids, All-append P (take i ks) (kid ∷ drop (i + 1) ks) m.before (All-cons P kid (drop (i + 1) ks) here m.behind))
 
   loose : (c : ℕ) → Shaped s (suc low) c → ShapedBut (MIN_LEN - 1) CAPACITY s low c
   loose c shaped = grind (arith, Shaped-but)
@@ -55,7 +55,7 @@ module _ {T : Type 0} (s : Heap T) (low n i : ℕ) (m : MayBeRebalanced s low n 
       let far : i + 1 + 1 ≡ i + 2 = omega arith in
       let behind = subst (All P) two m.behind in
       let next = All-head P (get_or ks (i + 1) 0) (drop (i + 1 + 1) ks) behind in
-      grind (arith, Shaped-but s low (get_or ks (i + 1) 0) next, All-tail P (get_or ks (i + 1) 0) (drop (i + 1 + 1) ks) behind)
+      grind (arith, Shaped-but, All-tail P (get_or ks (i + 1) 0) (drop (i + 1 + 1) ks) behind)
 
   with_before : (j : ℕ) → j + 1 ≡ i → length (node_items s kid) < MIN_LEN → IsLevelled s low n j
   with_before j next short = grind (arith, get_or-take, length-take-le, Shaped-but, loose)

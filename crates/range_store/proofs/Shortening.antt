@@ -17,7 +17,7 @@ use Rattle.range_store.proofs.Growing.{Runs, run_kept, run_moved, run_lists, sam
 pub remove_middle : {X : Type 0} (f k r : List X) (rest : ℕ) → rest < length k
     → remove (f ++ (k ++ r)) (length f + rest) ≡ f ++ (remove k rest ++ r)
 remove_middle f k r rest within =
-    grind (arith, remove-append_right f (k ++ r) (length f) (length f + rest) refl (omega arith), remove-append_left k r rest within)
+    grind (arith, remove-append_right f (k ++ r) (length f) (length f + rest) refl (omega arith), remove-append_left)
 
 -- the subtree of the child at i has another list
 pub record ListsAnew {T : Type 0} (s t : Heap T) (b n i : ℕ) (list : List T) : Type 0 where
@@ -70,7 +70,7 @@ module _ {T : Type 0} {s t : Heap T} {b n i : ℕ} {list : List T}
   kid_listed =
       let L = map (items_below s b) us in
       let R = map (items_below s b) vs in
-      grind (arith, weave_splice (take i xs) [] (drop i xs) L (items_below t b kid) [] R (grind (arith, length-take-le, length-map)) refl, length-take-le, length-map, append-nil (items_below t b kid), take-map (items_below s b) i ks, drop-map (items_below s b) (i + 1) ks, weave_items_below t b n, kid_kept, take-append-drop i xs, ks_parts, run_lists kid_run, kid_run)
+      grind (arith, weave_splice (take i xs) [] (drop i xs) L (items_below t b kid) [] R (grind (arith, length-take-le, length-map)) refl, length-take-le, length-map, append-nil (items_below t b kid), take-map (items_below s b) i ks, drop-map (items_below s b) (i + 1) ks, weave_items_below t b n, kid_kept, take-append-drop i xs, run_lists kid_run, kid_run)
 
   -- what stands before the child
   pub kid_front : length (before_child t b n i) ≡ length (before xs lists i)
@@ -82,7 +82,7 @@ module _ {T : Type 0} {s t : Heap T} {b n i : ℕ} {list : List T}
       anew.shaped.children) in
       let behind = (same_after kid_run).shaped_same
       (All-drop (Shaped s b) (i + 1) ks anew.shaped.children) in
-      rw kid_kept (grind (arith, ks_parts, All-append (Shaped t b) us (kid ∷ vs) before (All-cons (Shaped t b) kid vs shape behind), All-cons (Shaped t b) kid vs shape behind))
+      rw kid_kept (grind (arith, ks_parts, All-append (Shaped t b) us (kid ∷ vs) before (All-cons (Shaped t b) kid vs shape behind)))
 
   level : suc (b - 1) ≡ b
   level = omega arith
@@ -90,7 +90,7 @@ module _ {T : Type 0} {s t : Heap T} {b n i : ℕ} {list : List T}
   pub kid_may_be_rebalanced : ShapedBut (MIN_LEN - 1) CAPACITY t (b - 1) kid
       → MayBeRebalanced t (b - 1) n i
   kid_may_be_rebalanced short =
-      grind (arith, IsNode-same t kid_kept anew.shaped.node, kid_kept, same_before kid_run, kid_run, All-take (Shaped s b) i ks anew.shaped.children, same_after kid_run, All-drop (Shaped s b) (i + 1) ks anew.shaped.children, level, kid_owned_after)
+      grind (arith, kid_kept, same_before kid_run, kid_run, All-take (Shaped s b) i ks anew.shaped.children, same_after kid_run, All-drop (Shaped s b) (i + 1) ks anew.shaped.children, level, kid_owned_after)
 
 -- an item of a leaf goes
 pub leaf_shrinks : {T : Type 0} {s t : Heap T} {n : ℕ} (q : ℕ) → ShapedBut 1 CAPACITY s 0 n
@@ -114,4 +114,4 @@ pub shorter_child_shrinks_node : {T : Type 0} {s t u : Heap T} {b n i : ℕ} (q 
     → Shrinks s u b n (remove (items_below s (suc b) n) (length (before_child s b n i) + q))
 shorter_child_shrinks_node {T} {s} {t} {u} {b} {n} {i} q anew within rebalanced =
     let back : suc (b - 1) ≡ b = omega arith in
-    grind (arith, kid_kept anew, kid_listed anew, remove_middle, items_below_at (omega arith) anew.shaped i anew.low, Moves-then (kid_moved anew) (rw back at rebalanced.moved), kid_moved anew)
+    grind (arith, kid_kept anew, kid_listed anew, remove_middle, items_below_at (omega arith) anew.shaped i anew.low, kid_moved anew)

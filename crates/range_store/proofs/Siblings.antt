@@ -62,10 +62,7 @@ module _ {T : Type 0} {s : Heap T} (t u v : Heap T) {n i : ℕ} (pair : HasPair 
       let ks = left_children s n i in
       let last : length xs ≡ (length xs - 1) + 1 = omega arith in
       let fewer : remove xs (length xs - 1) ≡ take (length xs - 1) xs = grind (arith, without_last) in
-      let fewer_children : remove ks (length xs) ≡ take (length xs) ks = grind (
-        arith,
-        without_last,
-      ) in
+      let fewer_children : remove ks (length xs) ≡ take (length xs) ks = grind (arith, without_last) in
       let parent : node_of t n ≡ node_of s n = one.others n (λ e. pair.left_apart (sym e)) in
       let here = subst (λ node. Writes t u n (set (items_of node) i up) (children_of node)) parent
       two in

@@ -26,7 +26,7 @@ module _ {X : Type 0} where
       elim (cases_eq k n) [
         | inl same ↦ rw same (grind (arith, get_or-set_same, get_or_past, length-set))
         | inr other ↦
-            grind (arith, get_or-set_other, occurrences-cons, occurrences_other, without_here ns slots k (omega (arith, among, occurrences-cons k n ns, occurrences_other k n (λ e. other (sym e)))))
+            grind (arith, get_or-set_other, occurrences-cons, occurrences_other, without_here ns slots k (omega (arith, occurrences-cons, occurrences_other)))
       ]
 
   without_other : (ns : List ℕ) (slots : List (Option X)) (k : ℕ) → occurrences k ns ≡ 0
@@ -34,7 +34,7 @@ module _ {X : Type 0} where
   unfolding without
   without_other [] slots k none = refl
   without_other (n ∷ ns) slots k none =
-      grind (arith, get_or-set_other, listed, occurrences-cons, without_other ns slots k (omega (arith, none, occurrences-cons k n ns)))
+      grind (arith, get_or-set_other, listed, without_other ns slots k (omega (arith, none, occurrences-cons k n ns)))
 
   without_count : (ns : List ℕ) (slots : List (Option X)) → ((k : ℕ) → occurrences k ns ≤ 1)
       → ((k : ℕ) → 0 < occurrences k ns → IsSome (get_or slots k None))
@@ -44,14 +44,14 @@ module _ {X : Type 0} where
   without_count (n ∷ ns) slots once some =
       let apart : occurrences n ns ≡ 0 =
       omega (arith, once n, occurrences-cons n n ns, occurrences_itself n) in
-      grind (arith, without_other, occurrences_here, slot_count, occurrences-cons, without_count ns slots (λ k. omega (arith, once k, occurrences-cons k n ns)) (λ k among. some k (omega (arith, among, occurrences-cons k n ns))))
+      grind (arith, without_other, occurrences_here, slot_count, without_count ns slots (λ k. omega (arith, once k, occurrences-cons k n ns)) (λ k among. some k (omega (arith, among, occurrences-cons k n ns))))
 
   without_set : (ns : List ℕ) (slots : List (Option X)) (k : ℕ) (slot : Option X)
       → occurrences k ns ≡ 0 → without ns (set slots k slot) ≡ set (without ns slots) k slot
   unfolding without
   without_set [] slots k slot none = refl
   without_set (n ∷ ns) slots k slot none =
-      grind (arith, occurrences-cons, set_comm, listed, without_set ns slots k slot (omega (arith, none, occurrences-cons k n ns)))
+      grind (arith, set_comm, listed, without_set ns slots k slot (omega (arith, none, occurrences-cons k n ns)))
 
 module _ {X : Type 0} where
   module _ (s : Slab X) (n : ℕ) (present : IsSome (get s n)) (new : X) where
@@ -199,7 +199,7 @@ module _ {T : Type 0} {old new : Slab Node} {was now : List (List T)} {spares : 
   more_whole : (left : List ℕ)
       → ((k : ℕ) → occurrences k left ≡ occurrences k (n ∷ []) + occurrences k spares)
       → occurrences n spares ≡ 0 → items ≡ [] → node.children.items ≡ [] → IsWhole new now left
-  more_whole left told apart no_items no_children = grind (arith, changed_there, changed_lens, occurrences_other, occurrences_itself)
+  more_whole left told apart no_items no_children = grind (arith, changed_lens, occurrences_other, occurrences_itself)
 
   module _ (len : slab_len new ≡ slab_len old) where
     -- a node was written
@@ -231,7 +231,7 @@ module _ {T : Type 0} {old new : Slab Node} {was now : List (List T)} {spares : 
           node.children.items
       stored =
           let read = here left spare_apart in
-          grind (arith, spare_read, told, occurrences_itself, elsewhere, occurrences_other, counted, stored_whole)
+          grind (arith, spare_read, told, occurrences_itself, elsewhere, occurrences_other, counted)
 
     -- a node became a spare
     module _ (present : HasNode (heap_of old was spares) n) (no_items : items ≡ [])
@@ -247,7 +247,7 @@ module _ {T : Type 0} {old new : Slab Node} {was now : List (List T)} {spares : 
       freed_whole = more_whole (n ∷ spares) longer apart no_items no_children
 
       pub removed : Removes (heap_of old was spares) (heap_of new now (n ∷ spares)) n
-      removed = grind (arith, spare_read, longer, occurrences_itself, elsewhere, occurrences_other, counted, freed_whole)
+      removed = grind (arith, spare_read, longer, occurrences_itself, elsewhere, occurrences_other, counted)
 
   -- a spare was added
   module _ (fresh : get old n ≡ None) (len : slab_len new ≡ slab_len old + 1)
@@ -261,7 +261,7 @@ module _ {T : Type 0} {old new : Slab Node} {was now : List (List T)} {spares : 
 
     pub added : IsWhole new now (spares ++ n ∷ [])
         × SameNodes (heap_of old was spares) (heap_of new now (spares ++ n ∷ []))
-    added = grind (arith, added_whole, spare_read, more, occurrences_itself, slot_seen, occurrences_other, counted, length-append)
+    added = grind (arith, spare_read, more, occurrences_itself, slot_seen, occurrences_other, counted, length-append)
 
 -- a slab with more capacity, and rows that grew, but have what they had
 module _ {T : Type 0} {slab larger : Slab Node} {was : List (List T)} {spares : List ℕ}
@@ -300,7 +300,7 @@ module _ {T : Type 0} {slab : Slab Node} {rows : List (List T)} {spares : List �
   -- a node was written
   pub edited : HasNode (heap_of slab rows spares) n
       → Leaves slab rows spares n node items spares (λ old new. Writes old new n items ks)
-  edited present = grind (arith, written_whole whole edit same_len (in_use slab rows spares n present), edit, same_len, in_use slab rows spares n present, written whole edit same_len present)
+  edited present = grind (arith, edit, same_len, in_use slab rows spares n present, written whole edit same_len present)
 
   -- a spare got what a new node has
   pub filled : {left : List ℕ} → spares ≡ n ∷ left
@@ -311,7 +311,7 @@ module _ {T : Type 0} {slab : Slab Node} {rows : List (List T)} {spares : List �
   -- a node became a spare
   pub emptied : HasNode (heap_of slab rows spares) n → items ≡ [] → ks ≡ []
       → Leaves slab rows spares n node items (n ∷ spares) (λ old new. Removes old new n)
-  emptied present no_items none = grind (arith, freed_whole whole edit same_len present no_items (children_are ∙ none), edit, same_len, removed whole edit same_len present no_items (children_are ∙ none))
+  emptied present no_items none = grind (arith, freed_whole whole edit same_len present no_items (children_are ∙ none), edit, removed whole edit same_len present no_items (children_are ∙ none))
 
 -- a node that had no item became a spare
 module _ {T : Type 0} {slab : Slab Node} {rows : List (List T)} {spares : List ℕ}
@@ -362,7 +362,7 @@ module _ {T : Type 0} {slab : Slab Node} {rows : List (List T)} {spares : List �
       (row_of rows l ++ x ∷ row_of rows r) (r ∷ spares)
       (λ old new. Writes old new l (row_of rows l ++ x ∷ row_of rows r)
       (lower.children.items ++ upper.children.items))
-  grew = grind (arith, edited gone.whole l (get_or-set_other slab.slots r l (Some blank) None apart ∙ left_at) node (row_of rows l ++ x ∷ row_of rows r) (grind (arith, length-append)) children_are (rw (gone.nodes.others l apart) left), gone, get_or-set_other slab.slots r l (Some blank) None apart, apart, length-append)
+  grew = grind (arith, edited gone.whole l (get_or-set_other slab.slots r l (Some blank) None apart ∙ left_at) node (row_of rows l ++ x ∷ row_of rows r) (grind (arith, length-append)) children_are (rw (gone.nodes.others l apart) left), gone, apart, length-append)
 
   pub absorbs : Leaves (with_value slab r blank) (set rows r []) (r ∷ spares) l node
       (row_of rows l ++ x ∷ row_of rows r) (r ∷ spares)

@@ -30,7 +30,7 @@ tree_is_not_too_deep {T} {s} (suc d) {root} roomy =
 pub edge_within : {T : Type 0} {t : BoxStorage T} {g : Edge} → IsBoxEdge t g
     → box_place t g ≤ length (box_items t)
 edge_within {T} {t} {g} is =
-    grind (arith, place_within (t.levels - 1) g (root_shaped t.levels is.some t.whole.tree) is.edge, root_shaped t.levels is.some t.whole.tree)
+    grind (arith, place_within (t.levels - 1) g (root_shaped t.levels is.some t.whole.tree) is.edge)
 
 -- an edge in the leaf of another, and the item there
 module _ {T : Type 0} {t : BoxStorage T} {g : Edge} (is : IsBoxEdge t g) where
@@ -54,7 +54,7 @@ module _ {T : Type 0} {t : BoxStorage T} {g : Edge} (is : IsBoxEdge t g) where
       → IsBoxEdge t (record { leaf = g.leaf; path = g.path; index = 1 })
       × (box_place t (record { leaf = g.leaf; path = g.path; index = 1 }) ≡ box_place t g + 1)
   tree_behind first =
-      grind (arith, tree_beside (record { leaf = g.leaf; path = g.path; index = 1 }) refl refl tree_leaf.some, tree_leaf)
+      grind (arith, tree_beside (record { leaf = g.leaf; path = g.path; index = 1 }) refl refl tree_leaf.some)
 
   -- the item before an edge that has one in its leaf
   pub leaf_item : (e : T) → 0 < g.index
