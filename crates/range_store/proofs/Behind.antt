@@ -98,7 +98,12 @@ module _ {T : Type 0} (s : Heap T) where
         → IsOnTheWay below number edge (left - 1) (kid i) (path + weight * i) (weight * PATH_BASE)
         (inside inner) later
     further later after =
-        grind (arith, below_here above way.lies.shaped inner, lies_in_child s at path weight way.ahead above way.lies i turn_low, below_inside)
+        grind (
+          arith,
+          below_here above way.lies.shaped inner,
+          lies_in_child s at path weight way.ahead above way.lies i turn_low,
+          below_inside above way.lies.shaped inner way.is,
+        )
 
     -- below the last child nothing else comes behind
     pub goes_by_the_last : length (node_items s at) ≤ i
@@ -117,14 +122,16 @@ module _ {T : Type 0} (s : Heap T) where
     goes_by_another less =
         let next = lies_in_child s at path weight way.ahead above way.lies (i + 1) (omega arith) in
         let path_is : path + weight * (i + 1) ≡ path + weight * i + weight =
-        omega arith in
+        omega (arith, mul-add weight i 1) in
         let count : way.ahead + ahead_of s left at (i + 1) ≡ way.ahead + ahead_of s left at i +
         length (items_below s left (kid i)) + 1 = omega
         (arith, before_next above way.lies.shaped i less) in
         further _ (record {
           low = next.low;
           shaped = next.shaped;
-          first = λ e is none. grind (arith, first_below s (kid (i + 1)) (path + weight * (i + 1)) (weight * PATH_BASE) (way.ahead + ahead_of s left at (i + 1)) next e is none);
+          first = λ e is none. rw (← path_is, ← count) (first_below s (kid (i + 1))
+              (path + weight * (i + 1)) (weight * PATH_BASE)
+              (way.ahead + ahead_of s left at (i + 1)) next e is none);
         })
 
   -- at the end of the leaf all items are passed that stand before the edge

@@ -59,7 +59,9 @@ module _ {T : Type 0} {least most : ℕ} {s : Heap T} {d n : ℕ} (inner : 0 < d
   pub items_below_at : (i : ℕ) → i ≤ length (node_items s n) → items_below s (suc d) n
       ≡ before_child s d n i ++ (items_below s d (node_child s n i) ++ after_child s d n i)
   items_below_at i within =
-      grind (arith, get_or-map (items_below s d) (node_children s n) i 0 [] (omega (arith, children_length)), weave_items_below, weave_at, lists_length)
+      let kid =
+      get_or-map (items_below s d) (node_children s n) i 0 [] (omega (arith, children_length)) in
+      grind (arith, weave_items_below, weave_at, lists_length)
 
   pub length-before_more : (i : ℕ) → i < length (node_items s n)
       → length (before_child s d n (i + 1)) ≡ length (before_child s d n i) + length

@@ -42,7 +42,8 @@ module _ {T : Type 0} {r s t : Heap T} {d n many : ℕ} (cs : List ℕ) (built :
 
   same : SameChildren s t d ks
   same =
-      grind (arith, same_children s t d ks (AgreeAt-right s t (n ∷ []) (flat_map (used s d) ks) (subst (AgreeAt s t) (used_is s d n) agree)), used_is s d n, agree)
+      same_children s t d ks (AgreeAt-right s t (n ∷ []) (flat_map (used s d) ks)
+      (subst (AgreeAt s t) (used_is s d n) agree))
 
   used_all : flat_map (used t d) (ks ++ cs) ≡ flat_map (used s d) ks ++ flat_map (used t d) cs
   used_all =
@@ -71,7 +72,14 @@ module _ {T : Type 0} {r s t : Heap T} {d n many : ℕ} (cs : List ℕ) (built :
     holds = written_holds u content written
 
     pub built_more : IsBuilt r u d n (many + 1)
-    built_more = grind (arith, held_shape holds 0 (omega arith) (omega (arith, longer, room)) content.branches content.shaped, holds, longer, content, nodes_moved, held_used holds, Writes-moves (flat_map (used t d) (ks ++ cs)) written)
+    built_more = record {
+      shape = held_shape holds 0 (omega arith) (omega (arith, longer, room)) content.branches
+          content.shaped;
+      items = ap length written.items_are ∙ longer;
+      moved = Moves-then nodes_moved (subst
+          (λ zs. Moves t u (n ∷ flat_map (used t d) (ks ++ cs)) zs) (sym (held_used holds))
+          (Writes-moves (flat_map (used t d) (ks ++ cs)) written));
+    }
 
     pub listed_more : items_below u (suc d) n
         ≡ weave (xs ++ x ∷ []) (map (items_below s d) ks ++ map (items_below t d) cs)
@@ -97,7 +105,12 @@ module _ {T : Type 0} {r s t : Heap T} (d : ℕ) {n : ℕ} (c : ℕ) (inner : 0 
   above_holds = held_new stored above_agree
 
   pub begun_above : IsBuilt r t d n 0
-  begun_above = grind (arith, above_holds, held_used above_holds, alone, Stores-moves (used s d c) stored)
+  begun_above = record {
+    shape = grind (arith, above_holds);
+    items = ap length stored.items_are;
+    moved = Moves-then moved (subst (λ zs. Moves s t (used s d c) zs)
+        (sym (held_used above_holds ∙ ap (λ zs. n ∷ zs) alone)) (Stores-moves (used s d c) stored));
+  }
 
   pub listed_above : items_below t (suc d) n ≡ items_below s d c
   listed_above = held_items_below above_holds ∙ append-nil (items_below s d c)
@@ -142,7 +155,10 @@ module _ {T : Type 0} {r s t : Heap T} {d n : ℕ} (c : ℕ) {many : ℕ} (inner
       child_listed =
           let xs = node_items s n in
           let ks = node_children s n in
-          grind (arith, listed_more (c ∷ []) built one_moved x room below_one both child_written, one_moved, below_one, both, child_written, weave_more, length-map ks (items_below s d), branches, weave_items_below s d n)
+          listed_more (c ∷ []) built one_moved x room below_one both child_written
+          ∙ weave_more xs x (map (items_below s d) ks) (items_below t d c)
+          (omega (arith, length-map ks (items_below s d), branches, built.items))
+          ∙ ap (λ zs. zs ++ x ∷ items_below t d c) (sym (weave_items_below s d n))
 
 -- a child below a node, with so many items, was built of new nodes
 module _ {T : Type 0} where

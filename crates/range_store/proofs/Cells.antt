@@ -29,7 +29,17 @@ turned_right : {A : Type 0} (i k : ℕ) (xs : List A) (x : A) (rest ys : List A)
     ys ≡ drop (length mid - 1) mid ++ take (length mid - 1) mid)
     → put_mid i k (xs ++ x ∷ rest) ys ≡ take i xs ++ x ∷ (drop i xs ++ rest)
 turned_right i k xs x rest ys within long turned =
-    grind (arith, append_assoc xs (x ∷ []) rest, length-append, part_is, drop-append-le, drop_at, take_at, part_put, take-append-le)
+    grind (
+      arith,
+      append_assoc xs (x ∷ []) rest,
+      length-append,
+      part_is,
+      drop-append-le,
+      drop_at,
+      take_at,
+      part_put,
+      take-append-le,
+    )
 
 module _ {T : Type 0} where
   pub items_in_full : (xs : List T) → items_in (full_cells xs) ≡ xs
@@ -125,7 +135,3 @@ module _ {T : Type 0} where
         let many = length-full (remove xs i) in
         let stands = standing xs i within in
         grind (arith, left stands, set_at)
-
-  -- a row with no item
-  pub held_none : HoldsItems {T = T} (replicate CAPACITY None) []
-  held_none = record { fits = omega arith; cells_are = refl }

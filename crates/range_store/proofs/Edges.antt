@@ -87,7 +87,9 @@ place_within {T} {s} (suc d) {n} g {least} {most} shaped is =
     let i = turn g in
     let kid = node_child s n i in
     let low : i ≤ length xs = omega (arith, turn_within s d n g is) in
-    grind (arith, edge_inside s d n g is, items_below_at (omega arith) shaped i low, place_inside, length-append, place_within d (inside g) (kid_shaped d i shaped low) (edge_inside s d n g is))
+    let further = place_within d (inside g) (kid_shaped d i shaped low) (edge_inside s d n g is) in
+    let whole = items_below_at (omega arith) shaped i low in
+    grind (arith, place_inside, length-append)
 
 module _ {T : Type 0} where
   -- an edge is the same in two slabs that agree at the nodes below
@@ -105,4 +107,8 @@ same_edge s t (suc d) n g agree is =
     let here : node_of t n ≡ node_of s n =
     agree n (occurrences_here n (flat_map (used s (suc d)) ks)) in
     let below = AgreeAt-right s t (n ∷ []) (flat_map (used s (suc d)) ks) agree in
-    grind (arith, same_children, same_edge s t d (get_or ks (turn g) 0) (inside g) (agree_kid s t (suc d) (turn g) ks below is.0) is.1)
+    let lists = (same_children s t (suc d) ks below).items_below_same in
+    let kid =
+    same_edge s t d (get_or ks (turn g) 0) (inside g)
+    (agree_kid s t (suc d) (turn g) ks below is.0) is.1 in
+    record { edge = λ h. rw here (h.0, kid.edge h.1); place = rw (here, lists, kid.place) refl }

@@ -54,7 +54,11 @@ module _ {X : Type 0} (p : X → Bool) where
       → count_by p xs ≡ 0
   none_counted [] fails = refl
   none_counted (x ∷ xs) fails =
-      grind (arith, count-no x xs (fails 0 x (omega arith)), none_counted xs (λ k d within. fails (suc k) d (omega arith)))
+      omega (
+        arith,
+        count-no x xs (fails 0 x (omega arith)),
+        none_counted xs (λ k d within. fails (suc k) d (omega arith)),
+      )
 
   -- a test that holds on a front alone falls
   pub falls_partitioned : (xs : List X) → IsPartitionedBy p xs → Falls p xs
@@ -63,7 +67,8 @@ module _ {X : Type 0} (p : X → Bool) where
   falls_partitioned (x ∷ xs) part = (
     (λ fails. none_counted xs
         (λ k d within. false_from_ne_true _
-        (λ holds. grind (arith, both_ways (p x) fails (part 0 (suc k) d (omega arith) (omega arith) holds))))),
+        (λ holds. both_ways (p x) fails
+        (part 0 (suc k) d (omega arith) (omega (arith, within)) holds)))),
     falls_partitioned xs (λ i j d le within holds.
         part (suc i) (suc j) d (omega arith) (omega (arith, within)) holds),
   )

@@ -58,11 +58,13 @@ module _ {T : Type 0} {s t : Heap T} {b n : ℕ} {us ms vs ts : List ℕ}
 
   pub same_before : SameChildren s t b us
   same_before =
-      grind (arith, same_children s t b us (AgreeAt-left s t (flat_map (used s b) us) (flat_map (used s b) vs) agree_sides), agree_sides)
+      same_children s t b us (AgreeAt-left s t (flat_map (used s b) us)
+      (flat_map (used s b) vs) agree_sides)
 
   pub same_after : SameChildren s t b vs
   same_after =
-      grind (arith, same_children s t b vs (AgreeAt-right s t (flat_map (used s b) us) (flat_map (used s b) vs) agree_sides), agree_sides)
+      same_children s t b vs (AgreeAt-right s t (flat_map (used s b) us)
+      (flat_map (used s b) vs) agree_sides)
 
   used_new : flat_map (used t b) (us ++ (ts ++ vs)) ≡ flat_map (used s b) us
       ++ (flat_map (used t b) ts ++ flat_map (used s b) vs)
@@ -70,7 +72,14 @@ module _ {T : Type 0} {s t : Heap T} {b n : ℕ} {us ms vs ts : List ℕ}
       grind (arith, flat_map-append, same_before, same_after)
 
   pub run_moved : Moves s t (used s (suc b) n) (n ∷ flat_map (used t b) (us ++ (ts ++ vs)))
-  run_moved = grind (arith, Moves-like, occur_old, occurrences-append, used_old, length-append, used_new, occurrences-cons)
+  run_moved = Moves-like (used s (suc b) n) (n ∷ flat_map (used t b) (us ++ (ts ++ vs)))
+      (grind (arith, occur_old, occurrences-append, used_old, length-append))
+      (record {
+        occur =
+            λ k.
+            omega (arith, ap (occurrences k) used_new, occurrences-cons, occurrences-append);
+        len = grind (arith, ap length used_new, length-append);
+      }) (Moves-beside rest run.moved)
 
   pub run_content : (xs : List T) → length (us ++ (ts ++ vs)) ≡ child_count b (length xs)
       → All (Shaped s b) us → All (Shaped t b) ts → All (Shaped s b) vs
@@ -78,7 +87,8 @@ module _ {T : Type 0} {s t : Heap T} {b n : ℕ} {us ms vs ts : List ℕ}
   run_content xs branches left middle right = record {
     present = rw run_kept run.present;
     shaped =
-        grind (arith, All-append (Shaped t b) us (ts ++ vs) (same_before.shaped_same left) (All-append (Shaped t b) ts vs middle (same_after.shaped_same right)), same_before, same_after);
+        All-append (Shaped t b) us (ts ++ vs) (same_before.shaped_same left)
+        (All-append (Shaped t b) ts vs middle (same_after.shaped_same right));
     branches = branches;
     owned = λ k. omega (arith, run_moved.owned k, run.owned k);
   }
@@ -193,7 +203,14 @@ module _ {T : Type 0} {s t : Heap T} {b n i rest : ℕ} {item : T} {split : Opti
   front_many = length-take-le i xs grows.low
 
   pub grown_content : IsContent t b n new_xs new_ks
-  grown_content = grind (arith, run_content grown_run new_xs (grind (arith, length-append, us_many, front_many, length-drop)) (All-take (Shaped s b) i ks grows.shaped.children) tops_shaped (All-drop (Shaped s b) (i + 1) ks grows.shaped.children), grown_run, length-append, us_many, front_many, length-drop, All-take (Shaped s b) i ks grows.shaped.children, tops_shaped)
+  grown_content = run_content grown_run new_xs (grind (
+    arith,
+    length-append,
+    us_many,
+    front_many,
+    length-drop,
+  )) (All-take (Shaped s b) i ks grows.shaped.children) tops_shaped
+      (All-drop (Shaped s b) (i + 1) ks grows.shaped.children)
 
   abbrev lists : List (List T)
   lists = child_lists s b n
@@ -206,7 +223,8 @@ module _ {T : Type 0} {s t : Heap T} {b n i rest : ℕ} {item : T} {split : Opti
   pub grown_longer : length (weave new_xs (map (items_below t b) new_ks))
       ≡ length (items_below s (suc b) n) + 1
   grown_longer =
-      grind (arith, items_below_at (omega arith) grows.shaped i grows.low, length-append, grown_listed, length-insert)
+      let whole = items_below_at (omega arith) grows.shaped i grows.low in
+      grind (arith, length-append, grown_listed, length-insert)
 
   pub grown_seat : (side : ℕ) (g : Edge)
       → IsSeat t (suc (b - 1)) (separators split) (tops kid split) side g
@@ -230,7 +248,14 @@ pub kid_owned : {T : Type 0} (s : Heap T) (b n i : ℕ) → Owned s (suc b) n
 kid_owned s b n i owned low k =
     let ks = node_children s n in
     let kid = get_or ks i 0 in
-    grind (arith, list_splits_at ks i 0 low, flat_map-append, used_is s b n, occurrences-cons, occurrences-append)
+    grind (
+      arith,
+      list_splits_at ks i 0 low,
+      flat_map-append (used s b) (take i ks) (kid ∷ drop (i + 1) ks),
+      used_is s b n,
+      occurrences-cons,
+      occurrences-append,
+    )
 
 -- a child that was not cut leaves the node as it is
 module _ {T : Type 0} {s t : Heap T} {b n i rest : ℕ} {item : T}
@@ -255,7 +280,9 @@ module _ {T : Type 0} {s t : Heap T} {b n i rest : ℕ} {item : T}
 
   pub none_replaces : Replaces s t b n None
       (insert (items_below s (suc b) n) (length (before_child s b n i) + rest) item)
-  none_replaces = grind (arith, grown_moved grows, grown_listed grows, same_length, written_settles t content written (omega (arith, same_length, grows.shaped.node.fits)), content, written)
+  none_replaces = settled_replaces _ (grown_moved grows)
+      (grown_listed grows) (omega (arith, same_length))
+      (written_settles t content written (omega (arith, same_length, grows.shaped.node.fits)))
 
   pub none_edge : (side : ℕ) (g h : Edge) → turn h ≡ i → inside h ≡ g
       → IsSeat t (suc (b - 1)) (separators {T = T} None)

@@ -16,10 +16,6 @@ module _ {T : Type 0} where
   removes_slot : (s : Heap T) (n : ℕ) → HasNode s n → Removes s (with_slot s n None) n
   removes_slot s n present = grind (arith, slot_read, get_or-set_other, slot_count)
 
-  pub item_other : (s : Heap T) (n i k : ℕ) (x : T) → k ≢ n
-      → node_of (with_item s n i x) k ≡ node_of s k
-  item_other s n i k x other = grind (arith, get_or-set_other)
-
   module _ (s t u : Heap T) (n m : ℕ) (xs : List T) (ks : List ℕ) (apart : m ≢ n) where
     -- two writes of different nodes
     pub record WritesFirst (ys : List T) (ls : List ℕ) : Type 0 where

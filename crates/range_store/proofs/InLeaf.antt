@@ -36,7 +36,11 @@ unfolding IsEdge
 leaf_of_edge zero {n} g shaped is = grind arith
 leaf_of_edge {T} {s} (suc d) {n} g shaped is =
     let low : turn g ≤ length (node_items s n) = omega arith in
-    grind (arith, kid_shaped, leaf_of_edge d (inside g) (shaped_within_wider 1 CAPACITY (omega arith) (omega arith) (kid_shaped d (turn g) shaped low)) is.1)
+    grind (
+      arith,
+      leaf_of_edge d (inside g) (shaped_within_wider 1 CAPACITY (omega arith) (omega arith)
+          (kid_shaped d (turn g) shaped low)) is.1,
+    )
 
 -- another edge in it
 pub leaf_beside : {T : Type 0} (s : Heap T) (d n : ℕ) (g h : Edge) → h.leaf ≡ g.leaf

@@ -66,9 +66,6 @@ module _ {T : Type 0} {s t : Heap T} {d n : ℕ} (g : Edge) {items : List T}
     (low : turn g ≤ length (node_items s n)) (within : turn g < length (node_children s n))
     (below : IsLeafEdit s t d (node_child s n (turn g)) (inside g) items)
   where
-    inner : suc d ≢ 0
-    inner same = absurd (omega (arith, same))
-
     abbrev fore : List T
     fore = before_child s (suc d) n (turn g)
 
@@ -92,7 +89,11 @@ module _ {T : Type 0} {s t : Heap T} {d n : ℕ} (g : Edge) {items : List T}
           ∙ ap (λ zs. fore ++ (zs ++ behind)) below.was
           ∙ regroup fore below.front (node_items s g.leaf) below.rest behind;
       place_is = omega (arith, place_inside s d n g, length-append fore below.front);
-      rewritten = grind (arith, kid_listed anew, regroup fore below.front items below.rest behind, kid_moved anew, kept, kid_children, kid_now);
+      rewritten = record {
+        listed = kid_listed anew ∙ regroup fore below.front items below.rest behind;
+        moved = kid_moved anew;
+        shape = λ least small old. grind (arith, kept, kid_children, kid_now);
+      };
       edges = λ h leaf path index.
           grind (arith, kept, place_inside, kid_front, edge_above, length-append);
     }
@@ -103,12 +104,14 @@ pub leaf_edit : {T : Type 0} {s t : Heap T} (d : ℕ) {n : ℕ} (g : Edge) {item
     → Owned s (suc d) n → IsEdge s d n g → Writes s t g.leaf items (node_children s g.leaf)
     → IsLeafEdit s t d n g items
 unfolding IsEdge
-leaf_edit {T} {s} {t} zero {n} g {items} fits enough shaped owned is written = grind (arith, edited_here g fits (rw is.0 at enough) shaped owned (rw is.0 at written) is.0 is.1)
+leaf_edit {T} {s} {t} zero {n} g {items} fits enough shaped owned is written = edited_here g fits
+    (rw is.0 at enough) shaped owned (rw is.0 at written) is.0 is.1
 leaf_edit {T} {s} {t} (suc d) {n} g {items} fits enough shaped owned is written =
     let low : turn g ≤ length (node_items s n) = omega (arith, is.0, shaped.node.branches) in
     let kid_whole = shaped_within_wider 1 CAPACITY (omega arith) (omega arith)
     (kid_shaped d (turn g) shaped low) in
-    grind (arith, edited_above, leaf_edit d (inside g) fits enough kid_whole (kid_owned s (suc d) n (turn g) owned is.0) is.1 written)
+    edited_above g shaped owned low is.0 (leaf_edit d (inside g) fits enough kid_whole
+    (kid_owned s (suc d) n (turn g) owned is.0) is.1 written)
 
 -- an item more, before the edge
 module _ {T : Type 0} {s t : Heap T} {d n : ℕ} (item : T) {g : Edge}
@@ -152,12 +155,6 @@ module _ {T : Type 0} {t : BoxStorage T} (new : Heap T) {g : Edge} (is : IsBoxEd
     pub capacity : new.capacity ≡ t.nodes.capacity
     pub edge : IsEdge new (t.levels - 1) t.root h
     pub place_is : place new (t.levels - 1) t.root h + g.index ≡ box_place t g + before
-
-  leaf_change_lists : {now : List T} (list : List T) (h : Edge)
-      (edit : IsLeafEdit t.nodes new (t.levels - 1) t.root g now)
-      → edit.front ++ (now ++ edit.rest) ≡ list → h.leaf ≡ g.leaf → h.path ≡ g.path
-      → h.index ≤ length now → IsLeafChange list h h.index
-  leaf_change_lists list h edit same at path within = grind arith
 
   pub put_in_leaf : (item : T) (h : Edge) → length items < CAPACITY
       → Writes t.nodes new g.leaf (insert items g.index item) (node_children t.nodes g.leaf)

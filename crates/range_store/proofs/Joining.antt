@@ -48,17 +48,14 @@ module _ {T : Type 0} {s : Heap T} {d l r : ℕ} (x : T) (pair : IsPair s d l r)
   right_apart k among same =
       grind (arith, occurrences_itself r, occur_pair k, here_le s k)
 
-  one : length (node_items s l) + (1 + length (node_items s r))
-      ≡ length (node_items s l) + length (x ∷ node_items s r)
-  one = omega arith
-
   pub pair_content : IsContent s d l xs ks
   pair_content = record {
     present = pair.left.node.present;
     shaped =
-        grind (arith, All-append (Shaped s d) (node_children s l) (node_children s r) pair.left.children pair.right.children);
+        All-append (Shaped s d) (node_children s l)
+        (node_children s r) pair.left.children pair.right.children;
     branches = grind (arith, length-append);
-    owned = λ k. omega (arith, occur_pair k, occurrences-cons);
+    owned = λ k. omega (arith, occur_pair k, occurrences-cons k l F);
   }
 
   pub pair_listed : weave xs (map (items_below s d) ks) ≡ items_below s (suc d) l
@@ -89,7 +86,12 @@ module _ {T : Type 0} {s : Heap T} {d l r : ℕ} (x : T) (pair : IsPair s d l r)
     pub united_rejoins : Rejoins s u d l x r None
     united_rejoins = record {
       listed = grind (arith, append-nil, held_items_below, united_holds, pair_listed);
-      moved = grind (arith, pair_nodes, append-nil, united_used, Moves-then (Moves-like (r ∷ l ∷ F) (r ∷ l ∷ F) swapped swapped (Writes-moves (r ∷ F) written)) (Removes-moves (l ∷ F) removed), Moves-like (r ∷ l ∷ F) (r ∷ l ∷ F) swapped swapped (Writes-moves (r ∷ F) written), swapped, Writes-moves (r ∷ F) written, Removes-moves (l ∷ F) removed);
+      moved = Moves-like (used s (suc d) l ++ used s (suc d) r) (used u (suc d) l ++ [])
+          (record { occur = λ k. sym (pair_nodes.occur k); len = sym pair_nodes.len })
+          (grind (arith, append-nil, united_used))
+          (Moves-then
+          (Moves-like (r ∷ l ∷ F) (r ∷ l ∷ F) swapped swapped (Writes-moves (r ∷ F) written))
+          (Removes-moves (l ∷ F) removed));
       shaped = All-cons (Shaped u (suc d)) l [] (Shaped-from_but u d l (held_shape united_holds
           MIN_LEN (omega (arith, length-append (node_items s l) (x ∷ node_items s r))) (omega arith)
           pair_content.branches pair_content.shaped)) (All-nil _);
@@ -116,7 +118,19 @@ module _ {T : Type 0} {s : Heap T} {d l r : ℕ} (x : T) (pair : IsPair s d l r)
         → split.middle ≡ get_or xs half split.middle → MIN_LEN ≤ half → half ≤ CAPACITY
         → half + 1 + MIN_LEN ≤ length xs → length xs ≤ half + 1 + CAPACITY
         → Rejoins s u d l x r (Some split)
-    shared_rejoins split same middle least_left most_left least_right most_right = grind (arith, halves_listed, pair_content, shared_left, shared_right, pair_listed, pair_nodes, halves_nodes half pair_content low shared_left shared_right, Moves-then (Moves-like (r ∷ l ∷ F) (r ∷ l ∷ F) swapped swapped (Writes-moves (r ∷ F) first)) (Writes-moves (l ∷ F) second), Moves-like (r ∷ l ∷ F) (r ∷ l ∷ F) swapped swapped (Writes-moves (r ∷ F) first), swapped, Writes-moves (r ∷ F) first, Writes-moves (l ∷ F) second, halves_shape half pair_content low shared_left shared_right least_left most_left least_right most_right MIN_LEN (omega arith), Shaped-from_but)
+    shared_rejoins split same middle least_left most_left least_right most_right = rw same (record {
+      listed = grind (arith, halves_listed, pair_content, shared_left, shared_right, pair_listed);
+      moved = Moves-like (used s (suc d) l ++ used s (suc d) r)
+          (used u (suc d) l ++ (used u (suc d) r ++ []))
+          (record { occur = λ k. sym (pair_nodes.occur k); len = sym pair_nodes.len })
+          (halves_nodes half pair_content low shared_left shared_right) (Moves-then
+          (Moves-like (r ∷ l ∷ F) (r ∷ l ∷ F) swapped swapped (Writes-moves (r ∷ F) first))
+          (Writes-moves (l ∷ F) second));
+      shaped =
+          let but = halves_shape half pair_content low shared_left shared_right least_left most_left
+          least_right most_right MIN_LEN (omega arith) in
+          grind (arith, Shaped-from_but);
+    })
 
 -- the seat of an edge among the items of both, from that in the left or in the right one
 module _ {T : Type 0} (s : Heap T) (l : ℕ) (x : T) (r : ℕ) (g : Edge) where
@@ -132,7 +146,11 @@ module _ {T : Type 0} (s : Heap T) (l : ℕ) (x : T) (r : ℕ) (g : Edge) where
   unfolding IsEdge place IsSeat seat_place
   seat_from_left zero pair is = grind (arith, length-append)
   seat_from_left (suc e) pair is =
-      grind (arith, seat_run s e [] (node_children s l) (node_children s r) [] (node_items s l) (x ∷ node_items s r) 0 (turn g) (inside g) refl refl pair.left.node.branches is)
+      let run =
+      seat_run s e [] (node_children s l) (node_children s r) []
+      (node_items s l) (x ∷ node_items s r) 0 (turn g)
+      (inside g) refl refl pair.left.node.branches is in
+      grind arith
 
   pub seat_from_right : (d : ℕ) → IsPair s d l r → IsEdge s d r g
       → IsSeat s d all_items all_children (length (node_items s l) + 1 + seat_of d g) (inside g)

@@ -79,7 +79,14 @@ module _ {T : Type 0} {s : Heap T} {low n j : ℕ} (x : T) (levelled : IsLevelle
         grind (arith, length-append, front_many, length-drop)
 
     new_content : IsContent t (suc low) n new_xs new_ks
-    new_content = grind (arith, run_content pair_run new_xs (grind (arith, new_length, length-append, us_many, length-drop)) levelled.before rejoins.shaped levelled.behind, pair_run, new_length, us_many, length-drop)
+    new_content = run_content pair_run new_xs (grind (
+      arith,
+      new_length,
+      length-append,
+      us_many,
+      length-drop,
+    ))
+        levelled.before rejoins.shaped levelled.behind
 
     woven_old : items_below s (suc (suc low)) n
         ≡ front_of (take j xs) (map (items_below s (suc low)) us)

@@ -21,7 +21,12 @@ children_sizes : {T : Type 0} (s : Heap T) (d p q : ℕ)
 children_sizes {T} s d p q below [] shaped =
     (omega (arith, zero-mul p), omega (arith, zero-mul q))
 children_sizes {T} s d p q below (n ∷ ns) shaped =
-    grind (arith, All-head (Shaped s d) n ns shaped, All-tail (Shaped s d) n ns shaped, sum_by-cons (length {A = T}) (items_below s d n) (map (items_below s d) ns), suc-mul (length ns) q, children_sizes s d p q below ns (All-tail (Shaped s d) n ns shaped))
+    let first = below n (All-head (Shaped s d) n ns shaped) in
+    let later = children_sizes s d p q below ns (All-tail (Shaped s d) n ns shaped) in
+    let all = sum_by-cons (length {A = T}) (items_below s d n) (map (items_below s d) ns) in (
+      omega (arith, suc-mul (length ns) p, first.0, later.0, all),
+      omega (arith, suc-mul (length ns) q, first.1, later.1, all),
+    )
 
 but_sizes : {T : Type 0} {least most : ℕ} {s : Heap T} (d : ℕ) {n : ℕ}
     → ((k : ℕ) → Shaped s d k → ((MIN_LEN + 1) ^ d ≤ length (items_below s d k) + 1)
@@ -37,7 +42,11 @@ but_sizes {T} {least} {most} {s} (suc d) {n} below shaped =
     let ks = node_children s n in
     let p = (MIN_LEN + 1) ^ suc d in
     let q = (CAPACITY + 1) ^ suc d in
-    grind (arith, children_sizes s (suc d) p q below ks shaped.children, items_below_size shaped, mul-le-mul_right)
+    let all = children_sizes s (suc d) p q below ks shaped.children in
+    let enough : least + 1 ≤ length ks = omega arith in
+    let fits : length ks ≤ most + 1 = omega arith in
+    let size = items_below_size shaped in
+    grind (arith, mul-le-mul_right)
 
 items_sizes : {T : Type 0} (s : Heap T) (d n : ℕ) → Shaped s d n
     → ((MIN_LEN + 1) ^ d ≤ length (items_below s d n) + 1)
@@ -54,7 +63,8 @@ tree_lower {T} {s} d {root} tree = (but_sizes d (items_sizes s d) tree.shaped).0
 pub tree_upper : {T : Type 0} {s : Heap T} (d : ℕ) {root : ℕ} → IsTree s (suc d) root
     → length (items_below s (suc d) root) + 1 ≤ (CAPACITY + 1) ^ suc d
 tree_upper {T} {s} d {root} tree =
-    grind (arith, but_sizes d (items_sizes s d) tree.shaped, items_sizes s d, pow-suc (CAPACITY + 1) d)
+    let most = (but_sizes d (items_sizes s d) tree.shaped).1 in
+    omega (arith, pow-suc (CAPACITY + 1) d, mul_comm (CAPACITY + 1) ((CAPACITY + 1) ^ d), most)
 
 -- a power outgrows its exponent
 pub pow_more : (d : ℕ) → d + 1 ≤ (MIN_LEN + 1) ^ d

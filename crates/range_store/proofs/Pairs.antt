@@ -56,4 +56,10 @@ module _ {T : Type 0} {s : Heap T} {low n j : ℕ} (x : T) (levelled : IsLevelle
   pair_seat i g q (inl same) is left right =
       grind (arith, seat_from_left s l x r g low (pair_of x levelled here) (rw same at is))
   pair_seat i g q (inr next) is left right =
-      grind (arith, seat_from_right s l x r g low (pair_of x levelled here) (rw next at is), get_or-map, length-before_next, length-map)
+      grind (
+        arith,
+        seat_from_right s l x r g low (pair_of x levelled here) (rw next at is),
+        get_or-map,
+        length-before_next,
+        length-map,
+      )

@@ -84,7 +84,12 @@ module _ {T : Type 0} {s : Heap T} {b n : ℕ} (inner : b ≢ 0)
   pub past_last : (i : ℕ) → i ≡ length (node_items s n) → length (before_child s b n i) + length
       (items_below s b (node_child s n i)) ≡ length (items_below s (suc b) n)
   past_last i last =
-      grind (arith, items_below_at (omega arith) shaped i (omega arith), none_after_last (omega arith) shaped, length-append)
+      grind (
+        arith,
+        items_below_at (omega arith) shaped i (omega arith),
+        none_after_last (omega arith) shaped,
+        length-append,
+      )
 
   -- an edge at the end of the child at i is one before the next child
   pub before_next : (i : ℕ) → i < length (node_items s n) → length (before_child s b n (i + 1))

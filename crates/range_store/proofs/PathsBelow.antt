@@ -40,10 +40,6 @@ module _ {T : Type 0} (s : Heap T) where
     pub place_is : (e : Edge) → IsEdge s left at e
         → place s below number (from_above path weight e) ≡ ahead + place s left at e
 
-  pub lies_itself : {below number : ℕ} → ShapedBut 1 CAPACITY s below number
-      → LiesBelow below number below number 0 1 0
-  lies_itself shaped = grind arith
-
   pub lies_in_child : {below number left : ℕ} (at path weight ahead : ℕ) → left ≢ 0
       → LiesBelow below number left at path weight ahead → (i : ℕ)
       → i ≤ length (node_items s at) → LiesBelow below number (left - 1) (node_child s at i) (path + weight * i) (weight * PATH_BASE) (ahead + ahead_of

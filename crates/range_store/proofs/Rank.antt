@@ -31,4 +31,5 @@ first_room levels none tree room = grind (arith, used_none)
 pub kid_shaped : {T : Type 0} {least most : ℕ} {s : Heap T} (d : ℕ) {n : ℕ} (i : ℕ)
     → ShapedBut least most s (suc d) n → i ≤ length (node_items s n)
     → ShapedBut MIN_LEN CAPACITY s d (node_child s n i)
-kid_shaped {T} {least} {most} {s} d i shaped within = grind (arith, Shaped-but s d _ (shaped.children i 0 (omega arith)))
+kid_shaped {T} {least} {most} {s} d i shaped within = Shaped-but s d _
+    (shaped.children i 0 (omega (arith, shaped.node.branches)))

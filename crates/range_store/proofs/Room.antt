@@ -29,7 +29,13 @@ children_le_from : {T : Type 0} (s : Heap T) (d : ℕ)
     → (ns : List ℕ) → All (Shaped s d) ns → MIN_LEN * length (flat_map (used s d) ns) ≤ sizes s d ns
 children_le_from s d below [] shaped = omega arith
 children_le_from {T} s d below (n ∷ ns) shaped =
-    grind (arith, All-head (Shaped s d) n ns shaped, All-tail (Shaped s d) n ns shaped, length-append, sum_by-cons (length {A = T}) (items_below s d n) (map (items_below s d) ns), children_le_from s d below ns (All-tail (Shaped s d) n ns shaped))
+    omega (
+      arith,
+      below n (All-head (Shaped s d) n ns shaped),
+      children_le_from s d below ns (All-tail (Shaped s d) n ns shaped),
+      length-append (used s d n) (flat_map (used s d) ns),
+      sum_by-cons (length {A = T}) (items_below s d n) (map (items_below s d) ns),
+    )
 
 pub used_le : {T : Type 0} (s : Heap T) (d n : ℕ) → Shaped s d n
     → MIN_LEN * length (used s d n) ≤ length (items_below s d n)

@@ -96,7 +96,8 @@ module _ {T : Type 0} {s t u : Heap T} {d root n : ℕ} (split : Split T) {list 
       → IsEdge u (suc d) n h
       × (place u (suc d) n h ≡ seat_place t (suc d) (split.middle ∷ []) ts side g)
   taller_seat side g h at within seat =
-      grind (arith, seat_written t u n (split.middle ∷ []) ts side g h (suc d) holds agree (λ no. absurd (omega (arith, no))) (λ some. at) (λ some. within) seat, agree)
+      seat_written t u n (split.middle ∷ []) ts side g h (suc d) holds agree
+      (λ no. absurd (omega (arith, no))) (λ some. at) (λ some. within) seat
 
 pub taller_root : {T : Type 0} {s t u : Heap T} (levels : ℕ) {root n : ℕ} (split : Split T)
     {list : List T} → 0 < levels → IsTree s levels root

@@ -33,7 +33,16 @@ pub empty_root_leaves_nothing : {T : Type 0} {s t : Heap T} (levels : ℕ) {root
     → IsLooseTree s levels root → length (node_items s root) ≡ 0 → Removes s t root
     → IsTree t 0 0 × (items_below t 0 0 ≡ items_below s levels root)
 empty_root_leaves_nothing levels one loose empty gone =
-    grind (arith, used_leaf, here_without, used_none, occurrences-nil, items_below_none, nil_from_length, items_below_leaf)
+    grind (
+      arith,
+      used_leaf,
+      here_without,
+      used_none,
+      occurrences-nil,
+      items_below_none,
+      nil_from_length,
+      items_below_leaf,
+    )
 
 -- a taller tree whose root has one child alone
 module _ {T : Type 0} {s t : Heap T} {e root : ℕ} (loose : IsLooseTree s (suc (suc e)) root)
@@ -94,9 +103,3 @@ lowered_edge {T} {s} {t} (suc (suc e)) {root} g more loose empty gone is' =
 pub tree_owned : {T : Type 0} {s : Heap T} {levels root : ℕ} → IsTree s levels root → (k : ℕ)
     → occurrences k (used s levels root) ≤ here s k
 tree_owned tree k = omega (arith, tree.once k)
-
--- the tree after an item was put in the place of another
-pub rewritten_tree : {T : Type 0} {s t : Heap T} (levels : ℕ) {root : ℕ} {list : List T}
-    → 0 < levels → IsTree s levels root → IsRewritten s t (levels - 1) root list
-    → IsTree t levels root × (items_below t levels root ≡ list)
-rewritten_tree levels some tree step' = grind arith

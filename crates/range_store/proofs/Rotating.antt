@@ -97,7 +97,8 @@ module _ {T : Type 0} {s : Heap T} {low n j : ℕ} (levelled : IsLevelled s low 
       cut = record { middle = y; right = node_child s n (j + 1) }
 
       rejoined : Rejoins s t low l x r (Some cut)
-      rejoined = grind (arith, shared_rejoins x pair half within shared.first shared.second cut refl shared.middle shared.least shared.most shared.rest shared.few, pair)
+      rejoined = shared_rejoins x pair half within shared.first shared.second cut refl
+          shared.middle shared.least shared.most shared.rest shared.few
 
       written : Writes t u n (take j xs ++ (y ∷ drop (j + 1) xs))
           (take j ks ++ (l ∷ r ∷ drop (j + 2) ks))
@@ -120,7 +121,10 @@ module _ {T : Type 0} {s : Heap T} {low n j : ℕ} (levelled : IsLevelled s low 
           let edge = seat_written s t l (take half X) (take (half + 1) K) q g e low
           (shared_left x pair half within shared.first shared.second) agree leaf at into left.0 in
           let alone = seat_alone t low l e (Some cut) edge.0 in
-          grind (arith, levelled_edge x levelled here rejoined written 0 e h (omega (arith, turned)) inner alone.0, written)
+          let up = levelled_edge x levelled here rejoined written 0 e h (omega (arith, turned))
+          inner
+          alone.0 in
+          (up.0, omega (arith, up.1, alone.1, edge.1, left.1))
 
       moves_right : (q : ℕ) (g e h : Edge) → half < q → IsSeat s low X K q g
           → (low ≡ 0 → e ≡ record { leaf = r; path = 0; index = q - half - 1 })
@@ -138,7 +142,11 @@ module _ {T : Type 0} {s : Heap T} {low n j : ℕ} (levelled : IsLevelled s low 
           low (shared_right x pair half within shared.first shared.second) agree leaf at into
           right.0 in
           let beside = seat_beside t low l e cut edge.0 in
-          grind (arith, levelled_edge x levelled here rejoined written 1 e h turned inner beside.0, rejoined, written, left_items_below, pair_content x pair, pair, within, shared_left x pair half within shared.first shared.second, shared_right x pair half within shared.first shared.second)
+          let up = levelled_edge x levelled here rejoined written 1 e h turned inner beside.0 in
+          let fore = ap length (left_items_below half (pair_content x pair) within
+          (shared_left x pair half within shared.first shared.second)
+          (shared_right x pair half within shared.first shared.second)) in
+          (up.0, omega (arith, up.1, beside.1, edge.1, right.1, fore))
 
     -- the two became one
     module _ {o t u : Heap T} (first : Writes s o l X K) (second : Removes o t r) (parent : Writes t
@@ -164,7 +172,9 @@ module _ {T : Type 0} {s : Heap T} {low n j : ℕ} (levelled : IsLevelled s low 
           (united_holds x pair first second few) (united_agree x pair first second few) leaf at into
           seat in
           let alone = seat_alone t low l e None edge.0 in
-          grind (arith, levelled_edge x levelled here joined detached 0 e h (omega (arith, turned)) inner alone.0, joined)
+          let up = levelled_edge x levelled here joined detached 0 e h (omega (arith, turned)) inner
+          alone.0 in
+          (up.0, omega (arith, up.1, alone.1, edge.1))
 
   kid_apart : (i : ℕ) → i < length ks → get_or ks i 0 ≢ n
   kid_apart i low' same =
@@ -199,14 +209,20 @@ module _ {T : Type 0} {s : Heap T} {low n j : ℕ} (levelled : IsLevelled s low 
 
   -- the child at j lent an item to the one after it
   module _ {u : Heap T} (rotates : RotatesRight s u n j) (spare : MIN_LEN < child_size s n j) where
-    one : a - 1 + 1 ≡ a
-    one = omega (arith, spare)
-
     to_right : IsShared rotates.down rotates.down_is rotates.rotates.first rotates.rotates.second u
         rotates.up (a - 1)
     to_right =
         let more = rotates.down ∷ rights in
-        grind (arith, length-append lefts more, length-take-le, take-append-le, drop-append-add lefts more (a - 1 + 1) 0 (omega arith), drop-append-le, get_or_append_left, item_behind)
+        grind (
+          arith,
+          length-append lefts more,
+          length-take-le (a - 1) lefts (omega arith),
+          take-append-le,
+          drop-append-add lefts more (a - 1 + 1) 0 (omega arith),
+          drop-append-le,
+          get_or_append_left,
+          item_behind,
+        )
 
     pub next_shrinks : Shrinks s u (suc low) n (items_below s (suc (suc low)) n)
     next_shrinks = shrunk rotates.down rotates.down_is to_right
@@ -225,7 +241,9 @@ module _ {T : Type 0} {s : Heap T} {low n j : ℕ} (levelled : IsLevelled s low 
         (λ none. absurd (omega (arith, none))) (λ some. refl) in
         let moved : a + 1 + seat_of low e - (a - 1) - 1 ≡ seat_of low e + 1 =
         omega (arith, spare) in
-        grind (arith, moves_right rotates.down rotates.down_is to_right q (inside e) g h (omega arith) seat.0 (rw moved leaf) (rw moved at) into turned inner)
+        let up = moves_right rotates.down rotates.down_is to_right q (inside e) g h (omega arith)
+        seat.0 (rw moved leaf) (rw moved at) into turned inner in
+        (up.0, up.1 ∙ seat.1)
 
   -- the child after j lent an item to that at j
   module _ {u : Heap T} (rotates : RotatesLeft s u n j)
@@ -236,7 +254,14 @@ module _ {T : Type 0} {s : Heap T} {low n j : ℕ} (levelled : IsLevelled s low 
         let more = rotates.down ∷ rights in
         let long = length-append lefts more in
         let next : a + 1 + 1 ≡ a + 2 = omega arith in
-        grind (arith, take-append-add lefts more (a + 1) 1 refl, take_children, drop-append-add lefts more (a + 1 + 1) 2 next, drop_children, get_or-append-add)
+        grind (
+          arith,
+          take-append-add lefts more (a + 1) 1 refl,
+          take_children,
+          drop-append-add lefts more (a + 1 + 1) 2 next,
+          drop_children,
+          get_or-append-add,
+        )
 
     pub previous_shrinks : Shrinks s u (suc low) n (items_below s (suc (suc low)) n)
     previous_shrinks = shrunk rotates.down rotates.down_is to_left
@@ -250,7 +275,10 @@ module _ {T : Type 0} {s : Heap T} {low n j : ℕ} (levelled : IsLevelled s low 
         let seat = pair_seat rotates.down levelled rotates.down_is j e (seat_of low e) (inl refl) is
         (λ none. refl) (λ some. absurd (omega (arith, some))) in
         let itself = edge_itself low l e is in
-        grind (arith, stays_left rotates.down rotates.down_is to_left (seat_of low e) (inside e) e h (omega (arith, seat_low low e levelled.left is)) seat.0 itself.0 itself.1 (λ some. refl) turned inner, to_left)
+        let up = stays_left rotates.down rotates.down_is to_left (seat_of low e) (inside e) e h
+        (omega (arith, seat_low low e levelled.left is)) seat.0 itself.0 itself.1 (λ some. refl)
+        turned inner in
+        (up.0, up.1 ∙ seat.1)
 
   -- the two were joined
   module _ {u : Heap T} (merges : Merges s u n j)
@@ -259,7 +287,8 @@ module _ {T : Type 0} {s : Heap T} {low n j : ℕ} (levelled : IsLevelled s low 
     fits = omega (arith, length-append (node_items s l) (merges.down ∷ node_items s r))
 
     pub joined_shrinks : Shrinks s u (suc low) n (items_below s (suc (suc low)) n)
-    joined_shrinks = grind (arith, merged_shrinks merges.down merges.down_is merges.left merges.right merges.parent fits)
+    joined_shrinks = merged_shrinks merges.down merges.down_is merges.left merges.right
+        merges.parent fits
 
     pub joined_edge : (i : ℕ) (e g h : Edge) (q : ℕ) → (i ≡ j) ⊎ (i ≡ j + 1)
         → IsEdge s low (get_or ks i 0) e → (i - j ≡ 0 → q ≡ seat_of low e)
@@ -270,4 +299,6 @@ module _ {T : Type 0} {s : Heap T} {low n j : ℕ} (levelled : IsLevelled s low 
     joined_edge i e g h q near is first second leaf at into turned inner =
         let seat = pair_seat merges.down levelled merges.down_is i e q near is first second
         in
-        grind (arith, merged_edge merges.down merges.down_is merges.left merges.right merges.parent fits q (inside e) g h seat.0 leaf)
+        let up = merged_edge merges.down merges.down_is merges.left merges.right merges.parent fits
+        q (inside e) g h seat.0 leaf at into turned inner in
+        (up.0, up.1 ∙ seat.1)

@@ -80,7 +80,11 @@ module _ {T : Type 0} (rows one two three : List (List T)) (l r : ℕ) (l_there 
 
   halves : two ≡ set (set rows l left) r right
   halves =
-      grind (arith, less_left, length-take-le k whole (omega (arith, many)), take-take (k - 1) k whole (omega arith))
+      taken
+      ∙ less_left rows l r l_there r_there apart one (take k whole) right
+      (cut ∙ ap (λ ys. set (set rows l (take k whole)) r (ys ++ right)) bare) (k - 1)
+      (omega (arith, length-take-le k whole (omega (arith, many))))
+      ∙ ap (λ zs. set (set rows l zs) r right) (take-take (k - 1) k whole (omega arith))
 
   pub divided_low : suc i ≤ k → three ≡ set two l (insert (row_of two l) i x)
       → three ≡ set (set rows l (take k (insert whole i x))) r (drop (suc k) (insert whole i x))

@@ -47,7 +47,9 @@ module _ {T : Type 0} where
       pub cell_in : (stands : Standing (row_of (rows_in many cells) n) i) → (d : Option T)
           → get_or cells (CAPACITY * n + i) d ≡ Some stands.item
       cell_in stands d =
-          grind (arith, row_held, get_or-drop (CAPACITY * n) cells i d, cell_read row_held i within stands d)
+          sym (get_or-take CAPACITY (drop (CAPACITY * n) cells) i d (omega (arith, row_held.fits))
+          ∙ get_or-drop (CAPACITY * n) cells i d)
+          ∙ cell_read row_held i within stands d
 
   -- the cells of one number are new, and hold these items
   pub record Rewrites (cells new : List (Option T)) (n : ℕ) (items : List T) : Type 0 where
@@ -124,7 +126,13 @@ module _ {T : Type 0} where
       record {
         len = length-set cells (CAPACITY * n + i) cell;
         others = λ m other.
-            grind (arith, drop-take (CAPACITY * m) CAPACITY (set cells (CAPACITY * n + i) cell), take-set-le, drop-take, drop-set-lt);
+            grind (
+              arith,
+              drop-take (CAPACITY * m) CAPACITY (set cells (CAPACITY * n + i) cell),
+              take-set-le,
+              drop-take (CAPACITY * m) CAPACITY cells,
+              drop-set-lt,
+            );
         here = rw here (grind (arith, length-set, set-append_left, length-full, map-set));
       }
 
@@ -132,7 +140,8 @@ module _ {T : Type 0} where
       → {i : ℕ} → i < length (row_of (rows_in many cells) n) → (item : T)
       → IsRowWritten many cells (set cells (CAPACITY * n + i) (Some item)) n
       (set (row_of (rows_in many cells) n) i item)
-  cell_written {many} {cells} rows {n} less {i} within item = grind (arith, row_written rows less (cell_rewritten n i cells item within (row_held rows n less within)), row_held rows n less within)
+  cell_written {many} {cells} rows {n} less {i} within item = row_written rows less
+      (cell_rewritten n i cells item within (row_held rows n less within))
 
   -- empty cells were added up to a row
   module _ {many : ℕ} {cells : List (Option T)} (rows : IsRows many cells) (n : ℕ)
@@ -212,7 +221,9 @@ module _ {T : Type 0} where
           | inr past ↦
               elim (cases_lt n more) [
                 | inl new ↦
-                    grind (arith, rows_read, cells_past rows n (omega arith), get_or_past, length-rows)
+                    rows_read more cells n new
+                    ∙ ap items_in (cells_past rows n (omega arith))
+                    ∙ sym (grind (arith, get_or_past, length-rows))
                 | inr other ↦
                     grind (arith, get_or_past, length-rows)
               ]

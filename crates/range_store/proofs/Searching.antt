@@ -21,7 +21,10 @@ module _ {T : Type 0} (p : T → Bool) where
   unfolding Falls
   falls_rest_of xs [] same falls = falls
   falls_rest_of [] (j ∷ ks) same falls = absurd (omega arith)
-  falls_rest_of (x ∷ xs) (j ∷ ks) same falls = grind (arith, count-append, count-rest_of, falls_rest_of xs ks (omega arith) (falls_parts p j (rest_of xs ks) falls.1).back)
+  falls_rest_of (x ∷ xs) (j ∷ ks) same falls = (
+    (grind (arith, count-append, count-rest_of)),
+    falls_rest_of xs ks (omega arith) (falls_parts p j (rest_of xs ks) falls.1).back,
+  )
 
   pub falls_weave : (xs : List T) (ks : List (List T))
       → (length ks ≡ 0) ⊎ (length ks ≡ length xs + 1) → Falls p (weave xs ks) → Falls p xs
@@ -40,7 +43,14 @@ module _ {T : Type 0} (p : T → Bool) where
   count-weave (x ∷ xs) (k ∷ j ∷ ks) many falls =
       let tail = weave xs (j ∷ ks) in
       let parts = falls_parts p k (x ∷ tail) falls in
-      grind (arith, count-append, count-yes, length-append, count_by-le-length, count-weave xs (j ∷ ks) (omega arith) parts.back.1)
+      grind (
+        arith,
+        count-append,
+        count-yes,
+        length-append,
+        count_by-le-length,
+        count-weave xs (j ∷ ks) (omega arith) parts.back.1,
+      )
 
 pub fits_weave : {T : Type 0} (s : Heap T) (d n : ℕ)
     → length (node_children s n) ≡ child_count d (length (node_items s n))
@@ -65,4 +75,8 @@ module _ {T : Type 0} (p : T → Bool) {least most : ℕ} {s : Heap T} {d n : �
   search_step inner falls =
       let xs = node_items s n in
       let ks = node_children s n in
-      grind (arith, count_by-le-length p xs, children_length inner shaped, count-weave, lists_length inner shaped, weave_items_below, get_or-map)
+      let within = count_by-le-length p xs in
+      let many = children_length inner shaped in
+      let main = count-weave p xs (map (items_below s d) ks) (lists_length inner shaped)
+      (rw weave_items_below at falls) in
+      grind (arith, get_or-map, weave_items_below)

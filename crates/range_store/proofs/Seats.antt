@@ -25,7 +25,9 @@ module _ {T : Type 0} (s t : Heap T) (n : ℕ) (xs : List T) (ks : List ℕ) (i 
   seat_written zero holds agree leaf at within seat =
       rw (leaf refl) ((refl, refl, rw holds.items_are seat), refl)
   seat_written (suc d) holds agree leaf at within seat =
-      grind (arith, same_edge s t d (get_or ks i 0) g (agree_kid s t (suc d) i ks agree seat.0) seat.1)
+      let kid =
+      same_edge s t d (get_or ks i 0) g (agree_kid s t (suc d) i ks agree seat.0) seat.1 in
+      grind arith
 
 pub seat_small : {T : Type 0} (s : Heap T) (d : ℕ) (xs : List T) (ks : List ℕ) (i : ℕ) (g : Edge)
     → length ks ≡ child_count d (length xs) → IsSeat s d xs ks i g → i ≤ length xs
@@ -63,7 +65,19 @@ module _ {T : Type 0} (s : Heap T) (half : ℕ) (xs : List T) (ks : List ℕ) (i
       s d (drop (half + 1) xs) (drop (half + 1) ks) (i - half - 1) g ≡ seat_place s d xs ks i g)
   unfolding IsSeat seat_place
   seat_right d branches large seat =
-      grind (arith, length-drop, length-take-le, length-map, get_or-drop, length-before, take-add, sum_by-append, length-weave, lists_take, lists_drop)
+      grind (
+        arith,
+        length-drop,
+        length-take-le,
+        length-map,
+        get_or-drop,
+        length-before,
+        take-add,
+        sum_by-append,
+        length-weave,
+        lists_take,
+        lists_drop,
+      )
 
 -- an edge below a node, or below the one after it, among the two
 module _ {T : Type 0} (s : Heap T) (d n : ℕ) (g : Edge) where

@@ -90,7 +90,12 @@ module _ {T : Type 0} {s t : Heap T} {b n i : ℕ} {list : List T}
   pub kid_may_be_rebalanced : ShapedBut (MIN_LEN - 1) CAPACITY t (b - 1) kid
       → MayBeRebalanced t (b - 1) n i
   kid_may_be_rebalanced short =
-      grind (arith, kid_kept, same_before kid_run, kid_run, All-take (Shaped s b) i ks anew.shaped.children, same_after kid_run, All-drop (Shaped s b) (i + 1) ks anew.shaped.children, level, kid_owned_after)
+      let node = IsNode-same t kid_kept anew.shaped.node in
+      let before = (same_before kid_run).shaped_same (All-take (Shaped s b) i ks
+      anew.shaped.children) in
+      let behind = (same_after kid_run).shaped_same
+      (All-drop (Shaped s b) (i + 1) ks anew.shaped.children) in
+      grind (arith, level, kid_owned_after, kid_kept)
 
 -- an item of a leaf goes
 pub leaf_shrinks : {T : Type 0} {s t : Heap T} {n : ℕ} (q : ℕ) → ShapedBut 1 CAPACITY s 0 n
@@ -114,4 +119,11 @@ pub shorter_child_shrinks_node : {T : Type 0} {s t u : Heap T} {b n i : ℕ} (q 
     → Shrinks s u b n (remove (items_below s (suc b) n) (length (before_child s b n i) + q))
 shorter_child_shrinks_node {T} {s} {t} {u} {b} {n} {i} q anew within rebalanced =
     let back : suc (b - 1) ≡ b = omega arith in
-    grind (arith, kid_kept anew, kid_listed anew, remove_middle, items_below_at (omega arith) anew.shaped i anew.low, kid_moved anew)
+    grind (
+      arith,
+      kid_kept anew,
+      kid_listed anew,
+      remove_middle,
+      items_below_at (omega arith) anew.shaped i anew.low,
+      Moves-then (kid_moved anew) (rw back at rebalanced.moved),
+    )

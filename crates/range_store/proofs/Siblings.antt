@@ -47,7 +47,9 @@ module _ {T : Type 0} {s : Heap T} (t u v : Heap T) {n i : ℕ} (pair : HasPair 
       (right_children s n i) = grind (arith, insert_end, nil_from_length) in
       let swapped = write_first t u v n l (set (node_items s n) i up)
       (node_children s n) pair.left_apart here (rw (items, children) at three) in
-      grind (arith, write_first s t swapped.between r l (drop 1 (right_items s n i)) (drop 1 (right_children s n i)) pair.apart one swapped.first)
+      let moved = write_first s t swapped.between r l (drop 1 (right_items s n i))
+      (drop 1 (right_children s n i)) pair.apart one swapped.first in
+      grind arith
 
   pub rotated_right : up ≡ get_or (left_items s n i) (length (left_items s n i) - 1) up
       → 0 < length (left_items s n i) → down ≡ get_or (node_items t n) i down
@@ -61,8 +63,14 @@ module _ {T : Type 0} {s : Heap T} (t u v : Heap T) {n i : ℕ} (pair : HasPair 
       let xs = left_items s n i in
       let ks = left_children s n i in
       let last : length xs ≡ (length xs - 1) + 1 = omega arith in
-      let fewer : remove xs (length xs - 1) ≡ take (length xs - 1) xs = grind (arith, without_last) in
-      let fewer_children : remove ks (length xs) ≡ take (length xs) ks = grind (arith, without_last) in
+      let fewer : remove xs (length xs - 1) ≡ take (length xs - 1) xs = grind (
+        arith,
+        without_last,
+      ) in
+      let fewer_children : remove ks (length xs) ≡ take (length xs) ks = grind (
+        arith,
+        without_last,
+      ) in
       let parent : node_of t n ≡ node_of s n = one.others n (λ e. pair.left_apart (sym e)) in
       let here = subst (λ node. Writes t u n (set (items_of node) i up) (children_of node)) parent
       two in
@@ -91,4 +99,6 @@ module _ {T : Type 0} (s t u : Heap T) (n i : ℕ) (pair : HasPair s n i) (down 
       written in
       let lower = write_first s t last.between n l (remove (node_items s n) i)
       (remove (node_children s n) (i + 1)) pair.left_apart one last.first in
-      grind (arith, remove_first lower.between last.between u n r (remove (node_items s n) i) (remove (node_children s n) (i + 1)) pair.right_apart lower.second last.second)
+      let upper = remove_first lower.between last.between u n r (remove (node_items s n) i)
+      (remove (node_children s n) (i + 1)) pair.right_apart lower.second last.second in
+      grind arith

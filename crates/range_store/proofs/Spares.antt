@@ -34,7 +34,9 @@ module _ {X : Type 0} where
   unfolding without
   without_other [] slots k none = refl
   without_other (n ∷ ns) slots k none =
-      grind (arith, get_or-set_other, listed, without_other ns slots k (omega (arith, none, occurrences-cons k n ns)))
+      get_or-set_other (without ns slots) n k None None
+      (λ same. absurd (listed n ns k same none))
+      ∙ without_other ns slots k (omega (arith, none, occurrences-cons k n ns))
 
   without_count : (ns : List ℕ) (slots : List (Option X)) → ((k : ℕ) → occurrences k ns ≤ 1)
       → ((k : ℕ) → 0 < occurrences k ns → IsSome (get_or slots k None))
@@ -44,14 +46,24 @@ module _ {X : Type 0} where
   without_count (n ∷ ns) slots once some =
       let apart : occurrences n ns ≡ 0 =
       omega (arith, once n, occurrences-cons n n ns, occurrences_itself n) in
-      grind (arith, without_other, occurrences_here, slot_count, without_count ns slots (λ k. omega (arith, once k, occurrences-cons k n ns)) (λ k among. some k (omega (arith, among, occurrences-cons k n ns))))
+      let there : IsSome (get_or (without ns slots) n None) =
+      rw (without_other ns slots n apart) (some n (occurrences_here n ns)) in
+      omega (
+        arith,
+        slot_count (without ns slots) n there None,
+        without_count ns slots (λ k. omega (arith, once k, occurrences-cons k n ns))
+            (λ k among. some k (omega (arith, among, occurrences-cons k n ns))),
+      )
 
   without_set : (ns : List ℕ) (slots : List (Option X)) (k : ℕ) (slot : Option X)
       → occurrences k ns ≡ 0 → without ns (set slots k slot) ≡ set (without ns slots) k slot
   unfolding without
   without_set [] slots k slot none = refl
   without_set (n ∷ ns) slots k slot none =
-      grind (arith, set_comm, listed, without_set ns slots k slot (omega (arith, none, occurrences-cons k n ns)))
+      ap (λ zs. set zs n None)
+      (without_set ns slots k slot (omega (arith, none, occurrences-cons k n ns)))
+      ∙ set_comm (without ns slots) k n slot None
+      (λ same. absurd (listed n ns k same none))
 
 module _ {X : Type 0} where
   module _ (s : Slab X) (n : ℕ) (present : IsSome (get s n)) (new : X) where
@@ -247,7 +259,13 @@ module _ {T : Type 0} {old new : Slab Node} {was now : List (List T)} {spares : 
       freed_whole = more_whole (n ∷ spares) longer apart no_items no_children
 
       pub removed : Removes (heap_of old was spares) (heap_of new now (n ∷ spares)) n
-      removed = grind (arith, spare_read, longer, occurrences_itself, elsewhere, occurrences_other, counted)
+      removed = record {
+        was = present;
+        gone = grind (arith, spare_read, longer, occurrences_itself);
+        others = grind (arith, elsewhere, longer, occurrences_other);
+        len = omega (arith, counted whole, counted freed_whole);
+        capacity = len;
+      }
 
   -- a spare was added
   module _ (fresh : get old n ≡ None) (len : slab_len new ≡ slab_len old + 1)
@@ -261,16 +279,20 @@ module _ {T : Type 0} {old new : Slab Node} {was now : List (List T)} {spares : 
 
     pub added : IsWhole new now (spares ++ n ∷ [])
         × SameNodes (heap_of old was spares) (heap_of new now (spares ++ n ∷ []))
-    added = grind (arith, spare_read, more, occurrences_itself, slot_seen, occurrences_other, counted, length-append)
+    added = (
+      added_whole,
+      record {
+        nodes = λ k.
+            grind (arith, spare_read, more, occurrences_itself, slot_seen, occurrences_other);
+        len = omega (arith, counted whole, counted added_whole, length-append spares (n ∷ []));
+      },
+    )
 
 -- a slab with more capacity, and rows that grew, but have what they had
 module _ {T : Type 0} {slab larger : Slab Node} {was : List (List T)} {spares : List ℕ}
     (same : larger ≡ record slab { capacity = larger.capacity }) (now : List (List T))
     (whole : IsWhole slab was spares) (long : length was ≤ length now)
     (kept : (k : ℕ) → row_of now k ≡ row_of was k) where
-  abbrev grown : Slab Node
-  grown = record slab { capacity = larger.capacity }
-
   pub roomier : IsWhole larger now spares
       × SameNodes (heap_of slab was spares) (heap_of larger now spares)
   roomier = grind (arith, slot_seen, spare_read, counted)
@@ -300,7 +322,11 @@ module _ {T : Type 0} {slab : Slab Node} {rows : List (List T)} {spares : List �
   -- a node was written
   pub edited : HasNode (heap_of slab rows spares) n
       → Leaves slab rows spares n node items spares (λ old new. Writes old new n items ks)
-  edited present = grind (arith, edit, same_len, in_use slab rows spares n present, written whole edit same_len present)
+  edited present = record {
+    whole = written_whole whole edit same_len (in_use slab rows spares n present);
+    nodes = rw (← children_are) (written whole edit same_len present);
+    len = same_len;
+  }
 
   -- a spare got what a new node has
   pub filled : {left : List ℕ} → spares ≡ n ∷ left
@@ -311,7 +337,11 @@ module _ {T : Type 0} {slab : Slab Node} {rows : List (List T)} {spares : List �
   -- a node became a spare
   pub emptied : HasNode (heap_of slab rows spares) n → items ≡ [] → ks ≡ []
       → Leaves slab rows spares n node items (n ∷ spares) (λ old new. Removes old new n)
-  emptied present no_items none = grind (arith, freed_whole whole edit same_len present no_items (children_are ∙ none), edit, removed whole edit same_len present no_items (children_are ∙ none))
+  emptied present no_items none = record {
+    whole = freed_whole whole edit same_len present no_items (children_are ∙ none);
+    nodes = removed whole edit same_len present no_items (children_are ∙ none);
+    len = same_len;
+  }
 
 -- a node that had no item became a spare
 module _ {T : Type 0} {slab : Slab Node} {rows : List (List T)} {spares : List ℕ}
@@ -337,7 +367,10 @@ module _ {T : Type 0} {slab : Slab Node} {rows : List (List T)} {spares : List �
       (λ old new. Writes old new n (insert (node_items (heap_of slab rows spares) n) i x) ks)
   put_among x within more children =
       let items = items_seen whole n present in
-      rw items (edited whole n at node (insert (row_of rows n) i x) (grind (arith, length-insert)) children present)
+      rw items (edited whole n at node (insert (row_of rows n) i x) (grind (
+        arith,
+        length-insert,
+      )) children present)
 
   pub taken_out : i < length (node_items (heap_of slab rows spares) n) → node.len + 1 ≡ was.len
       → {ks : List ℕ} → node.children.items ≡ ks
@@ -345,7 +378,10 @@ module _ {T : Type 0} {slab : Slab Node} {rows : List (List T)} {spares : List �
       (λ old new. Writes old new n (remove (node_items (heap_of slab rows spares) n) i) ks)
   taken_out within less children =
       let items = items_seen whole n present in
-      rw items (edited whole n at node (remove (row_of rows n) i) (grind (arith, length-remove)) children present)
+      rw items (edited whole n at node (remove (row_of rows n) i) (grind (
+        arith,
+        length-remove,
+      )) children present)
 
 -- a node went to the end of another, with an item between
 module _ {T : Type 0} {slab : Slab Node} {rows : List (List T)} {spares : List ℕ}
@@ -362,7 +398,12 @@ module _ {T : Type 0} {slab : Slab Node} {rows : List (List T)} {spares : List �
       (row_of rows l ++ x ∷ row_of rows r) (r ∷ spares)
       (λ old new. Writes old new l (row_of rows l ++ x ∷ row_of rows r)
       (lower.children.items ++ upper.children.items))
-  grew = grind (arith, edited gone.whole l (get_or-set_other slab.slots r l (Some blank) None apart ∙ left_at) node (row_of rows l ++ x ∷ row_of rows r) (grind (arith, length-append)) children_are (rw (gone.nodes.others l apart) left), gone, apart, length-append)
+  grew = edited gone.whole l
+      (get_or-set_other slab.slots r l (Some blank) None apart ∙ left_at) node
+      (row_of rows l ++ x ∷ row_of rows r) (grind (
+        arith,
+        length-append,
+      )) children_are (rw (gone.nodes.others l apart) left)
 
   pub absorbs : Leaves (with_value slab r blank) (set rows r []) (r ∷ spares) l node
       (row_of rows l ++ x ∷ row_of rows r) (r ∷ spares)

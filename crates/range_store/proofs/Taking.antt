@@ -57,7 +57,13 @@ module _ {T : Type 0} (s t : BoxStorage T) (g behind left : Edge) (some : 0 < bo
       → n ≡ with_item t.nodes h.node h.index next → t.nodes.capacity ≡ s.nodes.capacity
       → next ≡ get_or (box_items s) (box_place s behind - 1) next → IsReplaced s t g n left
   replaced next n h at_home written capacity was =
-      grind (arith, moved_down (box_items s) (box_place s g - 1) next (omega arith) (rw back at was), written_items, good_then t left good_left next good_left, with_good_item t left good_left next)
+      grind (
+        arith,
+        moved_down (box_items s) (box_place s g - 1) next (omega arith) (rw back at was),
+        written_items t left good_left next,
+        good_then t left good_left next good_left,
+        with_good_item t left good_left next,
+      )
 
   pub replaced_item : (r : T) (h : Home) → h ≡ box_home t left
       → r ≡ get_or (node_items t.nodes h.node) h.index r

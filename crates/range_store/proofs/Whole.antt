@@ -34,9 +34,6 @@ edge_within {T} {t} {g} is =
 
 -- an edge in the leaf of another, and the item there
 module _ {T : Type 0} {t : BoxStorage T} {g : Edge} (is : IsBoxEdge t g) where
-  level : suc (t.levels - 1) ≡ t.levels
-  level = omega (arith, is.some)
-
   shaped : ShapedBut 1 CAPACITY t.nodes (t.levels - 1) t.root
   shaped = root_shaped t.levels is.some t.whole.tree
 
@@ -54,7 +51,10 @@ module _ {T : Type 0} {t : BoxStorage T} {g : Edge} (is : IsBoxEdge t g) where
       → IsBoxEdge t (record { leaf = g.leaf; path = g.path; index = 1 })
       × (box_place t (record { leaf = g.leaf; path = g.path; index = 1 }) ≡ box_place t g + 1)
   tree_behind first =
-      grind (arith, tree_beside (record { leaf = g.leaf; path = g.path; index = 1 }) refl refl tree_leaf.some)
+      let beside =
+      tree_beside (record { leaf = g.leaf; path = g.path; index = 1 }) refl refl
+      tree_leaf.some in
+      (beside.0, omega (arith, beside.1, first))
 
   -- the item before an edge that has one in its leaf
   pub leaf_item : (e : T) → 0 < g.index

@@ -27,9 +27,6 @@ low : (g : Over) (c : After-first_turn-index g)
 low g c = turn_low c.args.nodes.now (omega (arith, c.down-test.true)) c.down.invariant.way
     c.first_turn-index.result c.first_turn-index.ensures
 
-few : (g : Over) (c : After-first_turn-index g) → c.first_turn-index.result ≤ CAPACITY
-few g c = omega (arith, low g c, c.down.invariant.way.lies.shaped.node.fits)
-
 pub child_at-at-requires-clause-within : goal.child_at-at-requires-clause-within
 child_at-at-requires-clause-within g c =
     grind (arith, child_within, low)

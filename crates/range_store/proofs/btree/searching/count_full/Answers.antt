@@ -5,19 +5,6 @@ use Rattle.std.proofs.lemmas.List.Elements.{filter_map-append}
 use Rattle.range_store.specs.Rows.{items_in}
 use Rattle.range_store.proofs.btree.searching.count_full.Goals as goal
 
-one : {T : Type 0} (cell : Option T)
-    → ◌≡◌ {A = ℕ} (length (items_in (cell ∷ []))) (cond (is_some cell) 1 0)
-one None = refl
-one (Some item) = refl
-
-byte : (b : Bool) → ◌≡◌ {A = ℕ} (bool_byte b) (cond b 1 0)
-byte true = refl
-byte false = refl
-
-few : (b : Bool) → ◌≤◌ (cond b 1 0) 1
-few true = omega arith
-few false = omega arith
-
 pub loop-cell-preserved : goal.loop-cell-preserved
 loop-cell-preserved g c =
     let cells = c.args.cells.now in

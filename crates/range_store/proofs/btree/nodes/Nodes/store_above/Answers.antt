@@ -26,7 +26,10 @@ invariant_of-self g c =
     let filled = filled c.self.invariant.0 number at (record c.index_mut.result.now
     { children = c.push.new.self })
     (row_of s.rows number) (row_len c.self.invariant.0 number at) (c.push.ensures.items
-    ∙ ap (λ ks. ks ++ c.args.child ∷ []) (bare_children c.self.invariant.0 parts at)) parts in grind (arith, set-get_or, filled)
+    ∙ ap (λ ks. ks ++ c.args.child ∷ []) (bare_children c.self.invariant.0 parts at)) parts in (
+      rw (set-get_or s.rows number []) at filled.whole,
+      omega (arith, c.self.invariant.1, c.next_spare-number.ensures.capacity, filled.len),
+    )
 
 pub returns : goal.returns
 returns g c =

@@ -21,7 +21,10 @@ invariant_of-self g c =
     let filled = filled c.self.invariant.0 c.next_spare-number.result c.index_mut.ensures.value
     (record c.index_mut.result.now { len = c.args.count }) (take c.args.count items)
     (sym (length-take-le c.args.count items c.requires.enough))
-    (bare_children c.self.invariant.0 parts c.index_mut.ensures.value) parts in grind (arith, filled)
+    (bare_children c.self.invariant.0 parts c.index_mut.ensures.value) parts in (
+      rw c.fill.ensures.filled filled.whole,
+      omega (arith, c.self.invariant.1, c.next_spare-number.ensures.capacity, filled.len),
+    )
 
 pub returns-clause-stored : goal.returns-clause-stored
 returns-clause-stored g c =
