@@ -1,14 +1,14 @@
 -- What becomes of a node when the subtree of one of its children became one or two.
-use Rattle.std.proofs.Common.{◌≡◌, ◌≢◌, ℕ, suc, ◌+◌, ◌-◌, ◌<◌, ◌≤◌, List, [], ◌∷◌, ◌++◌, length, get_or, take, drop, map, refl, ap, arith, Option, Some, None, IsSome}
-use Rattle.std.specs.List.{All, flat_map, insert}
+use Rattle.std.proofs.Common.{◌≡◌, ◌≢◌, ℕ, suc, ◌+◌, ◌-◌, ◌<◌, ◌≤◌, List, [], ◌∷◌, ◌++◌, length, get_or, take, drop, map, refl, ap, arith, Option, Some, None, IsSome, sym, ◌∙◌}
+use Rattle.std.specs.List.{All, flat_map, insert, sum_by}
 use Rattle.std.proofs.lemmas.List.{append-nil, append_assoc, length-append, length-map, map-append, length-take-le, length-drop, take-append-drop, take_more, take-map, drop-map}
 use Rattle.std.proofs.lemmas.List.Concat.{flat_map-append}
 use Rattle.std.proofs.lemmas.List.Elements.{All-append, All-take, All-drop}
 use Rattle.std.proofs.lemmas.List.Edits.{length-insert}
-use Rattle.range_store.specs.Heap.{Heap, node_of, HasRoomFor, child_count, Writes, node_items, node_children, node_child}
+use Rattle.range_store.specs.Heap.{Heap, node_of, HasRoomFor, child_count, Writes, node_items, node_children, node_child, items_of}
 use Rattle.range_store.specs.declared.btree.nodes.Split.{Split}
 use Rattle.range_store.specs.declared.btree.nodes.TheConstants.{CAPACITY, MIN_LEN}
-use Rattle.range_store.specs.Nodes.{weave, rest_of, front_of, before, after, items_below, used, Shaped, ShapedBut, here, Owned, Moves, tops, separators, Replaces, HasTreeRoom, child_lists, before_child}
+use Rattle.range_store.specs.Nodes.{weave, rest_of, front_of, before, after, items_below, used, Shaped, ShapedBut, here, Owned, Moves, tops, separators, Replaces, HasTreeRoom, child_lists, before_child, EnoughFor}
 use Rattle.range_store.specs.Contents.{IsContent, Settles}
 use Rattle.range_store.specs.Occurrences.{occurrences, occurrences-append, occurrences-cons, occurrences_itself}
 use Rattle.range_store.specs.Weave.{list_splits_at, weave_splice, insert_middle, length-weave, length-before}
@@ -218,7 +218,18 @@ module _ {T : Type 0} {s t : Heap T} {b n i rest : ℕ} {item : T} {split : Opti
   pub grown_listed : weave new_xs (map (items_below t b) new_ks)
       ≡ insert (items_below s (suc b) n) (length (before xs lists i) + rest) item
   grown_listed =
-      grind (arith, level, items_below_at (omega arith) grows.shaped i grows.low, run_lists grown_run, grown_run, weave_tops, front_many, us_many, length-map us (items_below s b), take-map (items_below s b) i ks, drop-map (items_below s b) (i + 1) ks, insert_middle (before xs lists i) (items_below s b kid) (after xs lists i) rest item grows.within)
+      let inserted : weave (separators split) (map (items_below t b) (tops kid split))
+      ≡ insert (items_below s b kid) rest item = rw level at grows.child.listed in
+      let whole = items_below_at (omega arith) grows.shaped i grows.low in
+      ap (weave new_xs) (run_lists grown_run)
+      ∙ weave_tops (take i xs) (drop i xs) (map (items_below s b) us) (map (items_below s b) vs)
+      (items_below t b) kid split
+      (omega (arith, front_many, us_many, length-map us (items_below s b)))
+      ∙ rw (inserted, ← take-map (items_below s b) i ks, ← drop-map (items_below s b) (i + 1) ks)
+      refl
+      ∙ sym (insert_middle (before xs lists i) (items_below s b kid)
+      (after xs lists i) rest item grows.within)
+      ∙ ap (λ zs. insert zs (length (before xs lists i) + rest) item) (sym whole)
 
   pub grown_longer : length (weave new_xs (map (items_below t b) new_ks))
       ≡ length (items_below s (suc b) n) + 1
@@ -236,7 +247,13 @@ module _ {T : Type 0} {s t : Heap T} {b n i rest : ℕ} {item : T} {split : Opti
       let all =
       seat_run t (b - 1) us (tops kid split) vs (take i xs) (separators split)
       (drop i xs) i side g us_many front_many (tops_many kid split) seat in
-      grind (arith, here, level, length-before xs lists i grows.low (omega (arith, many, length-map ks (items_below s b))), many, same_before grown_run, grown_run, take-map (items_below s b) i ks)
+      let here = ap (λ m. seat_place t m new_xs new_ks (i + side) g) level in
+      let sums = ap (λ m. sum_by length (map (items_below t m) us)) level in
+      let front =
+      length-before xs lists i grows.low (omega (arith, many, length-map ks (items_below s b))) in
+      let same : map (items_below t b) us ≡ take i lists = (same_before grown_run).items_below_same
+      ∙ sym (take-map (items_below s b) i ks) in
+      (rw level at all.0, omega (arith, all.1, front, here, sums, ap (sum_by length) same))
 
 -- the children with the new one
 pub with_right : (ks : List ℕ) (i right : ℕ) → i < length ks
@@ -296,7 +313,10 @@ module _ {T : Type 0} {s t : Heap T} {b n i rest : ℕ} {item : T}
       (tops {T = T} (node_child s n i) None) side g seat in
       let holds = written_holds t content written in
       let agree = written_agree t content written in
-      grind (arith, seat_written t t n xs' ks' (i + side) g h b holds agree (λ none. absurd (grows.inner none)) (λ some. omega (arith, at, one)) (λ some. into) up.0)
+      let edge =
+      seat_written t t n xs' ks' (i + side) g h b holds agree (λ none. absurd (grows.inner none))
+      (λ some. omega (arith, at, one)) (λ some. into) up.0 in
+      (edge.0, edge.1 ∙ up.1)
 
 -- a node that may be cut has the item between the halves of its child, and the second of them
 module _ {T : Type 0} {s t : Heap T} {b n i rest : ℕ} {item : T} {split : Split T}

@@ -1,5 +1,5 @@
 -- An edge within its leaf.
-use Rattle.std.proofs.Common.{◌≡◌, ℕ, zero, suc, ◌+◌, ◌-◌, ◌/◌, ◌<◌, ◌≤◌, List, [], ◌∷◌, length, get_or, refl, ap, arith, IsSome}
+use Rattle.std.proofs.Common.{◌≡◌, ℕ, zero, suc, ◌+◌, ◌-◌, ◌/◌, ◌<◌, ◌≤◌, List, [], ◌∷◌, length, get_or, refl, ap, arith, IsSome, ◌%◌, ◌∙◌}
 use Rattle.std.specs.List.{remove}
 use Rattle.std.proofs.Math.ListN.{set}
 use Rattle.range_store.specs.Heap.{Heap, node_of, node_items, node_children, node_child}
@@ -50,7 +50,11 @@ unfolding IsEdge place
 leaf_beside s zero n g h leaf path index is =
     grind arith
 leaf_beside s (suc d) n g h leaf path index is =
-    grind (arith, leaf_beside s d (node_child s n (turn g)) (inside g) (inside h) leaf (ap (λ w. w / PATH_BASE) path) index is.1)
+    let first : turn h ≡ turn g = ap (λ w. w % PATH_BASE) path in
+    let rest =
+    leaf_beside s d (node_child s n (turn g)) (inside g)
+    (inside h) leaf (ap (λ w. w / PATH_BASE) path) index is.1 in
+    rw first ((is.0, rest.0), omega (arith, rest.1))
 
 -- the item before it
 pub leaf_home : {T : Type 0} (s : Heap T) (d n : ℕ) (g : Edge) → IsEdge s d n g → 0 < g.index

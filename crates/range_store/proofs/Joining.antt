@@ -1,5 +1,5 @@
 -- Two neighbours and the item between them, as one.
-use Rattle.std.proofs.Common.{◌≡◌, ◌≢◌, ℕ, zero, suc, ◌+◌, ◌<◌, ◌≤◌, List, [], ◌∷◌, ◌++◌, length, get_or, take, drop, map, refl, sym, arith, Some, None}
+use Rattle.std.proofs.Common.{◌≡◌, ◌≢◌, ℕ, zero, suc, ◌+◌, ◌<◌, ◌≤◌, List, [], ◌∷◌, ◌++◌, length, get_or, take, drop, map, refl, sym, arith, Some, None, ap, ◌∙◌}
 use Rattle.std.specs.List.{flat_map}
 use Rattle.std.proofs.lemmas.List.{append-nil, append_assoc, length-append, length-map, map-append}
 use Rattle.std.proofs.lemmas.List.Concat.{flat_map-append}
@@ -161,4 +161,11 @@ module _ {T : Type 0} (s : Heap T) (l : ℕ) (x : T) (r : ℕ) (g : Edge) where
   seat_from_right (suc e) pair is =
       let xs = node_items s l in
       let ys = node_items s r in
-      grind (arith, seat_run s e (node_children s l) (node_children s r) [] (xs ++ x ∷ []) ys [] (length xs + 1) (turn g) (inside g) pair.left.node.branches (length-append xs (x ∷ [])) pair.right.node.branches is, length-append xs (x ∷ []), append-nil ys, append_assoc xs (x ∷ []) ys, append-nil, items_below_size pair.left)
+      let run =
+      seat_run s e (node_children s l) (node_children s r) []
+      (xs ++ x ∷ []) ys [] (length xs + 1) (turn g) (inside g) pair.left.node.branches
+      (length-append xs (x ∷ [])) pair.right.node.branches is in
+      let items : (xs ++ x ∷ []) ++ (ys ++ []) ≡ xs ++ (x ∷ ys) =
+      ap (λ zs. (xs ++ x ∷ []) ++ zs) (append-nil ys) ∙ append_assoc xs (x ∷ []) ys in
+      let run' = rw (items, append-nil (node_children s r)) at run in
+      (run'.0, omega (arith, run'.1, items_below_size pair.left))

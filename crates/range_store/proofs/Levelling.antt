@@ -1,14 +1,14 @@
 -- A node after two of its children were levelled.
-use Rattle.std.proofs.Common.{◌≡◌, ℕ, suc, ◌+◌, ◌<◌, List, [], ◌∷◌, ◌++◌, length, get_or, take, drop, map, refl, ◌∙◌, arith, Option, Some, None}
-use Rattle.std.specs.List.{flat_map}
+use Rattle.std.proofs.Common.{◌≡◌, ℕ, suc, ◌+◌, ◌<◌, List, [], ◌∷◌, ◌++◌, length, get_or, take, drop, map, refl, ◌∙◌, arith, Option, Some, None, sym, ap, subst}
+use Rattle.std.specs.List.{flat_map, sum_by}
 use Rattle.std.proofs.lemmas.List.{append-nil, append_assoc, length-append, length-map, length-take-le, length-drop, take_more, take-map, drop_more}
 use Rattle.range_store.specs.Heap.{Heap, Writes, node_items, node_children, node_child}
 use Rattle.range_store.specs.declared.btree.nodes.Split.{Split}
 use Rattle.range_store.specs.declared.btree.path.Edge.{Edge}
-use Rattle.range_store.specs.Nodes.{weave, rest_of, front_of, before, items_below, used, tops, separators, Shrinks, IsLevelled}
+use Rattle.range_store.specs.Nodes.{weave, rest_of, front_of, before, items_below, used, tops, separators, Shrinks, IsLevelled, Moves}
 use Rattle.range_store.specs.Edges.{turn, inside, IsEdge, place, IsSeat, seat_place}
 use Rattle.range_store.specs.Contents.{IsContent}
-use Rattle.range_store.specs.Occurrences.{occurrences-append, occurrences-cons}
+use Rattle.range_store.specs.Occurrences.{occurrences-append, occurrences-cons, occurrences}
 use Rattle.range_store.specs.Weave.{list_splits_at, weave_splice, length-before}
 use Rattle.range_store.proofs.Below.{weave_items_below}
 use Rattle.range_store.proofs.Moves.{Moves-then, Writes-moves}
@@ -93,11 +93,27 @@ module _ {T : Type 0} {s : Heap T} {low n j : ℕ} (x : T) (levelled : IsLevelle
         ++ ((items_below s (suc low) l ++ (x ∷ items_below s (suc low) r))
         ++ rest_of (drop (j + 1) xs) (map (items_below s (suc low)) vs))
     woven_old =
-        grind (arith, weave_items_below s (suc low) n, xs_parts, ks_parts, run_lists same_run, same_run, weave_splice (take j xs) (x ∷ []) (drop (j + 1) xs) (map (items_below s (suc low)) us) (items_below s (suc low) l) (items_below s (suc low) r ∷ []) (map (items_below s (suc low)) vs) (omega (arith, front_many, us_many, length-map us (items_below s (suc low)))) refl, front_many, us_many, append-nil (items_below s (suc low) r))
+        weave_items_below s (suc low) n
+        ∙ ap (λ zs. weave zs (map (items_below s (suc low)) ks)) xs_parts
+        ∙ ap (λ zs. weave (take j xs ++ (x ∷ drop (j + 1) xs)) (map (items_below s (suc low)) zs))
+        ks_parts
+        ∙ ap (weave (take j xs ++ (x ∷ drop (j + 1) xs))) (run_lists same_run)
+        ∙ weave_splice (take j xs) (x ∷ []) (drop (j + 1) xs) (map (items_below s (suc low)) us)
+        (items_below s (suc low) l) (items_below s (suc low) r ∷ [])
+        (map (items_below s (suc low)) vs)
+        (omega (arith, front_many, us_many, length-map us (items_below s (suc low)))) refl
+        ∙ ap (λ zs. front_of (take j xs) (map (items_below s (suc low)) us)
+        ++ ((items_below s (suc low) l ++ (x ∷ zs))
+        ++ rest_of (drop (j + 1) xs) (map (items_below s (suc low)) vs)))
+        (append-nil (items_below s (suc low) r))
 
     new_listed : weave new_xs (map (items_below t (suc low)) new_ks)
         ≡ items_below s (suc (suc low)) n
-    new_listed = grind (arith, run_lists pair_run, pair_run, weave_tops, front_many, us_many, length-map us (items_below s (suc low)), woven_old)
+    new_listed = ap (weave new_xs) (run_lists pair_run)
+        ∙ weave_tops (take j xs) (drop (j + 1) xs) (map (items_below s (suc low)) us)
+        (map (items_below s (suc low)) vs) (items_below t (suc low)) l split
+        (omega (arith, front_many, us_many, length-map us (items_below s (suc low))))
+        ∙ rw rejoins.listed refl ∙ sym woven_old
 
     -- what is written to the node
     pub pair_children : (cut : Option (Split T))
@@ -112,7 +128,9 @@ module _ {T : Type 0} {s : Heap T} {low n j : ℕ} (x : T) (levelled : IsLevelle
           let holds = written_holds u new_content written in
           record {
             listed = held_items_below holds ∙ new_listed;
-            moved = grind (arith, held_used holds, Moves-then, run_moved pair_run, pair_run, Writes-moves (flat_map (used t (suc low)) new_ks) written);
+            moved = subst (λ zs. Moves s u (used s (suc (suc low)) n) zs) (sym (held_used holds))
+                (Moves-then (run_moved pair_run)
+                (Writes-moves (flat_map (used t (suc low)) new_ks) written));
             shape = λ least more. held_shape holds least (omega (arith, new_length, more))
                 (grind (arith, new_length, levelled.node.fits)) new_content.branches
                 new_content.shaped;
@@ -130,4 +148,14 @@ module _ {T : Type 0} {s : Heap T} {low n j : ℕ} (x : T) (levelled : IsLevelle
           (drop (j + 1) xs) j side g us_many front_many (tops_many l split) seat in
           let holds = written_holds u new_content written in
           let agree = written_agree u new_content written in
-          grind (arith, seat_written t u n new_xs new_ks (j + side) g h (suc low) holds agree (λ none. absurd (omega (arith, none))) (λ some. at) (λ some. into) run.0, length-before, many, length-map ks (items_below s (suc low)), same_before pair_run, pair_run, take-map (items_below s (suc low)) j ks)
+          let edge =
+          seat_written t u n new_xs new_ks (j + side) g h (suc low) holds agree
+          (λ none. absurd (omega (arith, none))) (λ some. at) (λ some. into) run.0 in
+          let front =
+          length-before xs (map (items_below s (suc low)) ks) j
+          (omega (arith, levelled.within))
+          (omega (arith, many, levelled.within, length-map ks (items_below s (suc low)))) in
+          let same : map (items_below t (suc low)) us ≡ take j (map (items_below s (suc low)) ks) =
+          (same_before pair_run).items_below_same
+          ∙ sym (take-map (items_below s (suc low)) j ks) in
+          (edge.0, omega (arith, edge.1, run.1, front, ap (sum_by length) same))

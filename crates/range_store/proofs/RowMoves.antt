@@ -1,5 +1,5 @@
 -- Rows of which the items of one, or of two, change one after the other.
-use Rattle.std.proofs.Common.{◌≡◌, ◌≢◌, ℕ, suc, ◌+◌, ◌-◌, ◌<◌, ◌≤◌, List, [], ◌∷◌, ◌++◌, length, get_or, take, drop, ap, ◌∙◌, arith}
+use Rattle.std.proofs.Common.{◌≡◌, ◌≢◌, ℕ, suc, ◌+◌, ◌-◌, ◌<◌, ◌≤◌, List, [], ◌∷◌, ◌++◌, length, get_or, take, drop, ap, ◌∙◌, arith, sym}
 use Rattle.std.proofs.Math.ListN.{set, length-set}
 use Rattle.std.proofs.Math.Seq.{drop-cons}
 use Rattle.std.specs.List.{insert, remove}
@@ -18,7 +18,10 @@ module _ {T : Type 0} where
       → (set now n (insert (row_of now n) k x) ≡ set rows n (take (k + 1) items))
       × (rest ≡ drop (k + 1) items)
   filled_more rows now n k items rest x there within was next =
-      grind (arith, get_or-set_same, length-take-le k items (omega arith), taken_more, insert_end, set-set)
+      let here : row_of now n ≡ take k items =
+      ap (λ zs. row_of zs n) was ∙ get_or-set_same rows n (take k items) [] there in
+      let long : k ≡ length (take k items) = sym (length-take-le k items (omega arith)) in
+      grind (arith, taken_more, insert_end, set-set)
 
 -- two rows of many have these items, and one is changed
 module _ {T : Type 0} (rows : List (List T)) (l r : ℕ) (l_there : l < length rows)

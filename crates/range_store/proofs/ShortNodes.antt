@@ -1,5 +1,5 @@
 -- What is known of a node of whose children one may be short.
-use Rattle.std.proofs.Common.{◌≡◌, ◌⊎◌, ℕ, suc, ◌+◌, ◌-◌, ◌<◌, ◌≤◌, List, ◌∷◌, ◌++◌, length, get_or, take, drop, subst, inl, inr, arith, IsSome}
+use Rattle.std.proofs.Common.{◌≡◌, ◌⊎◌, ℕ, suc, ◌+◌, ◌-◌, ◌<◌, ◌≤◌, List, ◌∷◌, ◌++◌, length, get_or, take, drop, subst, inl, inr, arith, IsSome, sym}
 use Rattle.std.specs.List.{All}
 use Rattle.std.proofs.lemmas.List.{drop_more, get_or-take, length-take-le}
 use Rattle.std.proofs.lemmas.List.Elements.{All-cons, All-head, All-tail, All-append, All-weaker}
@@ -36,14 +36,21 @@ module _ {T : Type 0} (s : Heap T) (low n i : ℕ) (m : MayBeRebalanced s low n 
 
   pub all_present : All (λ c. IsSome (node_of s c)) ks
   all_present =
-      grind (arith, kids, All-append Present (take i ks) (kid ∷ drop (i + 1) ks) (All-weaker P Present present_of (take i ks) m.before) (grind (arith, present_of)), present_of)
+      subst (All Present) (sym kids)
+      (All-append Present (take i ks) (kid ∷ drop (i + 1) ks)
+      (All-weaker P Present present_of (take i ks) m.before)
+      (grind (arith, present_of)))
 
   pub stays_balanced : MIN_LEN ≤ length (node_items s kid)
       → Shrinks s s (suc low) n (items_below s (suc (suc low)) n)
   stays_balanced enough =
       let here = Shaped-from_but s low kid
       (grind arith) in
-      grind (arith, kids, All-append P (take i ks) (kid ∷ drop (i + 1) ks) m.before (All-cons P kid (drop (i + 1) ks) here m.behind))
+      let children =
+      subst (All P) (sym kids)
+      (All-append P (take i ks) (kid ∷ drop (i + 1) ks) m.before
+      (All-cons P kid (drop (i + 1) ks) here m.behind)) in
+      grind arith
 
   loose : (c : ℕ) → Shaped s (suc low) c → ShapedBut (MIN_LEN - 1) CAPACITY s low c
   loose c shaped = grind (arith, Shaped-but)

@@ -1,12 +1,12 @@
 -- What becomes of a node when an item went below one of its children.
-use Rattle.std.proofs.Common.{◌≡◌, ◌≢◌, ℕ, suc, ◌+◌, ◌-◌, ◌<◌, ◌≤◌, List, [], ◌∷◌, ◌++◌, length, take, drop, map, refl, arith}
+use Rattle.std.proofs.Common.{◌≡◌, ◌≢◌, ℕ, suc, ◌+◌, ◌-◌, ◌<◌, ◌≤◌, List, [], ◌∷◌, ◌++◌, length, take, drop, map, refl, arith, sym, ap, ◌∙◌, subst}
 use Rattle.std.specs.List.{All, remove}
 use Rattle.std.proofs.lemmas.List.{append-nil, length-map, length-take-le, take-map, drop-map, take-append-drop, nil_from_length}
 use Rattle.std.proofs.lemmas.List.Edits.{remove-append_left, remove-append_right, length-remove}
 use Rattle.std.proofs.lemmas.List.Elements.{All-append, All-cons, All-take, All-drop}
-use Rattle.range_store.specs.Heap.{Heap, node_of, Writes, node_items, node_children, node_child}
+use Rattle.range_store.specs.Heap.{Heap, node_of, Writes, node_items, node_children, node_child, items_of, children_of}
 use Rattle.range_store.specs.declared.btree.nodes.TheConstants.{CAPACITY, MIN_LEN}
-use Rattle.range_store.specs.Nodes.{before, after, items_below, used, Shaped, ShapedBut, Owned, Moves, Shrinks, MayBeRebalanced, child_lists, before_child}
+use Rattle.range_store.specs.Nodes.{before, after, items_below, used, Shaped, ShapedBut, Owned, Moves, Shrinks, MayBeRebalanced, child_lists, before_child, weave, rest_of, front_of}
 use Rattle.range_store.specs.Weave.{list_splits_at, weave_splice}
 use Rattle.range_store.specs.Frame.{IsNode-same}
 use Rattle.range_store.proofs.Below.{children_length, items_below_at, weave_items_below, used_is, items_below_leaf}
@@ -17,7 +17,10 @@ use Rattle.range_store.proofs.Growing.{Runs, run_kept, run_moved, run_lists, sam
 pub remove_middle : {X : Type 0} (f k r : List X) (rest : ℕ) → rest < length k
     → remove (f ++ (k ++ r)) (length f + rest) ≡ f ++ (remove k rest ++ r)
 remove_middle f k r rest within =
-    grind (arith, remove-append_right f (k ++ r) (length f) (length f + rest) refl (omega arith), remove-append_left)
+    let offset : length f + rest - length f ≡ rest = omega arith in
+    remove-append_right f (k ++ r) (length f) (length f + rest) refl (omega arith)
+    ∙ ap (λ n. f ++ remove (k ++ r) n) offset
+    ∙ ap (λ zs. f ++ zs) (remove-append_left k r rest within)
 
 -- the subtree of the child at i has another list
 pub record ListsAnew {T : Type 0} (s t : Heap T) (b n i : ℕ) (list : List T) : Type 0 where
@@ -82,7 +85,9 @@ module _ {T : Type 0} {s t : Heap T} {b n i : ℕ} {list : List T}
       anew.shaped.children) in
       let behind = (same_after kid_run).shaped_same
       (All-drop (Shaped s b) (i + 1) ks anew.shaped.children) in
-      rw kid_kept (grind (arith, ks_parts, All-append (Shaped t b) us (kid ∷ vs) before (All-cons (Shaped t b) kid vs shape behind)))
+      rw kid_kept (subst (All (Shaped t b)) (sym ks_parts)
+      (All-append (Shaped t b) us (kid ∷ vs) before
+      (All-cons (Shaped t b) kid vs shape behind)))
 
   level : suc (b - 1) ≡ b
   level = omega arith
