@@ -99,8 +99,6 @@ module _ {T : Type 0} where
       let cells = full_cells xs in
       let rest : List (Option T) = replicate (CAPACITY - length more) None in
       let left : CAPACITY - length xs ≡ suc (CAPACITY - length more) = omega arith in
-      let same : old ≡ cells ++ None ∷ rest =
-      h.cells_are ∙ ap (λ n. cells ++ replicate n None) left in
       let many = length-full xs in
       grind (arith, turned_right, set_at, length-take-le i cells (omega arith), append_assoc (take i cells) (Some item ∷ drop i cells) rest, full_insert xs i item)
 
@@ -132,6 +130,5 @@ module _ {T : Type 0} where
     pub held_without : HoldsItems (set (put_mid i k old part) end None) (remove xs i)
     held_without =
         let fewer = length-remove xs i within in
-        let many = length-full (remove xs i) in
         let stands = standing xs i within in
-        grind (arith, left stands, set_at)
+        grind (arith, left stands, set_at, length-full)

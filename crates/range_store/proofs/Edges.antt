@@ -85,7 +85,6 @@ place_within {T} {s} (suc d) {n} g {least} {most} shaped is =
     let xs = node_items s n in
     let lists = child_lists s (suc d) n in
     let i = turn g in
-    let kid = node_child s n i in
     let low : i ≤ length xs = omega (arith, turn_within s d n g is) in
     let further = place_within d (inside g) (kid_shaped d i shaped low) (edge_inside s d n g is) in
     let whole = items_below_at (omega arith) shaped i low in

@@ -203,14 +203,7 @@ module _ {T : Type 0} {s t : Heap T} {b n i rest : ℕ} {item : T} {split : Opti
   front_many = length-take-le i xs grows.low
 
   pub grown_content : IsContent t b n new_xs new_ks
-  grown_content = run_content grown_run new_xs (grind (
-    arith,
-    length-append,
-    us_many,
-    front_many,
-    length-drop,
-  )) (All-take (Shaped s b) i ks grows.shaped.children) tops_shaped
-      (All-drop (Shaped s b) (i + 1) ks grows.shaped.children)
+  grown_content = grind (arith, run_content grown_run new_xs (grind (arith, length-append, us_many, front_many, length-drop)) (All-take (Shaped s b) i ks grows.shaped.children) tops_shaped (All-drop (Shaped s b) (i + 1) ks grows.shaped.children))
 
   abbrev lists : List (List T)
   lists = child_lists s b n
@@ -251,9 +244,7 @@ module _ {T : Type 0} {s t : Heap T} {b n i rest : ℕ} {item : T} {split : Opti
       let sums = ap (λ m. sum_by length (map (items_below t m) us)) level in
       let front =
       length-before xs lists i grows.low (omega (arith, many, length-map ks (items_below s b))) in
-      let same : map (items_below t b) us ≡ take i lists = (same_before grown_run).items_below_same
-      ∙ sym (take-map (items_below s b) i ks) in
-      (rw level at all.0, omega (arith, all.1, front, here, sums, ap (sum_by length) same))
+      grind (arith, same_before grown_run, take-map (items_below s b) i ks, level, here)
 
 -- the children with the new one
 pub with_right : (ks : List ℕ) (i right : ℕ) → i < length ks

@@ -42,7 +42,6 @@ module _ {T : Type 0} {t : BoxStorage T} {g : Edge} (is : IsBoxEdge t g) where
   pub leaf_rest : drop g.index leaf_items
       ≡ take (length leaf_items - g.index) (drop (box_place t g) (box_items t))
   leaf_rest =
-      let leaf = tree_leaf is in
       let end = at_index (length leaf_items) (omega arith) in
       let most = edge_within end.0 in
       same_lists _ _

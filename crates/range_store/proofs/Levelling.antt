@@ -79,14 +79,7 @@ module _ {T : Type 0} {s : Heap T} {low n j : ℕ} (x : T) (levelled : IsLevelle
         grind (arith, length-append, front_many, length-drop)
 
     new_content : IsContent t (suc low) n new_xs new_ks
-    new_content = run_content pair_run new_xs (grind (
-      arith,
-      new_length,
-      length-append,
-      us_many,
-      length-drop,
-    ))
-        levelled.before rejoins.shaped levelled.behind
+    new_content = grind (arith, run_content pair_run new_xs (grind (arith, new_length, length-append, us_many, length-drop)) levelled.before rejoins.shaped levelled.behind)
 
     woven_old : items_below s (suc (suc low)) n
         ≡ front_of (take j xs) (map (items_below s (suc low)) us)
@@ -131,9 +124,7 @@ module _ {T : Type 0} {s : Heap T} {low n j : ℕ} (x : T) (levelled : IsLevelle
             moved = subst (λ zs. Moves s u (used s (suc (suc low)) n) zs) (sym (held_used holds))
                 (Moves-then (run_moved pair_run)
                 (Writes-moves (flat_map (used t (suc low)) new_ks) written));
-            shape = λ least more. held_shape holds least (omega (arith, new_length, more))
-                (grind (arith, new_length, levelled.node.fits)) new_content.branches
-                new_content.shaped;
+            shape = grind (arith, held_shape, new_length, new_content);
           }
 
       pub levelled_edge : (side : ℕ) (g h : Edge) → turn h ≡ j + side → inside h ≡ g
@@ -155,7 +146,4 @@ module _ {T : Type 0} {s : Heap T} {low n j : ℕ} (x : T) (levelled : IsLevelle
           length-before xs (map (items_below s (suc low)) ks) j
           (omega (arith, levelled.within))
           (omega (arith, many, levelled.within, length-map ks (items_below s (suc low)))) in
-          let same : map (items_below t (suc low)) us ≡ take j (map (items_below s (suc low)) ks) =
-          (same_before pair_run).items_below_same
-          ∙ sym (take-map (items_below s (suc low)) j ks) in
-          (edge.0, omega (arith, edge.1, run.1, front, ap (sum_by length) same))
+          grind (arith, same_before pair_run, take-map (items_below s (suc low)) j ks)

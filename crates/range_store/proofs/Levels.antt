@@ -43,10 +43,7 @@ but_sizes {T} {least} {most} {s} (suc d) {n} below shaped =
     let p = (MIN_LEN + 1) ^ suc d in
     let q = (CAPACITY + 1) ^ suc d in
     let all = children_sizes s (suc d) p q below ks shaped.children in
-    let enough : least + 1 ≤ length ks = omega arith in
-    let fits : length ks ≤ most + 1 = omega arith in
-    let size = items_below_size shaped in
-    grind (arith, mul-le-mul_right)
+    grind (arith, items_below_size shaped, mul-le-mul_right)
 
 items_sizes : {T : Type 0} (s : Heap T) (d n : ℕ) → Shaped s d n
     → ((MIN_LEN + 1) ^ d ≤ length (items_below s d n) + 1)
@@ -88,7 +85,7 @@ levels_least (suc d) {root} tree some = grind (arith, tree_lower)
 pub levels_most : {T : Type 0} {s : Heap T} (levels : ℕ) {root : ℕ} → IsTree s levels root
     → 0 < length (items_below s levels root)
     → length (items_below s levels root) + 1 ≤ (CAPACITY + 1) ^ levels
-levels_most {T} {s} zero {root} tree some = absurd (omega (arith, ap length (items_below_none s root)))
+levels_most {T} {s} zero {root} tree some = grind (arith, items_below_none)
 levels_most {T} {s} (suc d) {root} tree some = tree_upper d tree
 
 pub has_levels : {T : Type 0} {s : Heap T} {levels root : ℕ} → IsTree s levels root

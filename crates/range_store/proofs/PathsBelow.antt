@@ -58,16 +58,7 @@ module _ {T : Type 0} (s : Heap T) where
       omega arith in
       let edge_above : (e : Edge) → IsEdge s (left - 1) kid e → IsEdge s left at (above e) = λ e is.
       below_edge inner lies.shaped i e (above e) (turned e) (within e) low is in
-      record {
-        low = omega (arith, lies.low);
-        weight_is =
-            rw deeper
-            (ap (λ w. w * PATH_BASE) lies.weight_is ∙ sym (pow-suc PATH_BASE (below - left)));
-        small = heavier path weight i lies.small few;
-        shaped = below_kid inner lies.shaped i low;
-        edge = λ e is. rw (path_is e.path) (lies.edge (above e) (edge_above e is));
-        place_is = grind (arith, below_place);
-      }
+      grind (arith, pow-suc PATH_BASE (below - left), heavier path weight i lies.small few, below_kid inner lies.shaped i low, below_place)
 
   -- its first edge as it is seen from above
   pub first_below : {below number left : ℕ} (at path weight ahead : ℕ)

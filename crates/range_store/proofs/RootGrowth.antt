@@ -106,7 +106,6 @@ pub taller_root : {T : Type 0} {s t u : Heap T} (levels : ℕ) {root n : ℕ} (s
 taller_root {T} {s} {t} {u} zero {root} {n} split {list} some tree step stored = absurd (omega arith)
 taller_root {T} {s} {t} {u} (suc d) {root} {n} split {list} some tree step' stored =
     let level : suc d - 1 ≡ d = omega arith in
-    let more : suc d + 1 ≡ suc (suc d) = omega arith in
     let step = rw level at step' in
     grind (arith, taller_tree split tree step stored, taller_items_below split tree step stored)
 
@@ -121,7 +120,6 @@ taller_edge {T} {s} {t} {u} zero {root} {n} side split {list} g h some tree step
     seat = absurd (omega arith)
 taller_edge {T} {s} {t} {u} (suc d) {root} {n} side split {list} g h some tree step' stored at within seat' =
     let level : suc d - 1 ≡ d = omega arith in
-    let lower : suc d + 1 - 1 ≡ suc d = omega arith in
     let step = rw level at step' in
     grind (arith, taller_seat split tree step stored side g h at within (rw level at seat'))
 

@@ -90,7 +90,6 @@ lowered_edge {T} {s} {t} zero {root} g more loose empty gone is = absurd (omega 
 lowered_edge {T} {s} {t} (suc zero) {root} g more loose empty gone is = absurd (more refl)
 lowered_edge {T} {s} {t} (suc (suc e)) {root} g more loose empty gone is' =
     let level : suc (suc e) - 1 ≡ suc e = omega arith in
-    let lower : suc e - 1 ≡ e = omega arith in
     let shaped = rw level at loose.shaped in
     let is = rw level at is' in
     let ks = node_children s root in

@@ -178,7 +178,6 @@ module _ {T : Type 0} {s : Heap T} {low n j : ℕ} (levelled : IsLevelled s low 
 
   kid_apart : (i : ℕ) → i < length ks → get_or ks i 0 ≢ n
   kid_apart i low' same =
-      let F = flat_map (used s (suc low)) ks in
       let inner = used_kid_le s (suc low) i ks n low' in
       grind (arith, used_is, occurrences_here, occurrences-cons, occurrences_itself, here_le)
 

@@ -18,10 +18,8 @@ module _ {T : Type 0} where
       → (set now n (insert (row_of now n) k x) ≡ set rows n (take (k + 1) items))
       × (rest ≡ drop (k + 1) items)
   filled_more rows now n k items rest x there within was next =
-      let here : row_of now n ≡ take k items =
-      ap (λ zs. row_of zs n) was ∙ get_or-set_same rows n (take k items) [] there in
       let long : k ≡ length (take k items) = sym (length-take-le k items (omega arith)) in
-      grind (arith, taken_more, insert_end, set-set)
+      grind (arith, taken_more, insert_end, set-set, get_or-set_same)
 
 -- two rows of many have these items, and one is changed
 module _ {T : Type 0} (rows : List (List T)) (l r : ℕ) (l_there : l < length rows)
@@ -61,7 +59,6 @@ moved_last rows now from to left from_there to_there apart some few was item is 
     let held = row_of rows to in
     let xs = take left source in
     let tail = held ++ drop left source in
-    let less = take (left - 1) source in
     let next : suc (left - 1) ≡ left = omega arith in
     grind (arith, less_left rows from to from_there to_there apart now xs tail was (left - 1) (omega (arith, length-take-le left source few)), length-take-le left source few, take-take, left_row, get_or-take, right_anew, right_row, insert-append_left, insert_end, append_assoc, drop-cons)
 

@@ -120,7 +120,6 @@ module _ {T : Type 0} where
       → Rewrites cells (set cells (CAPACITY * n + i) (Some item)) n (set items i item)
   cell_rewritten n i cells {items} item within holds =
       let cell : Option T = Some item in
-      let less : i < CAPACITY = omega arith in
       let here : cells_of (set cells (CAPACITY * n + i) cell) n ≡ set (cells_of cells n) i cell =
       grind (arith, drop-set-add) in
       record {

@@ -76,7 +76,6 @@ module _ {T : Type 0} (p : T → Bool) {least most : ℕ} {s : Heap T} {d n : �
       let xs = node_items s n in
       let ks = node_children s n in
       let within = count_by-le-length p xs in
-      let many = children_length inner shaped in
       let main = count-weave p xs (map (items_below s d) ks) (lists_length inner shaped)
       (rw weave_items_below at falls) in
       grind (arith, get_or-map, weave_items_below)

@@ -59,7 +59,6 @@ module _ {T : Type 0} (s : Heap T) (low n i : ℕ) (m : MayBeRebalanced s low n 
   with_behind within short =
       let two : drop (i + 1) ks ≡ get_or ks (i + 1) 0 ∷ drop (i + 1 + 1) ks =
       drop_more ks (i + 1) 0 (omega arith) in
-      let far : i + 1 + 1 ≡ i + 2 = omega arith in
       let behind = subst (All P) two m.behind in
       let next = All-head P (get_or ks (i + 1) 0) (drop (i + 1 + 1) ks) behind in
       grind (arith, Shaped-but, All-tail P (get_or ks (i + 1) 0) (drop (i + 1 + 1) ks) behind)

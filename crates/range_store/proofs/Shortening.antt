@@ -95,7 +95,6 @@ module _ {T : Type 0} {s t : Heap T} {b n i : ℕ} {list : List T}
   pub kid_may_be_rebalanced : ShapedBut (MIN_LEN - 1) CAPACITY t (b - 1) kid
       → MayBeRebalanced t (b - 1) n i
   kid_may_be_rebalanced short =
-      let node = IsNode-same t kid_kept anew.shaped.node in
       let before = (same_before kid_run).shaped_same (All-take (Shaped s b) i ks
       anew.shaped.children) in
       let behind = (same_after kid_run).shaped_same

@@ -224,9 +224,7 @@ module _ {T : Type 0} {old new : Slab Node} {was now : List (List T)} {spares : 
 
     pub written : HasNode (heap_of old was spares) n
         → Writes (heap_of old was spares) (heap_of new now spares) n items node.children.items
-    written present =
-        let apart = in_use old was spares n present in
-        grind (arith, here, apart, elsewhere, counted)
+    written present = grind (arith, here, elsewhere, counted, in_use)
 
     -- a spare got what a new node has
     module _ {left : List ℕ} (parts : spares ≡ n ∷ left) where
