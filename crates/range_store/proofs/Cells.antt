@@ -53,10 +53,6 @@ module _ {T : Type 0} where
   pub length-full : (xs : List T) → length (full_cells xs) ≡ length xs
   length-full xs = length-map xs (λ x. Some x)
 
-  full_insert : (xs : List T) (i : ℕ) (x : T)
-      → insert (full_cells xs) i (Some x) ≡ full_cells (insert xs i x)
-  full_insert xs i x = grind (arith, take-map, drop-map, map-append)
-
   full_remove : (xs : List T) (i : ℕ) → remove (full_cells xs) i ≡ full_cells (remove xs i)
   full_remove xs i = grind (arith, take-map, drop-map, map-append)
 
@@ -100,7 +96,7 @@ module _ {T : Type 0} where
       let rest : List (Option T) = replicate (CAPACITY - length more) None in
       let left : CAPACITY - length xs ≡ suc (CAPACITY - length more) = omega arith in
       let many = length-full xs in
-      grind (arith, turned_right, set_at, length-take-le i cells (omega arith), append_assoc (take i cells) (Some item ∷ drop i cells) rest, full_insert xs i item)
+      grind (arith, turned_right, set_at, length-take-le i cells (omega arith), append_assoc (take i cells) (Some item ∷ drop i cells) rest, take-map, drop-map, map-append)
 
   -- an item was taken from the others
   module _ {old : List (Option T)} {xs : List T} (i k end : ℕ) (part : List (Option T))

@@ -19,17 +19,13 @@ unfolding IsEdge
 path_fits s zero n g is = omega (arith, is.1)
 path_fits s (suc d) n g is = omega (arith, pow-suc PATH_BASE d, path_fits s d _ (inside g) is.1)
 
-path_under : {T : Type 0} (s : Heap T) (d n : ℕ) (g : Edge) (most : ℕ) → d ≤ most → IsEdge s d n g
-    → g.path < PATH_BASE ^ most
-path_under s d n g most low is = grind (arith, pow-le-pow_right, path_fits)
-
 pub path_small : {T : Type 0} (s : Heap T) (d n : ℕ) (g : Edge) → d < MAX_LEVELS → IsEdge s d n g
     → g.path < 2 ^ 60
-path_small s d n g deep is = path_under s d n g 15 (omega arith) is
+path_small s d n g deep is = grind (arith, pow-le-pow_right, path_fits)
 
 pub path_low : {T : Type 0} (s : Heap T) (d n : ℕ) (g : Edge) → d + 1 < MAX_LEVELS → IsEdge s d n g
     → g.path < 2 ^ 56
-path_low s d n g deep is = path_under s d n g 14 (omega arith) is
+path_low s d n g deep is = grind (arith, pow-le-pow_right, path_fits)
 
 pub leaf_edge : {T : Type 0} (s : Heap T) (n : ℕ) (g : Edge) → g.leaf ≡ n → g.path ≡ 0
     → g.index ≤ length (node_items s n) → IsEdge s zero n g

@@ -44,11 +44,8 @@ module _ {T : Type 0} {s t : Heap T} {b n : ℕ} {us ms vs ts : List ℕ}
       ≡ occurrences k (flat_map (used s b) ms) + occurrences k rest
   occur_old k = omega (arith, ap (occurrences k) used_old, occurrences-cons, occurrences-append)
 
-  once : (k : ℕ) → occurrences k (flat_map (used s b) ms) + occurrences k rest ≤ here s k
-  once k = omega (arith, occur_old k, run.owned k)
-
   agree : AgreeAt s t rest
-  agree = Moves-agree rest once run.moved
+  agree = Moves-agree rest (λ k. omega (arith, occur_old k, run.owned k)) run.moved
 
   pub run_kept : node_of t n ≡ node_of s n
   run_kept = grind (arith, agree, occurrences-cons, occurrences_itself)
@@ -177,14 +174,8 @@ module _ {T : Type 0} {s t : Heap T} {b n i rest : ℕ} {item : T} {split : Opti
   many : length ks ≡ length xs + 1
   many = children_length (omega arith) grows.shaped
 
-  ks_parts : ks ≡ us ++ (kid ∷ vs)
-  ks_parts = list_splits_at ks i 0 (omega (arith, many))
-
-  kid_shape : ShapedBut MIN_LEN CAPACITY s (b - 1) kid
-  kid_shape = Shaped-but s (b - 1) kid (grind arith)
-
   grown_run : Runs s t b n us (kid ∷ []) vs (tops kid split)
-  grown_run = grind (arith, ks_parts, append-nil)
+  grown_run = grind (arith, list_splits_at ks i 0 (omega (arith, many)), append-nil)
 
   pub grown_kept : node_of t n ≡ node_of s n
   grown_kept = run_kept grown_run
@@ -193,17 +184,13 @@ module _ {T : Type 0} {s t : Heap T} {b n i rest : ℕ} {item : T} {split : Opti
   grown_moved = run_moved grown_run
 
   tops_shaped : All (Shaped t b) (tops kid split)
-  tops_shaped =
-      grind (arith, Shaped-from_but, kid_shape)
+  tops_shaped = grind (arith, Shaped-from_but, Shaped-but s (b - 1) kid (grind arith))
 
   us_many : length us ≡ i
   us_many = length-take-le i ks (omega (arith, many))
 
-  front_many : length (take i xs) ≡ i
-  front_many = length-take-le i xs grows.low
-
   pub grown_content : IsContent t b n new_xs new_ks
-  grown_content = grind (arith, run_content grown_run new_xs (grind (arith, length-append, us_many, front_many, length-drop)) (All-take (Shaped s b) i ks grows.shaped.children) tops_shaped (All-drop (Shaped s b) (i + 1) ks grows.shaped.children))
+  grown_content = grind (arith, run_content grown_run new_xs (grind (arith, length-append, us_many, length-take-le i xs grows.low, length-drop)) (All-take (Shaped s b) i ks grows.shaped.children) tops_shaped (All-drop (Shaped s b) (i + 1) ks grows.shaped.children))
 
   abbrev lists : List (List T)
   lists = child_lists s b n
@@ -217,7 +204,7 @@ module _ {T : Type 0} {s t : Heap T} {b n i rest : ℕ} {item : T} {split : Opti
       ap (weave new_xs) (run_lists grown_run)
       ∙ weave_tops (take i xs) (drop i xs) (map (items_below s b) us) (map (items_below s b) vs)
       (items_below t b) kid split
-      (omega (arith, front_many, us_many, length-map us (items_below s b)))
+      (omega (arith, length-take-le i xs grows.low, us_many, length-map us (items_below s b)))
       ∙ rw (inserted, ← take-map (items_below s b) i ks, ← drop-map (items_below s b) (i + 1) ks)
       refl
       ∙ sym (insert_middle (before xs lists i) (items_below s b kid)
@@ -239,7 +226,7 @@ module _ {T : Type 0} {s t : Heap T} {b n i rest : ℕ} {item : T} {split : Opti
   grown_seat side g seat =
       let all =
       seat_run t (b - 1) us (tops kid split) vs (take i xs) (separators split)
-      (drop i xs) i side g us_many front_many (tops_many kid split) seat in
+      (drop i xs) i side g us_many (length-take-le i xs grows.low) (tops_many kid split) seat in
       let here = ap (λ m. seat_place t m new_xs new_ks (i + side) g) level in
       let sums = ap (λ m. sum_by length (map (items_below t m) us)) level in
       let front =
@@ -274,14 +261,11 @@ module _ {T : Type 0} {s t : Heap T} {b n i rest : ℕ} {item : T}
   abbrev ks' : List ℕ
   ks' = take i (node_children s n) ++ (node_child s n i ∷ drop (i + 1) (node_children s n))
 
-  kept : node_of t n ≡ node_of s n
-  kept = grown_kept grows
-
   content : IsContent t b n xs' ks'
   content = grown_content grows
 
   written : Writes t t n xs' ks'
-  written = grind (arith, kept, take-append-drop, list_splits_at, children_length)
+  written = grind (arith, grown_kept grows, take-append-drop, list_splits_at, children_length)
 
   same_length : length xs' ≡ length (node_items s n)
   same_length = ap length (take-append-drop i (node_items s n))

@@ -40,11 +40,8 @@ module _ {T : Type 0} {s t : Heap T} {n : ℕ} (g : Edge) {items : List T}
     (fits : length items ≤ CAPACITY) (enough : (least : ℕ) → least ≤ MIN_LEN → least ≤ length
     (node_items s n) → least ≤ length items) (shaped : ShapedBut 1 CAPACITY s zero n)
     (owned : Owned s 1 n) (written : Writes s t n items (node_children s n)) where
-  content : IsContent s zero n items (node_children s n)
-  content = bare_content items shaped owned
-
   holds : Holds s t zero n items (node_children s n)
-  holds = written_holds t content written
+  holds = written_holds t (bare_content items shaped owned) written
 
   edited_here : g.leaf ≡ n → g.path ≡ 0 → IsLeafEdit s t zero n g items
   edited_here at first =
@@ -75,9 +72,6 @@ module _ {T : Type 0} {s t : Heap T} {d n : ℕ} (g : Edge) {items : List T}
     anew : ListsAnew s t (suc d) n (turn g) (below.front ++ (items ++ below.rest))
     anew = grind arith
 
-    kept : node_of t n ≡ node_of s n
-    kept = kid_kept anew
-
     kid_now : Shaped t (suc d) (node_child s n (turn g))
     kid_now = grind (arith, Shaped-from_but, kid_shaped d (turn g) shaped low)
 
@@ -92,10 +86,10 @@ module _ {T : Type 0} {s t : Heap T} {d n : ℕ} (g : Edge) {items : List T}
       rewritten = record {
         listed = kid_listed anew ∙ regroup fore below.front items below.rest behind;
         moved = kid_moved anew;
-        shape = λ least small old. grind (arith, kept, kid_children, kid_now);
+        shape = λ least small old. grind (arith, kid_kept anew, kid_children, kid_now);
       };
       edges = λ h leaf path index.
-          grind (arith, kept, place_inside, kid_front, edge_above, length-append);
+          grind (arith, kid_kept anew, place_inside, kid_front, edge_above, length-append);
     }
 
 pub leaf_edit : {T : Type 0} {s t : Heap T} (d : ℕ) {n : ℕ} (g : Edge) {items : List T}

@@ -36,17 +36,13 @@ module _ {T : Type 0} {s : Heap T} {d l r : ℕ} (x : T) (pair : IsPair s d l r)
   pub pair_nodes : SameNodes (used s (suc d) l ++ used s (suc d) r) (r ∷ l ∷ F)
   pair_nodes = grind (arith, used_is, occurrences-append, occurrences-cons, both, length-append)
 
-  occur_pair : (k : ℕ)
-      → occurrences k (r ∷ []) + (occurrences k (l ∷ []) + occurrences k F) ≤ here s k
-  occur_pair k = omega (arith, pair_nodes.occur k, occurrences-cons)
-
   pub pair_apart : l ≢ r
   pair_apart same =
-      grind (arith, occurrences_itself r, occur_pair r, here_le s r)
+      grind (arith, occurrences_itself r, pair_nodes.occur r, occurrences-cons, here_le s r)
 
   pub right_apart : (k : ℕ) → 0 < occurrences k F → k ≢ r
   right_apart k among same =
-      grind (arith, occurrences_itself r, occur_pair k, here_le s k)
+      grind (arith, occurrences_itself r, pair_nodes.occur k, occurrences-cons, here_le s k)
 
   pub pair_content : IsContent s d l xs ks
   pair_content = record {
@@ -55,7 +51,7 @@ module _ {T : Type 0} {s : Heap T} {d l r : ℕ} (x : T) (pair : IsPair s d l r)
         All-append (Shaped s d) (node_children s l)
         (node_children s r) pair.left.children pair.right.children;
     branches = grind (arith, length-append);
-    owned = λ k. omega (arith, occur_pair k, occurrences-cons k l F);
+    owned = λ k. omega (arith, pair_nodes.occur k, occurrences-cons, occurrences-cons k l F);
   }
 
   pub pair_listed : weave xs (map (items_below s d) ks) ≡ items_below s (suc d) l
@@ -71,24 +67,18 @@ module _ {T : Type 0} {s : Heap T} {d l r : ℕ} (x : T) (pair : IsPair s d l r)
     gone_apart : (k : ℕ) → 0 < occurrences k F → node_of u k ≡ node_of s k
     gone_apart k among = grind (arith, right_apart, content_apart, pair_content)
 
-    l_kept : node_of u l ≡ node_of t l
-    l_kept = removed.others l pair_apart
-
     pub united_holds : Holds s u d l xs ks
-    united_holds = held_after written l_kept gone_apart
+    united_holds = held_after written (removed.others l pair_apart) gone_apart
 
     pub united_agree : AgreeAt s u F
     united_agree = gone_apart
-
-    united_used : used u (suc d) l ≡ l ∷ F
-    united_used = held_used united_holds
 
     pub united_rejoins : Rejoins s u d l x r None
     united_rejoins = record {
       listed = grind (arith, append-nil, held_items_below, united_holds, pair_listed);
       moved = Moves-like (used s (suc d) l ++ used s (suc d) r) (used u (suc d) l ++ [])
           (record { occur = λ k. sym (pair_nodes.occur k); len = sym pair_nodes.len })
-          (grind (arith, append-nil, united_used))
+          (grind (arith, append-nil, held_used united_holds))
           (Moves-then
           (Moves-like (r ∷ l ∷ F) (r ∷ l ∷ F) swapped swapped (Writes-moves (r ∷ F) written))
           (Removes-moves (l ∷ F) removed));
@@ -104,12 +94,9 @@ module _ {T : Type 0} {s : Heap T} {d l r : ℕ} (x : T) (pair : IsPair s d l r)
     pub shared_agree : AgreeAt s u F
     shared_agree k among = grind (arith, right_apart, content_apart, pair_content)
 
-    left_kept : node_of u l ≡ node_of t l
-    left_kept = second.others l pair_apart
-
     pub shared_left : Holds s u d l (take half xs) (take (half + 1) ks)
     shared_left =
-        held_after first left_kept (part_agree s u d (half + 1) ks shared_agree).0
+        held_after first (second.others l pair_apart) (part_agree s u d (half + 1) ks shared_agree).0
 
     pub shared_right : Holds s u d r (drop (half + 1) xs) (drop (half + 1) ks)
     shared_right = held_after second refl (part_agree s u d (half + 1) ks shared_agree).1

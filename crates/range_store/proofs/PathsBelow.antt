@@ -14,10 +14,6 @@ use Rattle.range_store.proofs.Paths.{below_kid, below_edge, below_place}
 abbrev pub from_above : ℕ → ℕ → Edge → Edge
 from_above path weight e = record e { path = path + weight * e.path }
 
-heavier : (path weight i : ℕ) → path < weight → i ≤ CAPACITY
-    → path + weight * i < weight * PATH_BASE
-heavier path weight i small low = omega (arith, small, mul-le-mul_left weight low)
-
 -- above a leaf no weight is too great
 pub weight_fits : (below left weight : ℕ) → below < MAX_LEVELS → 0 < left
     → weight ≡ PATH_BASE ^ (below - left) → weight ≤ 2 ^ 56
@@ -58,7 +54,7 @@ module _ {T : Type 0} (s : Heap T) where
       omega arith in
       let edge_above : (e : Edge) → IsEdge s (left - 1) kid e → IsEdge s left at (above e) = λ e is.
       below_edge inner lies.shaped i e (above e) (turned e) (within e) low is in
-      grind (arith, pow-suc PATH_BASE (below - left), heavier path weight i lies.small few, below_kid inner lies.shaped i low, below_place)
+      grind (arith, pow-suc PATH_BASE (below - left), lies.small, mul-le-mul_left weight few, below_kid inner lies.shaped i low, below_place)
 
   -- its first edge as it is seen from above
   pub first_below : {below number left : ℕ} (at path weight ahead : ℕ)

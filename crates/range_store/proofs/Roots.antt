@@ -23,26 +23,12 @@ list_of_one [] one = absurd (omega arith)
 list_of_one (k ∷ []) one = refl
 list_of_one (k ∷ j ∷ ks) one = absurd (omega arith)
 
--- what stands under each number once the root went
-here_without : {T : Type 0} {s t : Heap T} {root : ℕ} → here s root ≡ 1 → Removes s t root → (k : ℕ)
-    → here t k + occurrences k (root ∷ []) ≡ here s k
-here_without present gone k = grind (arith, occurrences_itself, occurrences_other)
-
 -- a tree of one level that lost its last item
 pub empty_root_leaves_nothing : {T : Type 0} {s t : Heap T} (levels : ℕ) {root : ℕ} → levels ≡ 1
     → IsLooseTree s levels root → length (node_items s root) ≡ 0 → Removes s t root
     → IsTree t 0 0 × (items_below t 0 0 ≡ items_below s levels root)
 empty_root_leaves_nothing levels one loose empty gone =
-    grind (
-      arith,
-      used_leaf,
-      here_without,
-      used_none,
-      occurrences-nil,
-      items_below_none,
-      nil_from_length,
-      items_below_leaf,
-    )
+    grind (arith, used_leaf, occurrences_itself, occurrences_other, used_none, occurrences-nil, items_below_none, nil_from_length, items_below_leaf)
 
 -- a taller tree whose root has one child alone
 module _ {T : Type 0} {s t : Heap T} {e root : ℕ} (loose : IsLooseTree s (suc (suc e)) root)
@@ -75,7 +61,7 @@ only_child_is_root {T} {s} {t} (suc (suc e)) {root} more loose empty gone =
     let kid_shaped : Shaped s (suc e) kid = shaped.children 0 0 (omega arith) in
     let tree : IsTree t (suc e) kid = record {
       shaped = grind (arith, Shaped-but t e kid (same.shaped_same kid_shaped));
-      once = λ k. grind (arith, occurs loose one gone k, here_without (grind arith) gone k);
+      once = λ k. grind (arith, occurs loose one gone k, occurrences_itself, occurrences_other);
       len = omega (arith, ap length (used_all loose one gone), ap length same.used_same);
     } in
     grind (arith, weave_items_below, nil_from_length, append-nil)

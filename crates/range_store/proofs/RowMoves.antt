@@ -34,9 +34,6 @@ module _ {T : Type 0} (rows : List (List T)) (l r : ℕ) (l_there : l < length r
   left_anew : (zs : List T) → set now l zs ≡ set (set rows l zs) r ys
   left_anew zs = grind (arith, set_comm, set-set)
 
-  right_anew : (zs : List T) → set now r zs ≡ set (set rows l xs) r zs
-  right_anew zs = ap (λ rs. set rs r zs) was ∙ set-set (set rows l xs) r ys zs
-
   -- the last item of the first one went
   less_left : (k : ℕ) → length xs ≡ k + 1
       → set now l (remove (row_of now l) k) ≡ set (set rows l (take k xs)) r ys
@@ -60,7 +57,7 @@ moved_last rows now from to left from_there to_there apart some few was item is 
     let xs = take left source in
     let tail = held ++ drop left source in
     let next : suc (left - 1) ≡ left = omega arith in
-    grind (arith, less_left rows from to from_there to_there apart now xs tail was (left - 1) (omega (arith, length-take-le left source few)), length-take-le left source few, take-take, left_row, get_or-take, right_anew, right_row, insert-append_left, insert_end, append_assoc, drop-cons)
+    grind (arith, less_left rows from to from_there to_there apart now xs tail was (left - 1) (omega (arith, length-take-le left source few)), length-take-le left source few, take-take, left_row, get_or-take, set-set, right_row, insert-append_left, insert_end, append_assoc, drop-cons)
 
 -- a full row was cut in two, and an item put among those of one half
 module _ {T : Type 0} (rows one two three : List (List T)) (l r : ℕ) (l_there : l < length rows)
@@ -95,7 +92,7 @@ module _ {T : Type 0} (rows one two three : List (List T)) (l r : ℕ) (l_there 
       → three ≡ set two r (insert (row_of two r) j x)
       → three ≡ set (set rows l (take (k - 1) (insert whole i x))) r (drop k (insert whole i x))
   divided_high j high fits place put =
-      grind (arith, right_anew, halves, right_row, drop_insert_before, take_insert_before)
+      grind (arith, set-set, halves, right_row, drop_insert_before, take_insert_before)
 
 -- a row took an item and all that another had
 pub absorbed : {T : Type 0} (rows now : List (List T)) (l r len : ℕ) (x : T) → l < length rows

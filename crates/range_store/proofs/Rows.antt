@@ -151,11 +151,8 @@ module _ {T : Type 0} where
     abbrev topped : List (Option T)
     topped = cells ++ replicate missing None
 
-    length-topped : length topped ≡ length cells + missing
-    length-topped = grind (arith, length-append, length-replicate)
-
     pub topped_room : CAPACITY * n + CAPACITY ≤ length topped
-    topped_room = omega (arith, length-topped)
+    topped_room = grind (arith, length-append, length-replicate)
 
     old_cells : (m : ℕ) → m < rows.there → cells_of topped m ≡ cells_of cells m
     old_cells m less =
@@ -181,13 +178,13 @@ module _ {T : Type 0} where
           | inr past ↦ record {
             there = suc n;
             few = omega arith;
-            cells_are = omega (arith, length-topped);
+            cells_are = grind (arith, length-append, length-replicate);
             held = grind (arith, old_cells, new_cells);
           }
         ]
 
     none_new : (m : ℕ) → rows.there ≤ m → items_in (cells_of topped m) ≡ []
-    none_new m past = grind (arith, drop_all, length-topped, new_cells)
+    none_new m past = grind (arith, drop_all, length-append, length-replicate, new_cells)
 
     pub topped_same : rows_in many topped ≡ rows_in many cells
     topped_same =

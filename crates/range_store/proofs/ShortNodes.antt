@@ -28,15 +28,12 @@ module _ {T : Type 0} (s : Heap T) (low n i : ℕ) (m : MayBeRebalanced s low n 
   pub many : length ks ≡ length xs + 1
   many = m.node.branches
 
-  kids : ks ≡ take i ks ++ (kid ∷ drop (i + 1) ks)
-  kids = list_splits_at ks i 0 (omega (arith, many, m.within))
-
   present_of : (c : ℕ) → Shaped s (suc low) c → IsSome (node_of s c)
   present_of c shaped = (Shaped-but s low c shaped).node.present
 
   pub all_present : All (λ c. IsSome (node_of s c)) ks
   all_present =
-      subst (All Present) (sym kids)
+      subst (All Present) (sym (list_splits_at ks i 0 (omega (arith, many, m.within))))
       (All-append Present (take i ks) (kid ∷ drop (i + 1) ks)
       (All-weaker P Present present_of (take i ks) m.before)
       (grind (arith, present_of)))
@@ -47,7 +44,7 @@ module _ {T : Type 0} (s : Heap T) (low n i : ℕ) (m : MayBeRebalanced s low n 
       let here = Shaped-from_but s low kid
       (grind arith) in
       let children =
-      subst (All P) (sym kids)
+      subst (All P) (sym (list_splits_at ks i 0 (omega (arith, many, m.within))))
       (All-append P (take i ks) (kid ∷ drop (i + 1) ks) m.before
       (All-cons P kid (drop (i + 1) ks) here m.behind)) in
       grind arith

@@ -48,11 +48,8 @@ module _ {T : Type 0} {s t : Heap T} {b n i : ℕ} {list : List T}
   abbrev vs : List ℕ
   vs = drop (i + 1) (node_children s n)
 
-  many : length ks ≡ length xs + 1
-  many = children_length (omega arith) anew.shaped
-
   ks_parts : ks ≡ us ++ (kid ∷ vs)
-  ks_parts = list_splits_at ks i 0 (omega (arith, many))
+  ks_parts = list_splits_at ks i 0 (omega (arith, children_length (omega arith) anew.shaped))
 
   kid_run : Runs s t b n us (kid ∷ []) vs (kid ∷ [])
   kid_run = grind (arith, ks_parts, append-nil)

@@ -34,11 +34,8 @@ edge_within {T} {t} {g} is =
 
 -- an edge in the leaf of another, and the item there
 module _ {T : Type 0} {t : BoxStorage T} {g : Edge} (is : IsBoxEdge t g) where
-  shaped : ShapedBut 1 CAPACITY t.nodes (t.levels - 1) t.root
-  shaped = root_shaped t.levels is.some t.whole.tree
-
   pub tree_leaf : IsLeafOf t.nodes g
-  tree_leaf = leaf_of_edge (t.levels - 1) g shaped is.edge
+  tree_leaf = leaf_of_edge (t.levels - 1) g (root_shaped t.levels is.some t.whole.tree) is.edge
 
   pub tree_beside : (h : Edge) → h.leaf ≡ g.leaf → h.path ≡ g.path
       → h.index ≤ length (node_items t.nodes g.leaf)

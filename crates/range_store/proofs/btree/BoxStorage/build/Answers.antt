@@ -24,16 +24,10 @@ tree g c =
     built_tree s.levels (empty_levels s.whole.tree (ap length c.requires.empty)) s.whole.tree
     c.build-self.ensures.built cut.some
 
-listed : (g : Over) (c : After-build-self g)
-    → items_below c.build-self.new.nodes (c.layout_of-below.result.below + 1)
-    c.build-self.result ≡ c.args.added.items
-listed g c =
-    grind (arith, all_taken)
-
 pub invariant_of-self : goal.invariant_of-self
 invariant_of-self g c =
     let a = (goal.at.invariant_of-self g c).After-build-self in
-    let many = ap length (listed g a) in
+    let many = ap length (grind (arith, all_taken)) in
     let count : length c.args.added.items ≡ c.len-count.result =
     omega (arith, c.len-count.ensures, c.args.added.ok.0) in
     record {

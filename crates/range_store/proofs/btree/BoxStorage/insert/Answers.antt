@@ -12,16 +12,8 @@ pub store_leaf-self-requires : goal.store_leaf-self-requires
 store_leaf-self-requires g c =
     grind (arith, first_room, empty_levels)
 
-first : (g : Over) (c : After-store_leaf-self g)
-    → IsTree c.store_leaf-self.new.self 1 c.store_leaf-self.result
-    × (items_below c.store_leaf-self.new.self 1 c.store_leaf-self.result ≡ c.args.item ∷ [])
-first g c =
-    grind (arith, first_tree, empty_levels)
-
 pub invariant_of-self : goal.invariant_of-self
-invariant_of-self g c =
-    grind (arith, first, has_levels)
+invariant_of-self g c = grind (arith, first_tree, empty_levels, has_levels)
 
 pub returns-in-None : goal.returns-in-None
-returns-in-None g c =
-    grind (arith, first, leaf_edge, leaf_place)
+returns-in-None g c = grind (arith, first_tree, empty_levels, leaf_edge, leaf_place)

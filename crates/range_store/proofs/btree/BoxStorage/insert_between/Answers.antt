@@ -121,21 +121,6 @@ pub seen_above-requires : goal.seen_above-requires
 seen_above-requires g c =
     grind (arith, seat_side, path_small, tree_is_not_too_deep, seat_inside)
 
-higher : (g : Over) (c : After-seen_above g)
-    → IsEdge c.store_branch-self.new.self
-    (c.args.self.now.levels + 1 - 1) c.store_branch-self.result c.seen_above.result
-    × (place c.store_branch-self.new.self
-    (c.args.self.now.levels + 1 - 1) c.store_branch-self.result c.seen_above.result
-    ≡ seat_place c.insert_below-inserted.new.nodes (suc (c.args.self.now.levels - 1))
-    (c.in-Some.split.middle ∷ [])
-    (c.args.self.now.root ∷ c.in-Some.split.right ∷ []) c.insert_below-inserted.result.side
-    c.insert_below-inserted.result.edge)
-higher g c = taller_edge c.args.self.now.levels c.insert_below-inserted.result.side c.in-Some.split
-    c.insert_below-inserted.result.edge c.seen_above.result c.requires.edge.some
-    c.args.self.now.whole.tree (rw c.in-Some.is at c.insert_below-inserted.ensures.replaces)
-    c.store_branch-self.ensures c.seen_above.ensures.turn c.seen_above.ensures.inside
-    (rw c.in-Some.is at c.insert_below-inserted.ensures.edge)
-
 pub returns-in-Some : goal.returns-in-Some
 returns-in-Some g c =
     let a = goal.at.returns-in-Some g c in
@@ -143,6 +128,6 @@ returns-in-Some g c =
     record {
       list = list;
       room = omega arith;
-      edge = record { some = omega arith; edge = (higher g c).0 };
-      place = (higher g c).1 ∙ (rw c.in-Some.is at c.insert_below-inserted.ensures.place);
+      edge = record { some = omega arith; edge = (taller_edge (c).args.self.now.levels (c).insert_below-inserted.result.side (c).in-Some.split (c).insert_below-inserted.result.edge (c).seen_above.result (c).requires.edge.some (c).args.self.now.whole.tree (rw (c).in-Some.is at (c).insert_below-inserted.ensures.replaces) (c).store_branch-self.ensures (c).seen_above.ensures.turn (c).seen_above.ensures.inside (rw (c).in-Some.is at (c).insert_below-inserted.ensures.edge)).0 };
+      place = (taller_edge (c).args.self.now.levels (c).insert_below-inserted.result.side (c).in-Some.split (c).insert_below-inserted.result.edge (c).seen_above.result (c).requires.edge.some (c).args.self.now.whole.tree (rw (c).in-Some.is at (c).insert_below-inserted.ensures.replaces) (c).store_branch-self.ensures (c).seen_above.ensures.turn (c).seen_above.ensures.inside (rw (c).in-Some.is at (c).insert_below-inserted.ensures.edge)).1 ∙ (rw c.in-Some.is at c.insert_below-inserted.ensures.place);
     }

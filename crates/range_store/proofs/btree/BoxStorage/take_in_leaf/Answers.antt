@@ -12,16 +12,11 @@ use Rattle.range_store.proofs.btree.BoxStorage.take_in_leaf.Goals as goal
 use Rattle.range_store.proofs.btree.BoxStorage.take_in_leaf.Given.{Over}
 use Rattle.range_store.proofs.btree.BoxStorage.take_in_leaf.Goals.{Start, After-take_beside-item, After-shrink_root-shrunk}
 
-some_before : (g : Over) (c : Start g) → 0 < box_place c.args.self.now c.args.edge
-some_before g c =
-    grind (arith, place_index)
-
 -- how many items are left
 fewer : (g : Over) (c : Start g)
     → length (remove (box_items c.args.self.now) (box_place c.args.self.now c.args.edge - 1)) + 1
     ≡ length (box_items c.args.self.now)
-fewer g c =
-    grind (arith, edge_within, length-remove, some_before)
+fewer g c = grind (arith, edge_within, length-remove, place_index)
 
 pub item_count-requires : goal.item_count-requires
 item_count-requires g c = (tree_leaf c.requires.edge).present
@@ -59,15 +54,8 @@ pub remove_below-taken-requires-clause-deep : goal.remove_below-taken-requires-c
 remove_below-taken-requires-clause-deep g c =
     grind (arith, tree_is_not_too_deep)
 
-shrunk : (g : Over) (c : After-shrink_root-shrunk g)
-    → items_below c.shrink_root-shrunk.new.nodes c.shrink_root-shrunk.result.levels c.shrink_root-shrunk.result.root
-    ≡ remove (box_items c.args.self.now) (box_place c.args.self.now c.args.edge - 1)
-shrunk g c =
-    grind (arith, loosened_items)
-
 pub invariant_of-self-2 : goal.invariant_of-self-2
-invariant_of-self-2 g c =
-    grind (arith, fewer, grown_whole, shrunk)
+invariant_of-self-2 g c = grind (arith, fewer, grown_whole, loosened_items)
 
 pub returns-then-self-eq0-clause-removed : goal.returns-then-self-eq0-clause-removed
 returns-then-self-eq0-clause-removed g c =

@@ -5,14 +5,6 @@ use Rattle.std.proofs.lemmas.List.Elements.{all_zip_more}
 use Rattle.range_store.specs.Holding.{box_items, good_in_range}
 use Rattle.range_store.proofs.btree.BoxStorageStorage.clone.Goals as goal
 
--- one item more stands in both
-copied_one : {T : Type 0} (Q : T → T → Type 0) (items before after : List T) (x y : T)
-    → after ≡ before ++ y ∷ [] → length before < length items → x ≡ get_or items (length before) x
-    → AllZip Q (take (length before) items) before → Q x y
-    → AllZip Q (take (length after) items) after
-copied_one Q items before after x y longer within read copied holds =
-    grind (arith, length_push, all_zip_more)
-
 pub push_reserved-requires : goal.push_reserved-requires
 push_reserved-requires g c =
     grind (arith, good_in_range)
@@ -32,18 +24,12 @@ loop-at-preserved g c =
     record {
       position = rw count (rw here.1 at c.next-at.ensures);
       copied =
-          copied_one (λ x y. g.T.PartialEq.eq y x ≡ true) items before after c.get.result.now
-          c.in_ok-item.item longer within read c.loop-at.invariant.copied
-          (grind arith);
+          grind (arith, length_push, all_zip_more);
       space = omega (arith, c.push_reserved.ensures.capacity, c.loop-at.invariant.space);
     }
 
-fewer_left : (n m k : ℕ) → k ≡ m + 1 → m < n → n - k < n - m
-fewer_left n m k count within = omega arith
-
 pub loop-at-smaller : goal.loop-at-smaller
-loop-at-smaller g c =
-    grind (arith, length_push, fewer_left, good_in_range)
+loop-at-smaller g c = grind (arith, length_push, good_in_range)
 
 pub returns : goal.returns
 returns g c =

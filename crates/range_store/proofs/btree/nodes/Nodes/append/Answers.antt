@@ -18,10 +18,6 @@ module _ (g : Over) (c : After-index_mut-2 g) where
   right_at : get c.self.inside.slab c.args.right ≡ Some c.replace-upper.result
   right_at = rw c.replace-upper.ensures.value c.index_mut.ensures.value
 
-  right_seen : IsSeen c.self.inside.slab c.self.inside.rows c.self.inside.spares.items c.args.right
-      c.replace-upper.result
-  right_seen = grind (arith, seen, right_at)
-
 pub index_mut-requires : goal.index_mut-requires
 index_mut-requires g c = grind (arith, found)
 
@@ -30,16 +26,13 @@ index_mut-requires-2 g c =
     grind (arith, get_or-set_other, found)
 
 pub absorb-len-requires-clause-room : goal.absorb-len-requires-clause-room
-absorb-len-requires-clause-room g c =
-    grind (arith, left_seen, right_seen)
+absorb-len-requires-clause-room g c = grind (arith, left_seen, seen, right_at)
 
 pub absorb-len-requires-clause-places : goal.absorb-len-requires-clause-places
-absorb-len-requires-clause-places g c =
-    grind (arith, left_seen, right_seen)
+absorb-len-requires-clause-places g c = grind (arith, left_seen, seen, right_at)
 
 pub absorb-requires-clause-room : goal.absorb-requires-clause-room
-absorb-requires-clause-room g c =
-    grind (arith, left_seen, right_seen)
+absorb-requires-clause-room g c = grind (arith, left_seen, seen, right_at)
 
 pub push_front_reserved-requires : goal.push_front_reserved-requires
 push_front_reserved-requires g c =

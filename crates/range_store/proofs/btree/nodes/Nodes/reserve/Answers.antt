@@ -68,15 +68,8 @@ loop-preserved g c =
       });
     }
 
-begun : (g : Over) (c : After-loop g)
-    → SameNodes (heap_of c.self.inside.slab c.self.inside.rows c.self.inside.spares.items)
-    (heap_of c.reserve.new.self c.reserve-2.new.self c.reserve-3.new.self.items)
-begun g c = grind (arith, roomier)
-
 pub returns-clause-room : goal.returns-clause-room
-returns-clause-room g c =
-    grind (arith, begun, slab_len, counted)
+returns-clause-room g c = grind (arith, roomier, slab_len, counted)
 
 pub returns-clause-kept : goal.returns-clause-kept
-returns-clause-kept g c =
-    grind (arith, begun)
+returns-clause-kept g c = grind (arith, roomier)

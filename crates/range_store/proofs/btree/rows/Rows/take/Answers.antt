@@ -20,9 +20,6 @@ module _ (g : Over) (c : After-deref_mut g) where
   long : CAPACITY * c.args.number + CAPACITY ≤ length c.self.inside.cells.items
   long = room c.self.invariant.0 c.args.number less within
 
-  enough : CAPACITY * c.args.number + CAPACITY ≤ length c.deref_mut.result.now
-  enough = omega (arith, long, ap length c.deref_mut.ensures.value)
-
   same : items_in (take (CAPACITY * c.args.number + CAPACITY - CAPACITY * c.args.number)
       (drop (CAPACITY * c.args.number) c.deref_mut.result.now))
       ≡ row_of (rows_in c.self.inside.many c.self.inside.cells.items) c.args.number
@@ -39,11 +36,10 @@ overflow_add-start g c =
 
 pub offset_bounds-deref_mut-start : goal.offset_bounds-deref_mut-start
 offset_bounds-deref_mut-start g c =
-    grind (arith, enough, scaled_fits≤)
+    grind (arith, long, ap length c.deref_mut.ensures.value, scaled_fits≤)
 
 pub slice_bounds-take_item-end : goal.slice_bounds-take_item-end
-slice_bounds-take_item-end g c =
-    grind (arith, enough)
+slice_bounds-take_item-end g c = grind (arith, long, ap length c.deref_mut.ensures.value)
 
 pub take_item-requires-clause-len : goal.take_item-requires-clause-len
 take_item-requires-clause-len g c =
