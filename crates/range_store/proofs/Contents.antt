@@ -138,9 +138,6 @@ module _ {T : Type 0} {s t : Heap T} {d n r : ℕ} (half : ℕ) {xs : List T} {k
       ∙ flat_map-append (used s d) us vs in
       grind (arith, held_used left, right_used, occurrences-cons, occurrences-append, length-append)
 
-  branches_right : length vs ≡ child_count d (length xs - half - 1)
-  branches_right = grind (arith, length-drop)
-
   left_length : length (take half xs) ≡ half
   left_length = length-take-le half xs (omega (arith, low))
 
@@ -158,7 +155,7 @@ module _ {T : Type 0} {s t : Heap T} {d n r : ℕ} (half : ℕ) {xs : List T} {k
         arith,
         right_length,
         most_right,
-      )) (branches_right ∙ ap (child_count d) (sym right_length)) (All-drop
+      )) ((grind (arith, length-drop)) ∙ ap (child_count d) (sym right_length)) (All-drop
       (Shaped s d) (half + 1) ks content.shaped)) (All-nil _))
 
 -- they are parts of the children

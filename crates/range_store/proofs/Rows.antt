@@ -183,9 +183,6 @@ module _ {T : Type 0} where
           }
         ]
 
-    none_new : (m : ℕ) → rows.there ≤ m → items_in (cells_of topped m) ≡ []
-    none_new m past = grind (arith, drop_all, length-append, length-replicate, new_cells)
-
     pub topped_same : rows_in many topped ≡ rows_in many cells
     topped_same =
         let long = length-rows many topped in
@@ -196,7 +193,7 @@ module _ {T : Type 0} where
         ∙ elim (cases_lt m rows.there) [
           | inl less ↦ ap items_in (old_cells m less)
           | inr past ↦
-              none_new m (omega (arith, past))
+              grind (arith, drop_all, length-append, length-replicate, new_cells)
               ∙ sym (ap items_in (cells_past rows m (omega (arith, past))))
         ]
         ∙ sym (rows_read many cells m (omega (arith, long, below))))

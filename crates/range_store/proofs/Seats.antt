@@ -43,10 +43,6 @@ seat_path s (suc d) xs ks i g deep some seat = path_small s d _ g (omega (arith,
 -- a cut at `half` leaves an edge in the first part, at the same seat
 module _ {T : Type 0} (s : Heap T) (half : ℕ) (xs : List T) (ks : List ℕ) (i : ℕ) (g : Edge)
     (low : half < length xs) where
-  lists_drop : (d : ℕ)
-      → map (items_below s d) (drop (half + 1) ks) ≡ drop (half + 1) (map (items_below s d) ks)
-  lists_drop d = sym (drop-map (items_below s d) (half + 1) ks)
-
   pub seat_left : (d : ℕ) → length ks ≡ child_count d (length xs) → i ≤ half → IsSeat s d xs ks i g
       → IsSeat s d (take half xs) (take (half + 1) ks) i g
       × (seat_place s d (take half xs) (take (half + 1) ks) i g ≡ seat_place s d xs ks i g)
@@ -60,7 +56,7 @@ module _ {T : Type 0} (s : Heap T) (half : ℕ) (xs : List T) (ks : List ℕ) (i
       s d (drop (half + 1) xs) (drop (half + 1) ks) (i - half - 1) g ≡ seat_place s d xs ks i g)
   unfolding IsSeat seat_place
   seat_right d branches large seat =
-      grind (arith, length-drop, length-take-le, length-map, get_or-drop, length-before, take-add, sum_by-append, length-weave, take-map, lists_drop)
+      grind (arith, length-drop, length-take-le, length-map, get_or-drop, length-before, take-add, sum_by-append, length-weave, take-map, drop-map)
 
 -- an edge below a node, or below the one after it, among the two
 module _ {T : Type 0} (s : Heap T) (d n : ℕ) (g : Edge) where
