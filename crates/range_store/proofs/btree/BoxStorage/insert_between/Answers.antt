@@ -128,6 +128,6 @@ returns-in-Some g c =
     record {
       list = list;
       room = omega arith;
-      edge = record { some = omega arith; edge = (taller_edge (c).args.self.now.levels (c).insert_below-inserted.result.side (c).in-Some.split (c).insert_below-inserted.result.edge (c).seen_above.result (c).requires.edge.some (c).args.self.now.whole.tree (rw (c).in-Some.is at (c).insert_below-inserted.ensures.replaces) (c).store_branch-self.ensures (c).seen_above.ensures.turn (c).seen_above.ensures.inside (rw (c).in-Some.is at (c).insert_below-inserted.ensures.edge)).0 };
-      place = (taller_edge (c).args.self.now.levels (c).insert_below-inserted.result.side (c).in-Some.split (c).insert_below-inserted.result.edge (c).seen_above.result (c).requires.edge.some (c).args.self.now.whole.tree (rw (c).in-Some.is at (c).insert_below-inserted.ensures.replaces) (c).store_branch-self.ensures (c).seen_above.ensures.turn (c).seen_above.ensures.inside (rw (c).in-Some.is at (c).insert_below-inserted.ensures.edge)).1 ∙ (rw c.in-Some.is at c.insert_below-inserted.ensures.place);
+      edge = record { some = omega arith; edge = (taller_edge c.args.self.now.levels c.insert_below-inserted.result.side c.in-Some.split c.insert_below-inserted.result.edge c.seen_above.result c.requires.edge.some c.args.self.now.whole.tree (rw c.in-Some.is at c.insert_below-inserted.ensures.replaces) c.store_branch-self.ensures c.seen_above.ensures.turn c.seen_above.ensures.inside (rw c.in-Some.is at c.insert_below-inserted.ensures.edge)).0 };
+      place = (taller_edge c.args.self.now.levels c.insert_below-inserted.result.side c.in-Some.split c.insert_below-inserted.result.edge c.seen_above.result c.requires.edge.some c.args.self.now.whole.tree (rw c.in-Some.is at c.insert_below-inserted.ensures.replaces) c.store_branch-self.ensures c.seen_above.ensures.turn c.seen_above.ensures.inside (rw c.in-Some.is at c.insert_below-inserted.ensures.edge)).1 ∙ (rw c.in-Some.is at c.insert_below-inserted.ensures.place);
     }
