@@ -151,7 +151,7 @@ module _ {T : Type 0} {s t : Heap T} {d n r : ℕ} (half : ℕ) {xs : List T} {k
       (ShapedBut least CAPACITY t d) n (r ∷ []) (held_shape left least (omega (arith, left_length)) (omega (arith, left_length, most_left))
       ((grind (arith, length-take-le)) ∙ ap (child_count d) (sym left_length))
       (All-take (Shaped s d) (half + 1) ks content.shaped)) (All-cons (ShapedBut least CAPACITY t d)
-      r [] (held_shape right least (omega (arith, right_length, least_right, small)) (omega (
+      r [] (held_shape right least (omega (arith, right_length)) (omega (
         arith,
         right_length,
         most_right,

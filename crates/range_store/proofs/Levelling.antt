@@ -97,7 +97,7 @@ module _ {T : Type 0} {s : Heap T} {low n j : ℕ} (x : T) (levelled : IsLevelle
             moved = subst (λ zs. Moves s u (used s (suc (suc low)) n) zs) (sym (held_used holds))
                 (Moves-then (run_moved pair_run)
                 (Writes-moves (flat_map (used t (suc low)) new_ks) written));
-            shape = grind (arith, held_shape, new_length, new_content);
+            shape = grind (arith, new_length, new_content);
           }
 
       pub levelled_edge : (side : ℕ) (g h : Edge) → turn h ≡ j + side → inside h ≡ g

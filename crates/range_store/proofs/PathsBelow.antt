@@ -54,7 +54,7 @@ module _ {T : Type 0} (s : Heap T) where
       omega arith in
       let edge_above : (e : Edge) → IsEdge s (left - 1) kid e → IsEdge s left at (above e) = λ e is.
       below_edge inner lies.shaped i e (above e) (turned e) (within e) low is in
-      grind (arith, pow-suc PATH_BASE (below - left), lies.small, mul-le-mul_left weight few, below_kid inner lies.shaped i low, below_place)
+      grind (arith, pow-suc PATH_BASE (below - left), lies.small, below_kid inner lies.shaped i low, below_place)
 
   -- its first edge as it is seen from above
   pub first_below : {below number left : ℕ} (at path weight ahead : ℕ)

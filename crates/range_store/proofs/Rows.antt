@@ -69,7 +69,7 @@ module _ {T : Type 0} where
     row_written : IsRowWritten many cells new n items
     row_written =
         let long = length-rows many cells in
-        grind (arith, items_held, ext_get_or [] (rows_in many new) (set (rows_in many cells) n items) (length-rows many new ∙ sym (length-set (rows_in many cells) n items ∙ long)) (grind (arith, length-rows, rows_read, items_held, get_or-set_same, get_or-set_other)), length-rows many new, length-rows, rows_read, get_or-set_same, get_or-set_other)
+        grind (arith, items_held, ext_get_or [] (rows_in many new) (set (rows_in many cells) n items) (length-rows many new ∙ sym (length-set (rows_in many cells) n items ∙ long)) (grind (arith, length-rows, rows_read, items_held, get_or-set_same, get_or-set_other)), length-rows, get_or-set_other)
 
   -- the cells of a number were written at once
   all_written : (n : ℕ) (cells : List (Option T)) {part : List (Option T)} {items : List T}
@@ -85,7 +85,7 @@ module _ {T : Type 0} where
       simp (drop_at, take_at) in
       record {
         len =
-            grind (arith, length-append front (part ++ back), length-append part back, length-drop (CAPACITY * n) cells);
+            grind (arith, length-append front (part ++ back), length-drop (CAPACITY * n) cells);
         others = λ m other.
             elim (cases_lt m n) [
               | inl less ↦

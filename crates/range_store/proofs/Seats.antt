@@ -90,7 +90,7 @@ module _ {T : Type 0} (s : Heap T) (d : ℕ) (us ts vs : List ℕ) (xs seps ys :
       map-append f us (ts ++ vs) ∙ ap (λ zs. map f us ++ zs) (map-append f ts vs) in
       let us_many : length (map f us) ≡ i = length-map us f ∙ many in
       let ts_many : length (map f ts) ≡ length seps + 1 = length-map ts f ∙ more in
-      grind (arith, length-before, length-append, length-before seps (map f ts) j (omega arith) (omega arith), take-append-add (map f us) (map f ts ++ map f vs) (i + j) j (omega arith), take-append-le j (map f ts) (map f vs) (omega arith), sum_by-append)
+      grind (arith, length-before, length-append, take-append-add (map f us) (map f ts ++ map f vs) (i + j) j (omega arith), take-append-le j (map f ts) (map f vs) (omega arith), sum_by-append)
 
 pub seat_side : {T : Type 0} (s : Heap T) (d : ℕ) (xs : List T) (ks : List ℕ) (i : ℕ) (g : Edge)
     → IsSeat s (suc d) xs ks i g → i < length ks
