@@ -96,7 +96,16 @@ module _ {T : Type 0} where
       let rest : List (Option T) = replicate (CAPACITY - length more) None in
       let left : CAPACITY - length xs ≡ suc (CAPACITY - length more) = omega arith in
       let many = length-full xs in
-      grind (arith, turned_right, set_at, length-take-le i cells (omega arith), append_assoc (take i cells) (Some item ∷ drop i cells) rest, take-map, drop-map, map-append)
+      grind (
+        arith,
+        turned_right,
+        set_at,
+        length-take-le i cells (omega arith),
+        append_assoc (take i cells) (Some item ∷ drop i cells) rest,
+        take-map,
+        drop-map,
+        map-append,
+      )
 
   -- an item was taken from the others
   module _ {old : List (Option T)} {xs : List T} (i k end : ℕ) (part : List (Option T))

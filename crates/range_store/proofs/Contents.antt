@@ -124,7 +124,8 @@ module _ {T : Type 0} {s t : Heap T} {d n r : ℕ} (half : ℕ) {xs : List T} {k
   halves_listed middle is =
       let next : suc half ≡ half + 1 = omega arith in
       let halves =
-      rw next at (weave_halves xs (map (items_below s d) ks) half middle low (grind (arith, length-map))) in
+      rw next at
+      (weave_halves xs (map (items_below s d) ks) half middle low (grind (arith, length-map))) in
       grind (arith, append-nil, take-map, drop-map, left_items_below, held_items_below right)
 
   right_used : used t (suc d) r ≡ r ∷ flat_map (used s d) vs
@@ -148,7 +149,8 @@ module _ {T : Type 0} {s t : Heap T} {d n r : ℕ} (half : ℕ) {xs : List T} {k
       → length xs ≤ half + 1 + CAPACITY → (least : ℕ) → least ≤ MIN_LEN
       → All (ShapedBut least CAPACITY t d) (n ∷ r ∷ [])
   halves_shape least_left most_left least_right most_right least small = All-cons
-      (ShapedBut least CAPACITY t d) n (r ∷ []) (held_shape left least (omega (arith, left_length)) (omega (arith, left_length, most_left))
+      (ShapedBut least CAPACITY t d) n (r ∷ [])
+      (held_shape left least (omega (arith, left_length)) (omega (arith, left_length, most_left))
       ((grind (arith, length-take-le)) ∙ ap (child_count d) (sym left_length))
       (All-take (Shaped s d) (half + 1) ks content.shaped)) (All-cons (ShapedBut least CAPACITY t d)
       r [] (held_shape right least (omega (arith, right_length)) (omega (

@@ -39,7 +39,8 @@ module _ {T : Type 0} (p : T → Bool) (s : Heap T) where
 
   pub descends : {below number left : ℕ} (at path weight : ℕ) → left ≢ 0
       → Descent below number left at path weight → (i : ℕ)
-      → i ≡ count_by p (node_items s at) → Descent below number (left - 1) (node_child s at i) (path + weight * i) (weight * PATH_BASE)
+      → i ≡ count_by p (node_items s at) → Descent below number (left - 1) (node_child s at i)
+      (path + weight * i) (weight * PATH_BASE)
   descends {below} {number} {left} at path weight inner d i count =
       let low : i ≤ length (node_items s at) =
       omega (arith, count_by-le-length p (node_items s at)) in

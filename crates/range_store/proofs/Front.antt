@@ -79,7 +79,8 @@ module _ {X : Type 0} (p : X → Bool) where
 
 -- where a search stands that knows that `low` items pass, and `left` more may, with the steps that
 -- were counted
-pub record Narrowed {X : Type 0} (p : X → Bool) (xs : List X) (low left first now : ℕ) : Type 0 where
+pub record Narrowed {X : Type 0} (p : X → Bool) (xs : List X)
+    (low left first now : ℕ) : Type 0 where
   pub within : low + left ≤ length xs
   pub at_least : low ≤ count_by p xs
   pub at_most : count_by p xs ≤ low + left

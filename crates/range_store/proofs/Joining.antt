@@ -96,7 +96,8 @@ module _ {T : Type 0} {s : Heap T} {d l r : ℕ} (x : T) (pair : IsPair s d l r)
 
     pub shared_left : Holds s u d l (take half xs) (take (half + 1) ks)
     shared_left =
-        held_after first (second.others l pair_apart) (part_agree s u d (half + 1) ks shared_agree).0
+        held_after first (second.others l pair_apart)
+        (part_agree s u d (half + 1) ks shared_agree).0
 
     pub shared_right : Holds s u d r (drop (half + 1) xs) (drop (half + 1) ks)
     shared_right = held_after second refl (part_agree s u d (half + 1) ks shared_agree).1

@@ -13,7 +13,8 @@ use Rattle.range_store.proofs.Below.{used_is, items_below_leaf}
 use Rattle.range_store.proofs.Moves.{Moves-none}
 use Rattle.range_store.proofs.Contents.{bare_content}
 
-module _ {T : Type 0} {s : Heap T} {n : ℕ} (i : ℕ) (item : T) (shaped : ShapedBut 1 CAPACITY s 0 n) where
+module _ {T : Type 0} {s : Heap T} {n : ℕ} (i : ℕ) (item : T)
+    (shaped : ShapedBut 1 CAPACITY s 0 n) where
   pub leaf_content : Owned s 1 n
       → IsContent s 0 n (insert (node_items s n) i item) (node_children s n)
   leaf_content owned = bare_content (insert (node_items s n) i item) shaped owned

@@ -38,7 +38,8 @@ module _ {T : Type 0} (s : Heap T) where
 
   pub lies_in_child : {below number left : ℕ} (at path weight ahead : ℕ) → left ≢ 0
       → LiesBelow below number left at path weight ahead → (i : ℕ)
-      → i ≤ length (node_items s at) → LiesBelow below number (left - 1) (node_child s at i) (path + weight * i) (weight * PATH_BASE) (ahead + ahead_of
+      → i ≤ length (node_items s at) → LiesBelow below number (left - 1) (node_child s at i)
+      (path + weight * i) (weight * PATH_BASE) (ahead + ahead_of
       left at i)
   lies_in_child {below} {number} {left} at path weight ahead inner lies i low =
       let kid = node_child s at i in
@@ -54,7 +55,13 @@ module _ {T : Type 0} (s : Heap T) where
       omega arith in
       let edge_above : (e : Edge) → IsEdge s (left - 1) kid e → IsEdge s left at (above e) = λ e is.
       below_edge inner lies.shaped i e (above e) (turned e) (within e) low is in
-      grind (arith, pow-suc PATH_BASE (below - left), lies.small, below_kid inner lies.shaped i low, below_place)
+      grind (
+        arith,
+        pow-suc PATH_BASE (below - left),
+        lies.small,
+        below_kid inner lies.shaped i low,
+        below_place,
+      )
 
   -- its first edge as it is seen from above
   pub first_below : {below number left : ℕ} (at path weight ahead : ℕ)

@@ -21,7 +21,8 @@ pub sizes-append : {T : Type 0} (s : Heap T) (d : ℕ) (us vs : List ℕ)
 sizes-append s d us vs = grind (arith, map-append, sum_by-append)
 
 pub items_below_size : {T : Type 0} {least most : ℕ} {s : Heap T} {d n : ℕ}
-    → ShapedBut least most s d n → length (items_below s (suc d) n) ≡ length (node_items s n) + sizes s d (node_children s n)
+    → ShapedBut least most s d n → length (items_below s (suc d) n) ≡ length
+    (node_items s n) + sizes s d (node_children s n)
 items_below_size shaped = grind (arith, weave_items_below, length-weave, length-map)
 
 children_le_from : {T : Type 0} (s : Heap T) (d : ℕ)

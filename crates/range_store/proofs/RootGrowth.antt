@@ -103,7 +103,8 @@ pub taller_root : {T : Type 0} {s t u : Heap T} (levels : ℕ) {root n : ℕ} (s
     {list : List T} → 0 < levels → IsTree s levels root
     → Replaces s t (levels - 1) root (Some split) list
     → Stores t u n (split.middle ∷ []) (root ∷ split.right ∷ []) → IsGrown u (levels + 1) n list
-taller_root {T} {s} {t} {u} zero {root} {n} split {list} some tree step stored = absurd (omega arith)
+taller_root {T} {s} {t} {u} zero {root} {n} split {list} some tree step stored =
+    absurd (omega arith)
 taller_root {T} {s} {t} {u} (suc d) {root} {n} split {list} some tree step' stored =
     let level : suc d - 1 ≡ d = omega arith in
     let step = rw level at step' in
@@ -118,7 +119,8 @@ pub taller_edge : {T : Type 0} {s t u : Heap T} (levels : ℕ) {root n : ℕ} (s
     (suc (levels - 1)) (split.middle ∷ []) (root ∷ split.right ∷ []) side g)
 taller_edge {T} {s} {t} {u} zero {root} {n} side split {list} g h some tree step stored at within
     seat = absurd (omega arith)
-taller_edge {T} {s} {t} {u} (suc d) {root} {n} side split {list} g h some tree step' stored at within seat' =
+taller_edge {T} {s} {t} {u}
+    (suc d) {root} {n} side split {list} g h some tree step' stored at within seat' =
     let level : suc d - 1 ≡ d = omega arith in
     let step = rw level at step' in
     grind (arith, taller_seat split tree step stored side g h at within (rw level at seat'))

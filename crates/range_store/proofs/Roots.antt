@@ -28,7 +28,17 @@ pub empty_root_leaves_nothing : {T : Type 0} {s t : Heap T} (levels : ℕ) {root
     → IsLooseTree s levels root → length (node_items s root) ≡ 0 → Removes s t root
     → IsTree t 0 0 × (items_below t 0 0 ≡ items_below s levels root)
 empty_root_leaves_nothing levels one loose empty gone =
-    grind (arith, used_leaf, occurrences_itself, occurrences_other, used_none, occurrences-nil, items_below_none, nil_from_length, items_below_leaf)
+    grind (
+      arith,
+      used_leaf,
+      occurrences_itself,
+      occurrences_other,
+      used_none,
+      occurrences-nil,
+      items_below_none,
+      nil_from_length,
+      items_below_leaf,
+    )
 
 -- a taller tree whose root has one child alone
 module _ {T : Type 0} {s t : Heap T} {e root : ℕ} (loose : IsLooseTree s (suc (suc e)) root)

@@ -57,7 +57,21 @@ moved_last rows now from to left from_there to_there apart some few was item is 
     let xs = take left source in
     let tail = held ++ drop left source in
     let next : suc (left - 1) ≡ left = omega arith in
-    grind (arith, less_left rows from to from_there to_there apart now xs tail was (left - 1) (omega (arith, length-take-le left source few)), length-take-le left source few, take-take, left_row, get_or-take, set-set, right_row, insert-append_left, insert_end, append_assoc, drop-cons)
+    grind (
+      arith,
+      less_left rows from to from_there to_there apart now xs tail was (left - 1)
+          (omega (arith, length-take-le left source few)),
+      length-take-le left source few,
+      take-take,
+      left_row,
+      get_or-take,
+      set-set,
+      right_row,
+      insert-append_left,
+      insert_end,
+      append_assoc,
+      drop-cons,
+    )
 
 -- a full row was cut in two, and an item put among those of one half
 module _ {T : Type 0} (rows one two three : List (List T)) (l r : ℕ) (l_there : l < length rows)

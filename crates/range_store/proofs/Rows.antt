@@ -69,7 +69,15 @@ module _ {T : Type 0} where
     row_written : IsRowWritten many cells new n items
     row_written =
         let long = length-rows many cells in
-        grind (arith, items_held, ext_get_or [] (rows_in many new) (set (rows_in many cells) n items) (length-rows many new ∙ sym (length-set (rows_in many cells) n items ∙ long)) (grind (arith, length-rows, rows_read, items_held, get_or-set_same, get_or-set_other)), length-rows, get_or-set_other)
+        grind (
+          arith,
+          items_held,
+          ext_get_or [] (rows_in many new) (set (rows_in many cells) n items)
+              (length-rows many new ∙ sym (length-set (rows_in many cells) n items ∙ long))
+              (grind (arith, length-rows, rows_read, items_held, get_or-set_same, get_or-set_other)),
+          length-rows,
+          get_or-set_other,
+        )
 
   -- the cells of a number were written at once
   all_written : (n : ℕ) (cells : List (Option T)) {part : List (Option T)} {items : List T}
@@ -167,7 +175,8 @@ module _ {T : Type 0} where
         let long : length front ≡ CAPACITY * m =
         grind (arith, length-append, length-replicate) in
         ap (λ cs. cells_of cs m) parts
-        ∙ ap (take CAPACITY) (drop_at front (replicate (missing - skipped) None) (CAPACITY * m) long)
+        ∙ ap (take CAPACITY)
+        (drop_at front (replicate (missing - skipped) None) (CAPACITY * m) long)
         ∙ take-replicate CAPACITY (missing - skipped) None (omega arith)
 
     pub topped_rows : IsRows many topped

@@ -56,7 +56,19 @@ module _ {T : Type 0} (s : Heap T) (half : ℕ) (xs : List T) (ks : List ℕ) (i
       s d (drop (half + 1) xs) (drop (half + 1) ks) (i - half - 1) g ≡ seat_place s d xs ks i g)
   unfolding IsSeat seat_place
   seat_right d branches large seat =
-      grind (arith, length-drop, length-take-le, length-map, get_or-drop, length-before, take-add, sum_by-append, length-weave, take-map, drop-map)
+      grind (
+        arith,
+        length-drop,
+        length-take-le,
+        length-map,
+        get_or-drop,
+        length-before,
+        take-add,
+        sum_by-append,
+        length-weave,
+        take-map,
+        drop-map,
+      )
 
 -- an edge below a node, or below the one after it, among the two
 module _ {T : Type 0} (s : Heap T) (d n : ℕ) (g : Edge) where
@@ -90,7 +102,14 @@ module _ {T : Type 0} (s : Heap T) (d : ℕ) (us ts vs : List ℕ) (xs seps ys :
       map-append f us (ts ++ vs) ∙ ap (λ zs. map f us ++ zs) (map-append f ts vs) in
       let us_many : length (map f us) ≡ i = length-map us f ∙ many in
       let ts_many : length (map f ts) ≡ length seps + 1 = length-map ts f ∙ more in
-      grind (arith, length-before, length-append, take-append-add (map f us) (map f ts ++ map f vs) (i + j) j (omega arith), take-append-le j (map f ts) (map f vs) (omega arith), sum_by-append)
+      grind (
+        arith,
+        length-before,
+        length-append,
+        take-append-add (map f us) (map f ts ++ map f vs) (i + j) j (omega arith),
+        take-append-le j (map f ts) (map f vs) (omega arith),
+        sum_by-append,
+      )
 
 pub seat_side : {T : Type 0} (s : Heap T) (d : ℕ) (xs : List T) (ks : List ℕ) (i : ℕ) (g : Edge)
     → IsSeat s (suc d) xs ks i g → i < length ks

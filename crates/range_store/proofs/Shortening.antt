@@ -70,7 +70,21 @@ module _ {T : Type 0} {s t : Heap T} {b n i : ℕ} {list : List T}
   kid_listed =
       let L = map (items_below s b) us in
       let R = map (items_below s b) vs in
-      grind (arith, weave_splice (take i xs) [] (drop i xs) L (items_below t b kid) [] R (grind (arith, length-take-le, length-map)) refl, length-take-le, length-map, append-nil (items_below t b kid), take-map (items_below s b) i ks, drop-map (items_below s b) (i + 1) ks, weave_items_below t b n, kid_kept, take-append-drop i xs, run_lists kid_run, kid_run)
+      grind (
+        arith,
+        weave_splice (take i xs) [] (drop i xs) L (items_below t b kid) [] R
+            (grind (arith, length-take-le, length-map)) refl,
+        length-take-le,
+        length-map,
+        append-nil (items_below t b kid),
+        take-map (items_below s b) i ks,
+        drop-map (items_below s b) (i + 1) ks,
+        weave_items_below t b n,
+        kid_kept,
+        take-append-drop i xs,
+        run_lists kid_run,
+        kid_run,
+      )
 
   -- what stands before the child
   pub kid_front : length (before_child t b n i) ≡ length (before xs lists i)

@@ -19,7 +19,8 @@ front_child (suc below) ks zs ls others =
     let some : slice_get ls (length zs) ≡ Some at = grind (arith, slice_get-get_or) in
     grind (arith, drop_more, drop_all)
 
-module _ {T : Type 0} {s : Heap T} (t u v : Heap T) {n i : ℕ} (pair : HasPair s n i) (down up : T) where
+module _ {T : Type 0} {s : Heap T} (t u v : Heap T) {n i : ℕ} (pair : HasPair s n i)
+    (down up : T) where
   abbrev l : ℕ
   l = node_child s n i
 

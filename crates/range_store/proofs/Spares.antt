@@ -26,7 +26,11 @@ module _ {X : Type 0} where
       elim (cases_eq k n) [
         | inl same ↦ rw same (grind (arith, get_or-set_same, get_or_past, length-set))
         | inr other ↦
-            grind (arith, get_or-set_other, without_here ns slots k (omega (arith, occurrences-cons, occurrences_other)))
+            grind (
+              arith,
+              get_or-set_other,
+              without_here ns slots k (omega (arith, occurrences-cons, occurrences_other)),
+            )
       ]
 
   without_other : (ns : List ℕ) (slots : List (Option X)) (k : ℕ) → occurrences k ns ≡ 0
@@ -211,7 +215,8 @@ module _ {T : Type 0} {old new : Slab Node} {was now : List (List T)} {spares : 
   more_whole : (left : List ℕ)
       → ((k : ℕ) → occurrences k left ≡ occurrences k (n ∷ []) + occurrences k spares)
       → occurrences n spares ≡ 0 → items ≡ [] → node.children.items ≡ [] → IsWhole new now left
-  more_whole left told apart no_items no_children = grind (arith, occurrences_other, occurrences_itself)
+  more_whole left told apart no_items no_children =
+      grind (arith, occurrences_other, occurrences_itself)
 
   module _ (len : slab_len new ≡ slab_len old) where
     -- a node was written

@@ -59,7 +59,11 @@ build-child-requires g t c κs inside =
     let some : 0 < c.args.below = omega (arith, c.if-below-eq0.false) in
     let was = c.loop-index.invariant in
     let branch = branch_is some c.requires.width c.requires.least c.requires.most in
-    let share = next_share c.loop-index.index c.loop-index-test.true was.shares in grind (arith, length-append, cut_enough)
+    let share = next_share c.loop-index.index c.loop-index-test.true was.shares in grind (
+      arith,
+      length-append,
+      cut_enough,
+    )
 
 pub put-requires : goal.put-requires
 put-requires g t c =

@@ -44,4 +44,8 @@ returns g c =
     let stands = standing (row_of (rows_in c.self.inside.many c.self.inside.cells.items)
     c.args.number) c.args.index within in
     let read = c.index_mut.ensures.value
-    ∙ cell_in c.self.invariant.0 c.args.number less within stands _ in grind (arith, cell_written, same_Some)
+    ∙ cell_in c.self.invariant.0 c.args.number less within stands _ in grind (
+      arith,
+      cell_written,
+      same_Some,
+    )
