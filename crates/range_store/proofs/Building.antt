@@ -15,7 +15,7 @@ use Rattle.range_store.specs.Occurrences.{occurrences-append, occurrences-cons, 
 use Rattle.range_store.specs.Weave.{weave_cut}
 use Rattle.range_store.proofs.Below.{Shaped-from_but, child_count_inner, items_below_leaf, used_is, used_leaf, weave_items_below}
 use Rattle.range_store.proofs.Contents.{Holds, held_items_below, held_used, held_shape, written_holds, held_new}
-use Rattle.range_store.proofs.Moves.{Moves-agree, Moves-beside, Moves-like, Moves-then, Stores-moves, Writes-moves}
+use Rattle.range_store.proofs.Moves.{Moves-agree, Moves-then, Stores-moves, Writes-moves}
 use Rattle.range_store.proofs.Moved.{moved_all}
 use Rattle.range_store.proofs.Rank.{used_none}
 use Rattle.range_store.proofs.Room.{used_le}

@@ -14,7 +14,6 @@ use Rattle.range_store.specs.Nodes.{items_below, ShapedBut}
 use Rattle.range_store.proofs.Below.{items_below_leaf}
 use Rattle.range_store.proofs.Edges.{leaf_edge, leaf_place}
 use Rattle.range_store.proofs.Searching.{kid_falls, search_step}
-use Rattle.range_store.proofs.Paths.{level_of_children}
 use Rattle.range_store.proofs.PathsBelow.{LiesBelow, lies_in_child}
 
 module _ {T : Type 0} (p : T → Bool) (s : Heap T) where

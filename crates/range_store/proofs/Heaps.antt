@@ -2,7 +2,7 @@
 use Rattle.std.proofs.Common.{◌≡◌, ◌≢◌, ℕ, List, Option, Some, None, sym, arith}
 use Rattle.std.proofs.Math.ListN.{set}
 use Rattle.std.proofs.lemmas.List.{get_or-set_other}
-use Rattle.range_store.specs.Heap.{Heap, Content, node_of, HasNode, with_item, Writes, Removes}
+use Rattle.range_store.specs.Heap.{Heap, Content, HasNode, Writes, Removes}
 use Rattle.range_store.proofs.Slots.{slot_count, slot_read}
 
 module _ {T : Type 0} where

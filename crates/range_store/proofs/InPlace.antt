@@ -1,15 +1,14 @@
 -- A leaf with other items, below nodes that stay as they were.
-use Rattle.std.proofs.Common.{◌≡◌, ◌≢◌, ℕ, zero, suc, ◌+◌, ◌-◌, ◌<◌, ◌≤◌, List, [], ◌++◌, length, sym, ap, ◌∙◌, arith}
+use Rattle.std.proofs.Common.{◌≡◌, ℕ, zero, suc, ◌+◌, ◌-◌, ◌<◌, ◌≤◌, List, [], ◌++◌, length, sym, ap, ◌∙◌, arith}
 use Rattle.std.specs.List.{insert, remove}
 use Rattle.std.proofs.lemmas.List.{append-nil, length-append, nil_from_length}
 use Rattle.std.proofs.lemmas.List.Edits.{length-insert, length-remove}
-use Rattle.range_store.specs.Heap.{Heap, node_of, Writes, node_items, node_children, node_child}
+use Rattle.range_store.specs.Heap.{Heap, Writes, node_items, node_children, node_child}
 use Rattle.range_store.specs.declared.btree.nodes.TheConstants.{CAPACITY, MIN_LEN}
 use Rattle.range_store.specs.declared.btree.BoxStorage.{BoxStorage}
 use Rattle.range_store.specs.declared.btree.path.Edge.{Edge}
 use Rattle.range_store.specs.Nodes.{items_below, Shaped, ShapedBut, Owned, IsTree, before_child, after_child}
 use Rattle.range_store.specs.Edges.{turn, inside, IsEdge, place}
-use Rattle.range_store.specs.Contents.{IsContent}
 use Rattle.range_store.specs.Holding.{box_items, IsBoxEdge, box_place}
 use Rattle.range_store.proofs.Below.{items_below_at, items_below_leaf, shaped_within_wider, Shaped-from_but}
 use Rattle.range_store.proofs.Contents.{IsRewritten, Holds, written_holds, held_items_below, held_used, bare_content}

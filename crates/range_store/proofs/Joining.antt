@@ -8,7 +8,7 @@ use Rattle.range_store.specs.Heap.{Heap, node_of, Writes, Removes, node_items, n
 use Rattle.range_store.specs.declared.btree.nodes.Split.{Split}
 use Rattle.range_store.specs.declared.btree.nodes.TheConstants.{CAPACITY, MIN_LEN}
 use Rattle.range_store.specs.declared.btree.path.Edge.{Edge}
-use Rattle.range_store.specs.Nodes.{weave, items_below, used, Shaped, here}
+use Rattle.range_store.specs.Nodes.{weave, items_below, used, Shaped}
 use Rattle.range_store.specs.Edges.{turn, inside, seat_of, IsEdge, place, IsSeat, seat_place}
 use Rattle.range_store.specs.Contents.{IsContent}
 use Rattle.range_store.specs.Occurrences.{occurrences, occurrences-append, occurrences-cons, occurrences_itself}

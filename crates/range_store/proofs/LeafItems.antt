@@ -9,7 +9,7 @@ use Rattle.range_store.specs.Rows.{full_cells, HoldsItems}
 use Rattle.range_store.specs.declared.btree.BoxStorage.{BoxStorage}
 use Rattle.range_store.specs.declared.btree.path.Edge.{Edge}
 use Rattle.range_store.proofs.Cells.{items_in_full, length-full, standing}
-use Rattle.range_store.proofs.Whole.{edge_within, leaf_item, tree_beside, tree_leaf}
+use Rattle.range_store.proofs.Whole.{edge_within, leaf_item, tree_beside}
 
 module _ {T : Type 0} where
   full_cells_full : (xs : List T) → AreFull (full_cells xs)

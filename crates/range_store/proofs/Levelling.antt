@@ -1,6 +1,6 @@
 -- A node after two of its children were levelled.
 use Rattle.std.proofs.Common.{◌≡◌, ℕ, suc, ◌+◌, ◌<◌, List, [], ◌∷◌, ◌++◌, length, get_or, take, drop, map, refl, ◌∙◌, arith, Option, Some, None, sym, ap, subst}
-use Rattle.std.specs.List.{flat_map, sum_by}
+use Rattle.std.specs.List.{flat_map}
 use Rattle.std.proofs.lemmas.List.{append-nil, append_assoc, length-append, length-map, length-take-le, length-drop, take_more, take-map, drop_more}
 use Rattle.range_store.specs.Heap.{Heap, Writes, node_items, node_children, node_child}
 use Rattle.range_store.specs.declared.btree.nodes.Split.{Split}
@@ -8,11 +8,11 @@ use Rattle.range_store.specs.declared.btree.path.Edge.{Edge}
 use Rattle.range_store.specs.Nodes.{weave, rest_of, front_of, before, items_below, used, tops, separators, Shrinks, IsLevelled, Moves}
 use Rattle.range_store.specs.Edges.{turn, inside, IsEdge, place, IsSeat, seat_place}
 use Rattle.range_store.specs.Contents.{IsContent}
-use Rattle.range_store.specs.Occurrences.{occurrences-append, occurrences-cons, occurrences}
+use Rattle.range_store.specs.Occurrences.{occurrences-append, occurrences-cons}
 use Rattle.range_store.specs.Weave.{list_splits_at, weave_splice, length-before}
 use Rattle.range_store.proofs.Below.{weave_items_below}
 use Rattle.range_store.proofs.Moves.{Moves-then, Writes-moves}
-use Rattle.range_store.proofs.Contents.{IsPair, Rejoins, held_items_below, held_used, held_shape, written_holds, written_agree}
+use Rattle.range_store.proofs.Contents.{IsPair, Rejoins, held_items_below, held_used, written_holds, written_agree}
 use Rattle.range_store.proofs.Growing.{Runs, tops_many, weave_tops, run_moved, run_content, run_lists, same_before, used_old}
 use Rattle.range_store.proofs.Seats.{seat_run, seat_written}
 

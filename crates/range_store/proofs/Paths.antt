@@ -6,7 +6,7 @@ use Rattle.range_store.specs.declared.btree.path.Edge.{Edge}
 use Rattle.range_store.specs.Nodes.{items_below, ShapedBut, before_child}
 use Rattle.range_store.specs.Edges.{turn, inside, is_start, IsEdge, place, home_of}
 use Rattle.range_store.specs.Written.{place_of_start, start_of_place}
-use Rattle.range_store.proofs.Below.{children_length, items_below_at, length-before_more, none_after_last, shaped_within_wider}
+use Rattle.range_store.proofs.Below.{children_length, items_below_at, length-before_more, none_after_last}
 use Rattle.range_store.proofs.Edges.{edge_above, place_above, place_inside, edge_inside, turn_within, place_within}
 use Rattle.range_store.proofs.Rank.{kid_shaped}
 use Rattle.std.proofs.lemmas.List.{length-append}

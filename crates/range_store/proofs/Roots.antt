@@ -2,11 +2,9 @@
 use Rattle.std.proofs.Common.{◌≡◌, ◌≢◌, ℕ, zero, suc, ◌+◌, ◌-◌, ◌<◌, ◌≤◌, List, [], ◌∷◌, length, get_or, refl, ap, arith}
 use Rattle.std.proofs.lemmas.List.{append-nil, nil_from_length}
 use Rattle.range_store.specs.Heap.{Heap, Removes, node_items, node_children, node_child}
-use Rattle.range_store.specs.declared.btree.nodes.TheConstants.{CAPACITY}
 use Rattle.range_store.specs.Occurrences.{occurrences, occurrences-cons, occurrences-nil, occurrences_itself, occurrences_other}
 use Rattle.range_store.specs.Nodes.{items_below, used, here, Shaped, IsTree, IsLooseTree, Shrinks}
-use Rattle.range_store.proofs.Contents.{IsRewritten}
-use Rattle.range_store.proofs.Below.{weave_items_below, used_is, used_leaf, items_below_leaf, Shaped-but, shaped_within_wider}
+use Rattle.range_store.proofs.Below.{weave_items_below, used_is, used_leaf, items_below_leaf, Shaped-but}
 use Rattle.range_store.specs.Frame.{AgreeAt, same_below, SameBelow}
 use Rattle.range_store.proofs.Edges.{same_edge, edge_inside, turn_within, place_inside}
 use Rattle.range_store.proofs.Rank.{items_below_none, used_none}

@@ -2,13 +2,13 @@
 -- joined.
 use Rattle.std.proofs.Common.{◌≡◌, ◌≢◌, ◌⊎◌, ℕ, zero, suc, ◌+◌, ◌-◌, ◌^◌, ◌<◌, ◌≤◌, List, [], ◌∷◌, ◌++◌, length, get_or, take, drop, take_all, map, refl, ap, ◌∙◌, inl, inr, arith, Some, None}
 use Rattle.std.proofs.Math.ListN.{set, length-set}
-use Rattle.std.specs.List.{remove, flat_map}
+use Rattle.std.specs.List.{remove}
 use Rattle.std.proofs.lemmas.List.{length-append, length-take-le, get_or_default, get_or-append-add, get_or_append_left, drop_all, take-append-le, drop-append-le}
 use Rattle.range_store.specs.Heap.{Heap, child_count, HasPair, RotatesLeft, RotatesRight, Merges, Writes, Removes, node_items, node_children, node_child}
 use Rattle.range_store.specs.declared.btree.nodes.Split.{Split}
 use Rattle.range_store.specs.declared.btree.nodes.TheConstants.{CAPACITY, MIN_LEN}
 use Rattle.range_store.specs.declared.btree.path.Edge.{Edge}
-use Rattle.range_store.specs.Nodes.{before, items_below, Shrinks, IsLevelled, child_size, used}
+use Rattle.range_store.specs.Nodes.{before, items_below, Shrinks, IsLevelled, child_size}
 use Rattle.range_store.specs.Edges.{turn, inside, seat_of, IsEdge, place, IsSeat, seat_place}
 use Rattle.range_store.specs.Written.{set_parts, item_behind, some_of}
 use Rattle.range_store.specs.Frame.{used_kid_le}

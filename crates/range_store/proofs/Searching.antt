@@ -5,7 +5,7 @@ use Rattle.std.proofs.lemmas.List.Sums.{count_by-le-length}
 use Rattle.range_store.specs.Heap.{Heap, child_count, node_items, node_children, node_child}
 use Rattle.range_store.specs.Falling.{Falls}
 use Rattle.range_store.specs.Nodes.{weave, rest_of, before, items_below, ShapedBut, child_lists, before_child}
-use Rattle.range_store.proofs.Below.{children_length, lists_length, items_below_at, weave_items_below, child_count_cases}
+use Rattle.range_store.proofs.Below.{lists_length, items_below_at, weave_items_below, child_count_cases}
 use Rattle.range_store.proofs.Front.{falls_parts, count-append, count-yes}
 
 module _ {T : Type 0} (p : T → Bool) where

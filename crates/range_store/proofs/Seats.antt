@@ -1,5 +1,5 @@
 -- Edges in a node that is to be written, by their seats.
-use Rattle.std.proofs.Common.{◌≡◌, ℕ, zero, suc, ◌+◌, ◌-◌, ◌^◌, ◌<◌, ◌≤◌, List, ◌++◌, length, get_or, take, drop, map, refl, sym, ap, ◌∙◌, arith, Option, Some, take-add, take-take, get_or-take, get_or-drop}
+use Rattle.std.proofs.Common.{◌≡◌, ℕ, zero, suc, ◌+◌, ◌-◌, ◌^◌, ◌<◌, ◌≤◌, List, ◌++◌, length, get_or, take, drop, map, refl, ap, ◌∙◌, arith, Option, Some, take-add, take-take, get_or-take, get_or-drop}
 use Rattle.std.specs.List.{flat_map, sum_by}
 use Rattle.std.proofs.lemmas.List.{length-append, length-map, length-take-le, length-drop, take-map, drop-map, map-append, get_or-append-add, get_or_append_left, take-append-le}
 use Rattle.std.proofs.lemmas.List.Sums.{sum_by-append}

@@ -4,11 +4,10 @@ use Rattle.std.specs.List.{All, remove}
 use Rattle.std.proofs.lemmas.List.{append-nil, length-map, length-take-le, take-map, drop-map, take-append-drop, nil_from_length}
 use Rattle.std.proofs.lemmas.List.Edits.{remove-append_left, remove-append_right, length-remove}
 use Rattle.std.proofs.lemmas.List.Elements.{All-append, All-cons, All-take, All-drop}
-use Rattle.range_store.specs.Heap.{Heap, node_of, Writes, node_items, node_children, node_child, items_of, children_of}
+use Rattle.range_store.specs.Heap.{Heap, node_of, Writes, node_items, node_children, node_child}
 use Rattle.range_store.specs.declared.btree.nodes.TheConstants.{CAPACITY, MIN_LEN}
-use Rattle.range_store.specs.Nodes.{before, after, items_below, used, Shaped, ShapedBut, Owned, Moves, Shrinks, MayBeRebalanced, child_lists, before_child, weave, rest_of, front_of}
+use Rattle.range_store.specs.Nodes.{before, after, items_below, used, Shaped, ShapedBut, Owned, Moves, Shrinks, MayBeRebalanced, child_lists, before_child}
 use Rattle.range_store.specs.Weave.{list_splits_at, weave_splice}
-use Rattle.range_store.specs.Frame.{IsNode-same}
 use Rattle.range_store.proofs.Below.{children_length, items_below_at, weave_items_below, used_is, items_below_leaf}
 use Rattle.range_store.proofs.Moves.{Moves-then, Writes-moves}
 use Rattle.range_store.proofs.Growing.{Runs, run_kept, run_moved, run_lists, same_before, same_after}

@@ -1,5 +1,5 @@
 -- Numbered slots, each with something in it or nothing, of which one is filled anew.
-use Rattle.std.proofs.Common.{◌≡◌, ℕ, ◌+◌, ◌<◌, List, length, get_or, cond, Option, None, is_some, IsSome, count_by, arith}
+use Rattle.std.proofs.Common.{◌≡◌, ℕ, ◌+◌, List, get_or, cond, Option, None, is_some, IsSome, count_by, arith}
 use Rattle.std.proofs.Math.ListN.{set}
 use Rattle.std.proofs.lemmas.List.{get_or-set_same, get_or_past}
 use Rattle.std.proofs.lemmas.List.Sums.{sum_by-set}

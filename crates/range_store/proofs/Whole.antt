@@ -3,12 +3,12 @@ use Rattle.std.proofs.Common.{◌≡◌, ℕ, zero, suc, ◌+◌, ◌-◌, ◌<�
 use Rattle.std.proofs.Math.Nat.{pow-le-pow_right}
 use Rattle.std.proofs.lemmas.Bool.{cases_lt}
 use Rattle.range_store.specs.Heap.{Heap, node_items}
-use Rattle.range_store.specs.declared.btree.nodes.TheConstants.{CAPACITY, MIN_LEN}
+use Rattle.range_store.specs.declared.btree.nodes.TheConstants.{MIN_LEN}
 use Rattle.range_store.specs.declared.btree.path.TheConstants.{MAX_LEVELS}
 use Rattle.range_store.specs.declared.btree.BoxStorage.{BoxStorage}
 use Rattle.range_store.specs.declared.btree.path.Edge.{Edge}
 use Rattle.range_store.specs.Holding.{box_items, IsBoxEdge, box_place, good_item}
-use Rattle.range_store.specs.Nodes.{IsRoomy, ShapedBut}
+use Rattle.range_store.specs.Nodes.{IsRoomy}
 use Rattle.range_store.proofs.Edges.{place_within}
 use Rattle.range_store.proofs.InLeaf.{IsLeafOf, leaf_of_edge, leaf_beside, leaf_home, place_index}
 use Rattle.range_store.proofs.Levels.{tree_lower}

@@ -1,6 +1,5 @@
-use Rattle.std.proofs.Common.{◌≡◌, ◌+◌, suc, length, ap, sym, ◌∙◌, arith}
-use Rattle.std.specs.Vec.Iter.{into_iter_items}
-use Rattle.range_store.specs.Nodes.{items_below, IsTree}
+use Rattle.std.proofs.Common.{◌≡◌, ◌+◌, length, ap, sym, ◌∙◌, arith}
+use Rattle.range_store.specs.Nodes.{IsTree}
 use Rattle.range_store.proofs.Building.{all_taken, built_tree}
 use Rattle.range_store.proofs.Levels.{empty_levels, has_levels}
 use Rattle.range_store.proofs.Rank.{nothing_stored}

@@ -1,4 +1,4 @@
-use Rattle.std.proofs.Common.{◌≡◌, suc, ◌-◌, ◌<◌, sym, ◌∙◌, arith}
+use Rattle.std.proofs.Common.{arith}
 use Rattle.range_store.specs.Written.{root_shaped}
 use Rattle.range_store.proofs.Paths.{not_start, stands_first}
 use Rattle.range_store.proofs.Whole.{tree_is_not_too_deep}

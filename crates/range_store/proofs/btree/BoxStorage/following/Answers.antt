@@ -1,6 +1,4 @@
-use Rattle.std.proofs.Common.{◌≡◌, ◌+◌, length, refl, arith}
-use Rattle.range_store.specs.Heap.{node_items}
-use Rattle.range_store.specs.Holding.{box_place}
+use Rattle.std.proofs.Common.{◌+◌, refl, arith}
 use Rattle.range_store.specs.Written.{root_shaped}
 use Rattle.range_store.proofs.InLeaf.{place_index}
 use Rattle.range_store.proofs.Positions.{next_from}

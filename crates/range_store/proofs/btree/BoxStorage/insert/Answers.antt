@@ -1,11 +1,9 @@
-use Rattle.std.proofs.Common.{◌≡◌, ◌∷◌, [], refl, length, ap, sym, arith}
-use Rattle.range_store.specs.Nodes.{items_below, IsTree}
+use Rattle.std.proofs.Common.{arith}
 use Rattle.range_store.proofs.Edges.{leaf_edge, leaf_place}
 use Rattle.range_store.proofs.Levels.{empty_levels, has_levels}
 use Rattle.range_store.proofs.RootGrowth.{first_tree}
 use Rattle.range_store.proofs.Rank.{first_room}
 use Rattle.range_store.proofs.btree.BoxStorage.insert.Goals as goal
-use Rattle.range_store.proofs.btree.BoxStorage.insert.Given.{Over}
 use Rattle.range_store.proofs.btree.BoxStorage.insert.Goals.{After-store_leaf-self}
 
 pub store_leaf-self-requires : goal.store_leaf-self-requires

@@ -1,7 +1,6 @@
-use Rattle.std.proofs.Common.{◌≡◌, suc, ◌+◌, ◌-◌, [], ◌∷◌, length, refl, ◌∙◌, arith}
+use Rattle.std.proofs.Common.{◌≡◌, suc, ◌+◌, ◌-◌, length, refl, ◌∙◌, arith}
 use Rattle.std.specs.List.{insert}
 use Rattle.std.proofs.lemmas.List.Edits.{length-insert}
-use Rattle.range_store.specs.Edges.{IsEdge, place, seat_place}
 use Rattle.range_store.specs.Holding.{box_items, box_place}
 use Rattle.range_store.proofs.Edges.{path_small}
 use Rattle.range_store.proofs.InPlace.{IsLeafChange, put_in_leaf}

@@ -1,4 +1,4 @@
-use Rattle.std.proofs.Common.{◌≡◌, [], ◌≤◌, ◌+◌, length, ap, arith}
+use Rattle.std.proofs.Common.{◌≤◌, length, arith}
 use Rattle.range_store.specs.Holding.{box_items, box_place, IsGood, good_home}
 use Rattle.range_store.proofs.Taking.{one_fewer, room_grows, space_grows, IsReplaced, replaced, replaced_item}
 use Rattle.range_store.proofs.Whole.{edge_within, tree_behind}

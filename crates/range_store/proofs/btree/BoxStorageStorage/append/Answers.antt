@@ -1,8 +1,6 @@
-use Rattle.std.proofs.Common.{◌≡◌, ◌∷◌, ◌++◌, [], length, ap, ◌∙◌, arith}
-use Rattle.std.specs.List.{insert}
+use Rattle.std.proofs.Common.{arith}
 use Rattle.std.proofs.lemmas.List.{length_push}
 use Rattle.std.proofs.lemmas.List.Edits.{insert_end}
-use Rattle.range_store.specs.Holding.{box_items}
 use Rattle.range_store.proofs.Moved.{moved_more, moved_after}
 use Rattle.range_store.proofs.Positions.{end_place}
 use Rattle.range_store.proofs.btree.BoxStorageStorage.append.Goals as goal

@@ -1,8 +1,7 @@
-use Rattle.std.proofs.Common.{◌≡◌, ◌≤◌, ◌+◌, ◌-◌, length, ap, arith, rules, sym, subst, ◌∙◌, drop, take}
+use Rattle.std.proofs.Common.{◌≡◌, ◌+◌, ◌-◌, length, ap, arith, ◌∙◌, drop}
 use Rattle.std.proofs.lemmas.List.{length-drop}
 use Rattle.range_store.specs.Heap.{items_of, node_of}
-use Rattle.range_store.specs.Holding.{box_items, box_place, box_rank, good_home, rank_is, IsGood}
-use Rattle.range_store.specs.ListPlaces.{IsAt}
+use Rattle.range_store.specs.Holding.{box_place, box_rank, good_home, rank_is}
 use Rattle.range_store.proofs.Cells.{row_length}
 use Rattle.range_store.proofs.LeafItems.{at_index, leaf_rest, rest_full, rest_items}
 use Rattle.range_store.proofs.Lent.{item_home}

@@ -1,4 +1,4 @@
-use Rattle.std.proofs.Common.{sym, ap, length, arith}
+use Rattle.std.proofs.Common.{ap, length, arith}
 use Rattle.range_store.proofs.Levels.{has_levels}
 use Rattle.range_store.proofs.Rank.{IsTree-none, items_below_none}
 use Rattle.range_store.proofs.btree.BoxStorageStorage.new.Goals as goal

@@ -1,4 +1,4 @@
-use Rattle.std.proofs.Common.{◌-◌, ◌∙◌, sym, arith}
+use Rattle.std.proofs.Common.{arith}
 use Rattle.range_store.specs.Holding.{rank_is}
 use Rattle.range_store.proofs.Positions.{good_from}
 use Rattle.range_store.proofs.Paths.{not_start, stands_first}

@@ -1,6 +1,5 @@
-use Rattle.std.proofs.Common.{◌≡◌, ◌-◌, ◌/◌, ◌<◌, ◌∷◌, ◌++◌, suc, length, sym, ap, subst, ◌∙◌, arith, length-append, length-take-le, take-append-drop}
+use Rattle.std.proofs.Common.{◌≡◌, ◌-◌, ◌/◌, ◌<◌, ◌∷◌, suc, length, ap, arith, length-append, length-take-le, take-append-drop}
 use Rattle.std.specs.Vec.Iter.{into_iter_items}
-use Rattle.range_store.specs.Building.{IsBuilt}
 use Rattle.range_store.specs.Nodes.{items_below}
 use Rattle.range_store.specs.declared.btree.nodes.TheConstants.{CAPACITY}
 use Rattle.range_store.proofs.Building.{begun_above, built_child, built_leaf, child_level, child_listed, child_more, listed_above, node_fits, node_length, node_there, taken_more}

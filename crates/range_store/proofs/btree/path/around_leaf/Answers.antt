@@ -1,7 +1,6 @@
 use Rattle.std.proofs.Common.{◌≡◌, ◌≢◌, ◌+◌, ◌*◌, ◌^◌, ◌<◌, ◌≤◌, length, refl, arith}
 use Rattle.std.proofs.Math.Nat.{mul-le-mul_left}
 use Rattle.range_store.specs.Heap.{node_items}
-use Rattle.range_store.specs.declared.btree.nodes.TheConstants.{CAPACITY}
 use Rattle.range_store.proofs.Behind.{ComesAfter, leaf_end, sets_out, turn_low, goes_by_another, goes_by_the_last, comes_to_the_end, home_sets_out, home_goes_on, home_is_found}
 use Rattle.range_store.specs.Edges.{place, home_of}
 use Rattle.range_store.proofs.InLeaf.{leaf_beside}

@@ -1,8 +1,6 @@
-use Rattle.std.proofs.Common.{◌≤◌, true, sym, ◌∙◌, arith}
+use Rattle.std.proofs.Common.{true, sym, ◌∙◌, arith}
 use Rattle.std.proofs.Math.Nat.{mul-le-mul_left}
 use Rattle.range_store.specs.Heap.{node_items}
-use Rattle.range_store.specs.Nodes.{items_below}
-use Rattle.range_store.specs.declared.btree.nodes.TheConstants.{CAPACITY}
 use Rattle.range_store.proofs.Descending.{begins, descends, descent_ends}
 use Rattle.range_store.proofs.Front.{count_all, falls_all}
 use Rattle.range_store.proofs.PathsBelow.{weight_fits}

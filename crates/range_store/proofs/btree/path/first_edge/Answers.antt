@@ -1,8 +1,8 @@
-use Rattle.std.proofs.Common.{◌≡◌, ◌+◌, ◌-◌, ◌*◌, ◌^◌, false, sym, ◌∙◌, arith, subst}
+use Rattle.std.proofs.Common.{◌-◌, ◌^◌, false, sym, ◌∙◌, arith}
 use Rattle.range_store.specs.Heap.{node_items}
 use Rattle.range_store.specs.Nodes.{items_below}
 use Rattle.range_store.specs.declared.btree.path.TheConstants.{PATH_BASE}
-use Rattle.range_store.proofs.Descending.{Descent, begins, descends, descent_ends}
+use Rattle.range_store.proofs.Descending.{begins, descends, descent_ends}
 use Rattle.range_store.proofs.Front.{count_none, falls_none}
 use Rattle.range_store.proofs.btree.path.first_edge.Goals as goal
 

@@ -1,5 +1,4 @@
-use Rattle.std.proofs.Common.{◌≡◌, ◌+◌, ◌≤◌, length, ap, sym, arith}
-use Rattle.range_store.specs.ListPlaces.{place_before}
+use Rattle.std.proofs.Common.{arith}
 use Rattle.range_store.proofs.Edits.{put_over}
 use Rattle.range_store.proofs.inner.cursor.put.Goals as goal
 

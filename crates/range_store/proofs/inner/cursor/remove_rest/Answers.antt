@@ -1,5 +1,4 @@
-use Rattle.std.proofs.Common.{arith, length}
-use Rattle.range_store.specs.ListPlaces.{place_before}
+use Rattle.std.proofs.Common.{arith}
 use Rattle.range_store.proofs.Edits.{removed_one}
 use Rattle.range_store.proofs.inner.cursor.remove_rest.Goals as goal
 

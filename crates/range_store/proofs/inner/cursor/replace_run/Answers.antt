@@ -1,6 +1,4 @@
-use Rattle.std.proofs.Common.{◌≡◌, ◌+◌, length, ap, sym, ◌∙◌, arith}
-use Rattle.std.proofs.Math.ListN.{set}
-use Rattle.range_store.specs.ListPlaces.{place_before}
+use Rattle.std.proofs.Common.{arith}
 use Rattle.range_store.specs.Written.{set_parts}
 use Rattle.range_store.proofs.ListPlaces.{place_at}
 use Rattle.range_store.proofs.Edits.{replaced_run}

@@ -1,5 +1,5 @@
-use Rattle.std.proofs.Common.{◌≡◌, arith, sym, ◌∙◌}
-use Rattle.std.specs.Prelude.{Some, None}
+use Rattle.std.proofs.Common.{◌≡◌, arith}
+use Rattle.std.specs.Prelude.{Some}
 use Rattle.slab.specs.Slab.{get}
 use Rattle.std.proofs.lemmas.List.{get_or-set_other}
 use Rattle.range_store.proofs.Spares.{IsSeen, absorbs, fewer_spares, found, seen}

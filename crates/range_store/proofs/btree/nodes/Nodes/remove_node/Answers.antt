@@ -1,4 +1,4 @@
-use Rattle.std.proofs.Common.{[], arith}
+use Rattle.std.proofs.Common.{arith}
 use Rattle.std.proofs.lemmas.List.{set-get_or}
 use Rattle.range_store.proofs.Spares.{fewer_spares, found, freed}
 use Rattle.range_store.proofs.btree.nodes.Nodes.remove_node.Goals as goal

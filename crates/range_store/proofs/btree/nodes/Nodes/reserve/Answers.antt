@@ -1,7 +1,6 @@
-use Rattle.std.proofs.Common.{[], length, refl, ap, ◌∙◌, arith}
+use Rattle.std.proofs.Common.{[], refl, ap, ◌∙◌, arith}
 use Rattle.slab.specs.Slab.{slab_len}
-use Rattle.range_store.specs.Heap.{HasRoomFor, SameNodes}
-use Rattle.range_store.specs.Spares.{heap_of}
+use Rattle.range_store.specs.Heap.{HasRoomFor}
 use Rattle.range_store.proofs.Spares.{Changes, added, counted, roomier, spares_left, vacant_row}
 use Rattle.range_store.proofs.btree.nodes.Nodes.reserve.Goals as goal
 use Rattle.range_store.proofs.btree.nodes.Nodes.reserve.Given.{Over}

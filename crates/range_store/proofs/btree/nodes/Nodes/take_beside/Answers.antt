@@ -1,4 +1,4 @@
-use Rattle.std.proofs.Common.{length, get_or, arith, sym, ap, ◌∙◌}
+use Rattle.std.proofs.Common.{arith}
 use Rattle.std.specs.Prelude.{slice_get}
 use Rattle.range_store.proofs.Spares.{found, items_seen, seen, taken_out}
 use Rattle.range_store.proofs.btree.nodes.Nodes.take_beside.Goals as goal

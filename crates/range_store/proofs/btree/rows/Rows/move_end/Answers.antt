@@ -1,7 +1,4 @@
-use Rattle.std.proofs.Common.{arith, ap, ◌∙◌}
-use Rattle.std.specs.List.{insert}
-use Rattle.std.proofs.Math.ListN.{set}
-use Rattle.range_store.specs.Rows.{row_of}
+use Rattle.std.proofs.Common.{arith}
 use Rattle.range_store.proofs.RowMoves.{moved_last}
 use Rattle.range_store.proofs.btree.rows.Rows.move_end.Goals as goal
 

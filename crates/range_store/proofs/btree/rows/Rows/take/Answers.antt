@@ -1,5 +1,4 @@
-use Rattle.std.proofs.Common.{◌≡◌, ◌≤◌, ◌<◌, ◌+◌, ◌-◌, ◌*◌, length, get_or, take, drop, rules, arith, ap, sym, ◌∙◌}
-use borrow.Rule.Slice.PartMut.{put_mid}
+use Rattle.std.proofs.Common.{◌≡◌, ◌≤◌, ◌<◌, ◌+◌, ◌-◌, ◌*◌, length, take, drop, arith, ap}
 use borrow.Author.Rules.{scaled_fits≤}
 use Rattle.std.proofs.lemmas.List.{with_items_is}
 use Rattle.range_store.specs.declared.btree.nodes.TheConstants.{CAPACITY}
