@@ -45,21 +45,9 @@ module _ {T : Type 0} {r s t : Heap T} {d n many : ℕ} (cs : List ℕ) (built :
       same_children s t d ks (AgreeAt-right s t (n ∷ []) (flat_map (used s d) ks)
       (subst (AgreeAt s t) (used_is s d n) agree))
 
-  used_all : flat_map (used t d) (ks ++ cs) ≡ flat_map (used s d) ks ++ flat_map (used t d) cs
-  used_all =
-      grind (arith, flat_map-append, same)
-
   nodes_moved : Moves r t [] (n ∷ flat_map (used t d) (ks ++ cs))
   nodes_moved =
-      grind (
-        arith,
-        occurrences-append,
-        used_is,
-        occurrences-cons,
-        used_all,
-        length-append,
-        Moves-then,
-      )
+      grind (arith, occurrences-append, used_is, occurrences-cons, flat_map-append, same, length-append, Moves-then)
 
   module _ {u : Heap T} (x : T) (room : many < CAPACITY) (shaped : All (Shaped t d) cs)
       (branches : length cs + length ks ≡ child_count d (many + 1))
@@ -106,11 +94,8 @@ module _ {T : Type 0} {r s t : Heap T} (d : ℕ) {n : ℕ} (c : ℕ) (inner : 0 
   alone : flat_map (used s d) (c ∷ []) ≡ used s d c
   alone = append-nil (used s d c)
 
-  above_agree : AgreeAt s t (flat_map (used s d) (c ∷ []))
-  above_agree k among = grind (arith, alone, occurrences-nil)
-
   above_holds : Holds s t d n [] (c ∷ [])
-  above_holds = held_new stored above_agree
+  above_holds = held_new stored (λ k among. grind (arith, alone, occurrences-nil))
 
   pub begun_above : IsBuilt r t d n 0
   begun_above = record {

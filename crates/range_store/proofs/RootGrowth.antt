@@ -72,21 +72,15 @@ module _ {T : Type 0} {s t u : Heap T} {d root n : ℕ} (split : Split T) {list 
   abbrev ts : List ℕ
   ts = root ∷ split.right ∷ []
 
-  agree : AgreeAt t u (flat_map (used t (suc d)) ts)
-  agree k among = grind arith
-
   holds : Holds t u (suc d) n (split.middle ∷ []) ts
-  holds = held_new stored agree
-
-  ts_shaped : All (Shaped t (suc d)) ts
-  ts_shaped = grind (arith, Shaped-from_but)
+  holds = held_new stored (λ k among. grind arith)
 
   used_now : used u (suc (suc d)) n ≡ n ∷ flat_map (used t (suc d)) ts
   used_now = held_used holds
 
   taller_tree : IsTree u (suc (suc d)) n
   taller_tree =
-      grind (arith, held_shape, holds, ts_shaped, used_now, occurrences-cons, Stores-here)
+      grind (arith, held_shape, holds, Shaped-from_but, used_now, occurrences-cons, Stores-here)
 
   taller_items_below : items_below u (suc (suc d)) n ≡ list
   taller_items_below = held_items_below holds ∙ step.listed
@@ -96,7 +90,7 @@ module _ {T : Type 0} {s t u : Heap T} {d root n : ℕ} (split : Split T) {list 
       → IsEdge u (suc d) n h
       × (place u (suc d) n h ≡ seat_place t (suc d) (split.middle ∷ []) ts side g)
   taller_seat side g h at within seat =
-      seat_written t u n (split.middle ∷ []) ts side g h (suc d) holds agree
+      seat_written t u n (split.middle ∷ []) ts side g h (suc d) holds (λ k among. grind arith)
       (λ no. absurd (omega (arith, no))) (λ some. at) (λ some. within) seat
 
 pub taller_root : {T : Type 0} {s t u : Heap T} (levels : ℕ) {root n : ℕ} (split : Split T)

@@ -14,9 +14,6 @@ use Rattle.range_store.specs.Rows.{row_of}
 use Rattle.range_store.specs.Spares.{without, len_of, content_of, contents, heap_of, FitsCount, IsWhole}
 use Rattle.range_store.proofs.Slots.{slot_count, slot_read}
 
-listed : (n : ℕ) (ns : List ℕ) (k : ℕ) → k ≡ n → occurrences k (n ∷ ns) ≡ 0 → ⊥
-listed n ns k same none = grind (arith, occurrences_here)
-
 module _ {X : Type 0} where
   without_here : (ns : List ℕ) (slots : List (Option X)) (k : ℕ) → 0 < occurrences k ns
       → get_or (without ns slots) k None ≡ None
@@ -39,7 +36,7 @@ module _ {X : Type 0} where
   without_other [] slots k none = refl
   without_other (n ∷ ns) slots k none =
       get_or-set_other (without ns slots) n k None None
-      (λ same. absurd (listed n ns k same none))
+      (λ same. absurd (grind (arith, occurrences_here)))
       ∙ without_other ns slots k (omega (arith, none, occurrences-cons k n ns))
 
   without_count : (ns : List ℕ) (slots : List (Option X)) → ((k : ℕ) → occurrences k ns ≤ 1)
@@ -67,7 +64,7 @@ module _ {X : Type 0} where
       ap (λ zs. set zs n None)
       (without_set ns slots k slot (omega (arith, none, occurrences-cons k n ns)))
       ∙ set_comm (without ns slots) k n slot None
-      (λ same. absurd (listed n ns k same none))
+      (λ same. absurd (grind (arith, occurrences_here)))
 
 module _ {X : Type 0} where
   module _ (s : Slab X) (n : ℕ) (present : IsSome (get s n)) (new : X) where
@@ -193,23 +190,9 @@ pub record Changes {T : Type 0} (old new : Slab Node) (was now : List (List T)) 
 module _ {T : Type 0} {old new : Slab Node} {was now : List (List T)} {spares : List ℕ}
     (whole : IsWhole old was spares) {n : ℕ} {node : Node} {items : List T}
     (changes : Changes old new was now n node items) where
-  changed_there : (k : ℕ) → IsSome (get new k) → k < length now
-  changed_there k some = grind arith
-
-  changed_lens : (k : ℕ) → length (row_of now k) ≡ len_of (get new k)
-  changed_lens k = grind arith
-
-  changed : content_of (row_of now n) (get new n)
-      ≡ Some (record { items = items; children = node.children.items })
-  changed = grind arith
-
   changed_whole : (left : List ℕ) → ((k : ℕ) → occurrences k left ≤ occurrences k spares)
       → occurrences n left ≡ 0 → IsWhole new now left
-  changed_whole left fewer apart = grind (arith, changed_there, changed_lens)
-
-  elsewhere : (left : List ℕ) → ((k : ℕ) → k ≢ n → occurrences k left ≡ occurrences k spares)
-      → (k : ℕ) → k ≢ n → node_of (heap_of new now left) k ≡ node_of (heap_of old was spares) k
-  elsewhere left alike k differs = grind (arith, slot_seen, spare_read)
+  changed_whole left fewer apart = grind arith
 
   -- the number became a spare, with nothing
   more_whole : (left : List ℕ)
@@ -225,11 +208,11 @@ module _ {T : Type 0} {old new : Slab Node} {was now : List (List T)} {spares : 
 
     here : (left : List ℕ) → occurrences n left ≡ 0 → node_of (heap_of new now left) n
         ≡ Some (record { items = items; children = node.children.items })
-    here left apart = slot_seen new now left n apart ∙ changed
+    here left apart = slot_seen new now left n apart ∙ (grind arith)
 
     pub written : HasNode (heap_of old was spares) n
         → Writes (heap_of old was spares) (heap_of new now spares) n items node.children.items
-    written present = grind (arith, here, elsewhere, counted, in_use)
+    written present = grind (arith, here, slot_seen, spare_read, counted, in_use)
 
     -- a spare got what a new node has
     module _ {left : List ℕ} (parts : spares ≡ n ∷ left) where
@@ -246,7 +229,7 @@ module _ {T : Type 0} {old new : Slab Node} {was now : List (List T)} {spares : 
           node.children.items
       stored =
           let read = here left spare_apart in
-          grind (arith, spare_read, told, occurrences_itself, elsewhere, occurrences_other, counted)
+          grind (arith, spare_read, told, occurrences_itself, slot_seen, occurrences_other, counted)
 
     -- a node became a spare
     module _ (present : HasNode (heap_of old was spares) n) (no_items : items ≡ [])
@@ -265,7 +248,7 @@ module _ {T : Type 0} {old new : Slab Node} {was now : List (List T)} {spares : 
       removed = record {
         was = present;
         gone = grind (arith, spare_read, longer, occurrences_itself);
-        others = grind (arith, elsewhere, longer, occurrences_other);
+        others = grind (arith, slot_seen, spare_read, longer, occurrences_other);
         len = omega (arith, counted whole, counted freed_whole);
         capacity = len;
       }
@@ -397,22 +380,11 @@ module _ {T : Type 0} {slab : Slab Node} {rows : List (List T)} {spares : List �
   gone : Leaves slab rows spares r blank [] (r ∷ spares) (λ old new. Removes old new r)
   gone = emptied whole r right_at blank [] no_len no_children right refl refl
 
-  grew : Leaves (with_value slab r blank) (set rows r []) (r ∷ spares) l node
-      (row_of rows l ++ x ∷ row_of rows r) (r ∷ spares)
-      (λ old new. Writes old new l (row_of rows l ++ x ∷ row_of rows r)
-      (lower.children.items ++ upper.children.items))
-  grew = edited gone.whole l
-      (get_or-set_other slab.slots r l (Some blank) None apart ∙ left_at) node
-      (row_of rows l ++ x ∷ row_of rows r) (grind (
-        arith,
-        length-append,
-      )) children_are (rw (gone.nodes.others l apart) left)
-
   pub absorbs : Leaves (with_value slab r blank) (set rows r []) (r ∷ spares) l node
       (row_of rows l ++ x ∷ row_of rows r) (r ∷ spares)
       (λ old new. Absorbs (heap_of slab rows spares) new l x r)
   absorbs =
-      grind (arith, seen, grew, heap_of, with_value, gone)
+      grind (arith, seen, edited gone.whole l (get_or-set_other slab.slots r l (Some blank) None apart ∙ left_at) node (row_of rows l ++ x ∷ row_of rows r) (grind (arith, length-append)) children_are (rw (gone.nodes.others l apart) left), heap_of, with_value, gone)
 
 -- a spare has nothing
 module _ {T : Type 0} {slab : Slab Node} {rows : List (List T)} {spares : List ℕ}
