@@ -47,7 +47,16 @@ module _ {T : Type 0} {r s t : Heap T} {d n many : ℕ} (cs : List ℕ) (built :
 
   nodes_moved : Moves r t [] (n ∷ flat_map (used t d) (ks ++ cs))
   nodes_moved =
-      grind (arith, occurrences-append, used_is, occurrences-cons, flat_map-append, same, length-append, Moves-then)
+      grind (
+        arith,
+        occurrences-append,
+        used_is,
+        occurrences-cons,
+        flat_map-append,
+        same,
+        length-append,
+        Moves-then,
+      )
 
   module _ {u : Heap T} (x : T) (room : many < CAPACITY) (shaped : All (Shaped t d) cs)
       (branches : length cs + length ks ≡ child_count d (many + 1))

@@ -192,7 +192,8 @@ module _ {T : Type 0} {s t : Heap T} {b n i rest : ℕ} {item : T} {split : Opti
     run_content grown_run new_xs
         (grind (arith, length-append, us_many, length-take-le i xs grows.low, length-drop))
         (All-take (Shaped s b) i ks grows.shaped.children)
-        (grind (arith, Shaped-from_but, Shaped-but s (b - 1) kid (grind arith))) (All-drop (Shaped s b) (i + 1) ks grows.shaped.children),
+        (grind (arith, Shaped-from_but, Shaped-but s (b - 1) kid (grind arith)))
+        (All-drop (Shaped s b) (i + 1) ks grows.shaped.children),
   )
 
   abbrev lists : List (List T)

@@ -384,7 +384,16 @@ module _ {T : Type 0} {slab : Slab Node} {rows : List (List T)} {spares : List �
       (row_of rows l ++ x ∷ row_of rows r) (r ∷ spares)
       (λ old new. Absorbs (heap_of slab rows spares) new l x r)
   absorbs =
-      grind (arith, seen, edited gone.whole l (get_or-set_other slab.slots r l (Some blank) None apart ∙ left_at) node (row_of rows l ++ x ∷ row_of rows r) (grind (arith, length-append)) children_are (rw (gone.nodes.others l apart) left), heap_of, with_value, gone)
+      grind (
+        arith,
+        seen,
+        edited gone.whole l
+            (get_or-set_other slab.slots r l (Some blank) None apart ∙ left_at) node
+            (row_of rows l ++ x ∷ row_of rows r) (grind (arith, length-append)) children_are (rw (gone.nodes.others l apart) left),
+        heap_of,
+        with_value,
+        gone,
+      )
 
 -- a spare has nothing
 module _ {T : Type 0} {slab : Slab Node} {rows : List (List T)} {spares : List ℕ}
