@@ -85,16 +85,32 @@ module _ {T : Type 0} {s : Heap T} {low n j : ℕ} (x : T) (levelled : IsLevelle
           (grind (arith, new_length, length-append, us_many, length-drop)) levelled.before rejoins.shaped levelled.behind,
     )
 
+    woven_old : items_below s (suc (suc low)) n
+        ≡ front_of (take j xs) (map (items_below s (suc low)) us)
+        ++ ((items_below s (suc low) l ++ (x ∷ items_below s (suc low) r))
+        ++ rest_of (drop (j + 1) xs) (map (items_below s (suc low)) vs))
+    woven_old =
+        weave_items_below s (suc low) n
+        ∙ ap (λ zs. weave zs (map (items_below s (suc low)) ks)) xs_parts
+        ∙ ap (λ zs. weave (take j xs ++ (x ∷ drop (j + 1) xs)) (map (items_below s (suc low)) zs))
+        ks_parts
+        ∙ ap (weave (take j xs ++ (x ∷ drop (j + 1) xs))) (run_lists same_run)
+        ∙ weave_splice (take j xs) (x ∷ []) (drop (j + 1) xs) (map (items_below s (suc low)) us)
+        (items_below s (suc low) l) (items_below s (suc low) r ∷ [])
+        (map (items_below s (suc low)) vs)
+        (omega (arith, front_many, us_many, length-map us (items_below s (suc low)))) refl
+        ∙ ap (λ zs. front_of (take j xs) (map (items_below s (suc low)) us)
+        ++ ((items_below s (suc low) l ++ (x ∷ zs))
+        ++ rest_of (drop (j + 1) xs) (map (items_below s (suc low)) vs)))
+        (append-nil (items_below s (suc low) r))
+
     new_listed : weave new_xs (map (items_below t (suc low)) new_ks)
         ≡ items_below s (suc (suc low)) n
     new_listed = ap (weave new_xs) (run_lists pair_run)
         ∙ weave_tops (take j xs) (drop (j + 1) xs) (map (items_below s (suc low)) us)
         (map (items_below s (suc low)) vs) (items_below t (suc low)) l split
         (omega (arith, front_many, us_many, length-map us (items_below s (suc low))))
-        ∙ rw rejoins.listed refl ∙ sym
-        (weave_items_below s (suc low) n ∙ ap
-        (λ zs. weave zs (map (items_below s (suc low)) ks)) xs_parts ∙ ap
-        (λ zs. weave (take j xs ++ (x ∷ drop (j + 1) xs)) (map (items_below s (suc low)) zs)) ks_parts ∙ ap (weave (take j xs ++ (x ∷ drop (j + 1) xs))) (run_lists same_run) ∙ weave_splice (take j xs) (x ∷ []) (drop (j + 1) xs) (map (items_below s (suc low)) us) (items_below s (suc low) l) (items_below s (suc low) r ∷ []) (map (items_below s (suc low)) vs) (omega (arith, front_many, us_many, length-map us (items_below s (suc low)))) refl ∙ ap (λ zs. front_of (take j xs) (map (items_below s (suc low)) us) ++ ((items_below s (suc low) l ++ (x ∷ zs)) ++ rest_of (drop (j + 1) xs) (map (items_below s (suc low)) vs))) (append-nil (items_below s (suc low) r)))
+        ∙ rw rejoins.listed refl ∙ sym woven_old
 
     -- what is written to the node
     pub pair_children : (cut : Option (Split T))
