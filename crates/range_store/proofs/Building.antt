@@ -1,5 +1,5 @@
 -- How a node of new nodes grows at its end, item by item, and with each item by a child.
-use Rattle.std.proofs.Common.{◌≡◌, ℕ, zero, suc, ◌+◌, ◌-◌, ◌*◌, ◌<◌, ◌≤◌, List, [], ◌∷◌, ◌++◌, length, map, refl, sym, ap, ◌∙◌, subst, arith, length-append, append_assoc, Some}
+use Rattle.std.proofs.Common.{◌≡◌, ℕ, zero, suc, ◌+◌, ◌-◌, ◌*◌, ◌<◌, ◌≤◌, List, [], ◌∷◌, ◌++◌, length, map, sym, ap, ◌∙◌, subst, arith, length-append, append_assoc, Some}
 use Rattle.std.specs.List.{All, flat_map, insert}
 use Rattle.std.proofs.lemmas.List.{append-nil, length_push, length-map, map-append}
 use Rattle.std.proofs.lemmas.List.Concat.{flat_map-append}
@@ -11,11 +11,11 @@ use Rattle.range_store.specs.Nodes.{weave, items_below, used, Shaped, Moves, IsT
 use Rattle.range_store.specs.Building.{IsBuilt}
 use Rattle.range_store.specs.Contents.{IsContent}
 use Rattle.range_store.specs.Frame.{AgreeAt, AgreeAt-right, SameChildren, same_children}
-use Rattle.range_store.specs.Occurrences.{occurrences, occurrences-append, occurrences-cons, occurrences-nil}
+use Rattle.range_store.specs.Occurrences.{occurrences-append, occurrences-cons, occurrences-nil}
 use Rattle.range_store.specs.Weave.{weave_cut}
 use Rattle.range_store.proofs.Below.{Shaped-from_but, child_count_inner, items_below_leaf, used_is, used_leaf, weave_items_below}
 use Rattle.range_store.proofs.Contents.{Holds, held_items_below, held_used, held_shape, written_holds, held_new}
-use Rattle.range_store.proofs.Moves.{Moves-agree, Moves-beside, Moves-like, Moves-then, Stores-moves, Writes-moves}
+use Rattle.range_store.proofs.Moves.{Moves-agree, Moves-then, Stores-moves, Writes-moves}
 use Rattle.range_store.proofs.Moved.{moved_all}
 use Rattle.range_store.proofs.Rank.{used_none}
 use Rattle.range_store.proofs.Room.{used_le}
@@ -45,30 +45,18 @@ module _ {T : Type 0} {r s t : Heap T} {d n many : ℕ} (cs : List ℕ) (built :
       same_children s t d ks (AgreeAt-right s t (n ∷ []) (flat_map (used s d) ks)
       (subst (AgreeAt s t) (used_is s d n) agree))
 
-  used_all : flat_map (used t d) (ks ++ cs) ≡ flat_map (used s d) ks ++ flat_map (used t d) cs
-  used_all =
-      flat_map-append (used t d) ks cs
-      ∙ ap (λ zs. zs ++ flat_map (used t d) cs) same.used_same
-
   nodes_moved : Moves r t [] (n ∷ flat_map (used t d) (ks ++ cs))
   nodes_moved =
-      let old = used s (suc d) n in
-      let more = flat_map (used t d) cs in
-      let under = flat_map (used s d) ks in
-      Moves-like [] (n ∷ flat_map (used t d) (ks ++ cs))
-      (record { occur = λ k. refl; len = refl })
-      (record {
-        occur =
-            λ k.
-            omega (
-              arith,
-              occurrences-append,
-              ap (occurrences k) (used_is s d n),
-              occurrences-cons,
-              ap (occurrences k) used_all,
-            );
-        len = grind (arith, length-append, ap length (used_is s d n), ap length used_all);
-      }) (Moves-then built.moved (Moves-beside old moved))
+      grind (
+        arith,
+        occurrences-append,
+        used_is,
+        occurrences-cons,
+        flat_map-append,
+        same,
+        length-append,
+        Moves-then,
+      )
 
   module _ {u : Heap T} (x : T) (room : many < CAPACITY) (shaped : All (Shaped t d) cs)
       (branches : length cs + length ks ≡ child_count d (many + 1))
@@ -100,21 +88,13 @@ module _ {T : Type 0} {r s t : Heap T} {d n many : ℕ} (cs : List ℕ) (built :
 
     pub listed_more : items_below u (suc d) n
         ≡ weave (xs ++ x ∷ []) (map (items_below s d) ks ++ map (items_below t d) cs)
-    listed_more = held_items_below holds
-        ∙ ap (weave (xs ++ x ∷ [])) (map-append (items_below t d) ks cs
-        ∙ ap (λ zs. zs ++ map (items_below t d) cs) same.items_below_same)
+    listed_more = grind (arith, held_items_below, holds, map-append, same)
 
 -- a leaf of new items
 pub built_leaf : {T : Type 0} {r s : Heap T} {n : ℕ} {xs : List T} → Stores r s n xs []
     → length xs ≤ CAPACITY → IsBuilt r s 0 n (length xs) × (items_below s (suc 0) n ≡ xs)
 built_leaf {T} {r} {s} {n} {xs} stored fits =
-    let childless : length (node_children s n) ≡ 0 = ap length stored.children_are in
-    let built : IsBuilt r s 0 n (length xs) = grind (
-      arith,
-      used_leaf s n childless,
-      Stores-moves [] stored,
-    ) in
-    (built, items_below_leaf s n childless ∙ stored.items_are)
+    grind (arith, used_leaf, Stores-moves, items_below_leaf)
 
 -- a node above its first child
 module _ {T : Type 0} {r s t : Heap T} (d : ℕ) {n : ℕ} (c : ℕ) (inner : 0 < d)
@@ -123,11 +103,8 @@ module _ {T : Type 0} {r s t : Heap T} (d : ℕ) {n : ℕ} (c : ℕ) (inner : 0 
   alone : flat_map (used s d) (c ∷ []) ≡ used s d c
   alone = append-nil (used s d c)
 
-  above_agree : AgreeAt s t (flat_map (used s d) (c ∷ []))
-  above_agree k among = grind (arith, alone, occurrences-nil)
-
   above_holds : Holds s t d n [] (c ∷ [])
-  above_holds = held_new stored above_agree
+  above_holds = held_new stored (λ k among. grind (arith, alone, occurrences-nil))
 
   pub begun_above : IsBuilt r t d n 0
   begun_above = record {
@@ -198,8 +175,6 @@ pub built_child : {T : Type 0} {r s : Heap T} (d : ℕ) {n many count : ℕ} →
     → IsChild r s d n count
 built_child {T} {r} {s} zero {n} {many} {count} some built enough size = absurd (omega arith)
 built_child {T} {r} {s} (suc d) {n} {many} {count} some built' enough size' =
-    let level : suc d - 1 ≡ d = omega arith in
-    let built = rw level at built' in
     grind (arith, Shaped-from_but, used_le)
 
 pub child_level : {T : Type 0} (s : Heap T) (d n : ℕ) → 0 < d

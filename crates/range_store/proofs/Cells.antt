@@ -1,5 +1,5 @@
 -- Cells of a row, of which the first have items.
-use Rattle.std.proofs.Common.{◌≡◌, ℕ, zero, suc, ◌+◌, ◌-◌, ◌<◌, ◌≤◌, List, [], ◌∷◌, ◌++◌, length, get_or, take, drop, replicate, Option, Some, None, refl, sym, ap, ◌∙◌, subst, arith, length-append, length-drop, drop-cons}
+use Rattle.std.proofs.Common.{◌≡◌, ℕ, zero, suc, ◌+◌, ◌-◌, ◌<◌, ◌≤◌, List, [], ◌∷◌, ◌++◌, length, get_or, take, drop, replicate, Option, Some, None, refl, ap, ◌∙◌, subst, arith, length-append, length-drop, drop-cons}
 use Rattle.std.proofs.Math.ListN.{set}
 use Rattle.std.specs.List.{insert, remove}
 use Rattle.std.proofs.lemmas.List.{append-nil, append_assoc, set_at, take_at, drop_at, get_or_at, take-append-le, drop-append-le, length-take-le, length-map, length-replicate, map-append, take-map, drop-map, get_or_append_left}
@@ -53,10 +53,6 @@ module _ {T : Type 0} where
   pub length-full : (xs : List T) → length (full_cells xs) ≡ length xs
   length-full xs = length-map xs (λ x. Some x)
 
-  full_insert : (xs : List T) (i : ℕ) (x : T)
-      → insert (full_cells xs) i (Some x) ≡ full_cells (insert xs i x)
-  full_insert xs i x = grind (arith, take-map, drop-map, map-append)
-
   full_remove : (xs : List T) (i : ℕ) → remove (full_cells xs) i ≡ full_cells (remove xs i)
   full_remove xs i = grind (arith, take-map, drop-map, map-append)
 
@@ -71,8 +67,7 @@ module _ {T : Type 0} where
   standing (x ∷ xs) zero within = record {
     item = x;
     cell_is = λ other. refl;
-    item_is = λ other.
-        refl;
+    item_is = grind arith;
   }
   standing (x ∷ xs) (suc i) within = grind (arith, standing xs i (omega arith))
 
@@ -100,19 +95,17 @@ module _ {T : Type 0} where
       let cells = full_cells xs in
       let rest : List (Option T) = replicate (CAPACITY - length more) None in
       let left : CAPACITY - length xs ≡ suc (CAPACITY - length more) = omega arith in
-      let same : old ≡ cells ++ None ∷ rest =
-      h.cells_are ∙ ap (λ n. cells ++ replicate n None) left in
       let many = length-full xs in
-      let moved : put_mid i k old part ≡ take i cells ++ None ∷ (drop i cells ++ rest) =
-      grind (arith, turned_right) in
-      record {
-        fits = omega arith;
-        cells_are = ap (λ l. set l i (Some item)) moved
-            ∙ set_at (take i cells) None (drop i cells ++ rest) (Some item) i
-            (length-take-le i cells (omega arith))
-            ∙ sym (append_assoc (take i cells) (Some item ∷ drop i cells) rest)
-            ∙ ap (λ l. l ++ rest) (full_insert xs i item);
-      }
+      grind (
+        arith,
+        turned_right,
+        set_at,
+        length-take-le i cells (omega arith),
+        append_assoc (take i cells) (Some item ∷ drop i cells) rest,
+        take-map,
+        drop-map,
+        map-append,
+      )
 
   -- an item was taken from the others
   module _ {old : List (Option T)} {xs : List T} (i k end : ℕ) (part : List (Option T))
@@ -142,15 +135,5 @@ module _ {T : Type 0} where
     pub held_without : HoldsItems (set (put_mid i k old part) end None) (remove xs i)
     held_without =
         let fewer = length-remove xs i within in
-        let many = length-full (remove xs i) in
         let stands = standing xs i within in
-        grind (
-          arith,
-          left stands,
-          set_at (full_cells (remove xs i)) (Some stands.item)
-              (replicate (CAPACITY - length xs) None) None end (omega arith),
-        )
-
-  -- a row with no item
-  pub held_none : HoldsItems {T = T} (replicate CAPACITY None) []
-  held_none = record { fits = omega arith; cells_are = refl }
+        grind (arith, left stands, set_at, length-full)

@@ -1,5 +1,5 @@
 -- A node, or two, written with given items and children.
-use Rattle.std.proofs.Common.{◌≡◌, ◌≢◌, ◌⊎◌, ℕ, suc, ◌+◌, ◌-◌, ◌<◌, ◌≤◌, List, [], ◌∷◌, ◌++◌, length, get_or, take, drop, map, refl, sym, ap, ◌∙◌, subst, arith, Some, None, IsSome, Option}
+use Rattle.std.proofs.Common.{◌≡◌, ◌≢◌, ℕ, suc, ◌+◌, ◌-◌, ◌<◌, ◌≤◌, List, [], ◌∷◌, ◌++◌, length, get_or, take, drop, map, refl, sym, ap, ◌∙◌, subst, arith, Some, None, IsSome, Option}
 use Rattle.std.specs.List.{All, flat_map}
 use Rattle.std.proofs.lemmas.List.{append-nil, length-append, length-map, length-take-le, length-drop, take-append-drop, take-map, drop-map}
 use Rattle.std.proofs.lemmas.List.Concat.{flat_map-append}
@@ -115,16 +115,8 @@ module _ {T : Type 0} {s t : Heap T} {d n r : ℕ} (half : ℕ) {xs : List T} {k
   abbrev vs : List ℕ
   vs = drop (half + 1) ks
 
-  lists_fit : (length (map (items_below s d) ks) ≡ 0) ⊎
-      (length (map (items_below s d) ks) ≡ length xs + 1)
-  lists_fit = grind (arith, length-map)
-
   pub left_items_below : items_below t (suc d) n ≡ weave (take half xs) (map (items_below s d) us)
   left_items_below = held_items_below left
-
-  right_items_below : items_below t (suc d) r
-      ≡ weave (drop (half + 1) xs) (map (items_below s d) vs)
-  right_items_below = held_items_below right
 
   pub halves_listed : (middle : T) → middle ≡ get_or xs half middle
       → items_below t (suc d) n
@@ -132,11 +124,9 @@ module _ {T : Type 0} {s t : Heap T} {d n r : ℕ} (half : ℕ) {xs : List T} {k
   halves_listed middle is =
       let next : suc half ≡ half + 1 = omega arith in
       let halves =
-      rw next at (weave_halves xs (map (items_below s d) ks) half middle low lists_fit) in
-      grind (arith, append-nil, take-map, drop-map, left_items_below, right_items_below)
-
-  left_used : used t (suc d) n ≡ n ∷ flat_map (used s d) us
-  left_used = held_used left
+      rw next at
+      (weave_halves xs (map (items_below s d) ks) half middle low (grind (arith, length-map))) in
+      grind (arith, append-nil, take-map, drop-map, left_items_below, held_items_below right)
 
   right_used : used t (suc d) r ≡ r ∷ flat_map (used s d) vs
   right_used = held_used right
@@ -147,13 +137,7 @@ module _ {T : Type 0} {s t : Heap T} {d n r : ℕ} (half : ℕ) {xs : List T} {k
       let both : flat_map (used s d) ks ≡ flat_map (used s d) us ++ flat_map (used s d) vs =
       ap (flat_map (used s d)) (sym (take-append-drop (half + 1) ks))
       ∙ flat_map-append (used s d) us vs in
-      grind (arith, left_used, right_used, occurrences-cons, occurrences-append, length-append)
-
-  branches_left : length us ≡ child_count d half
-  branches_left = grind (arith, length-take-le)
-
-  branches_right : length vs ≡ child_count d (length xs - half - 1)
-  branches_right = grind (arith, length-drop)
+      grind (arith, held_used left, right_used, occurrences-cons, occurrences-append, length-append)
 
   left_length : length (take half xs) ≡ half
   left_length = length-take-le half xs (omega (arith, low))
@@ -165,19 +149,15 @@ module _ {T : Type 0} {s t : Heap T} {d n r : ℕ} (half : ℕ) {xs : List T} {k
       → length xs ≤ half + 1 + CAPACITY → (least : ℕ) → least ≤ MIN_LEN
       → All (ShapedBut least CAPACITY t d) (n ∷ r ∷ [])
   halves_shape least_left most_left least_right most_right least small = All-cons
-      (ShapedBut least CAPACITY t d) n (r ∷ []) (held_shape left least (omega (
-        arith,
-        left_length,
-        least_left,
-        small,
-      )) (omega (arith, left_length, most_left))
-      (branches_left ∙ ap (child_count d) (sym left_length))
+      (ShapedBut least CAPACITY t d) n (r ∷ [])
+      (held_shape left least (omega (arith, left_length)) (omega (arith, left_length, most_left))
+      ((grind (arith, length-take-le)) ∙ ap (child_count d) (sym left_length))
       (All-take (Shaped s d) (half + 1) ks content.shaped)) (All-cons (ShapedBut least CAPACITY t d)
-      r [] (held_shape right least (omega (arith, right_length, least_right, small)) (omega (
+      r [] (held_shape right least (omega (arith, right_length)) (omega (
         arith,
         right_length,
         most_right,
-      )) (branches_right ∙ ap (child_count d) (sym right_length)) (All-drop
+      )) ((grind (arith, length-drop)) ∙ ap (child_count d) (sym right_length)) (All-drop
       (Shaped s d) (half + 1) ks content.shaped)) (All-nil _))
 
 -- they are parts of the children
@@ -203,11 +183,8 @@ module _ {T : Type 0} {s t : Heap T} {d n half : ℕ} {xs : List T} {ks : List �
   pub cut_agree : AgreeAt s t (flat_map (used s d) ks)
   cut_agree k among = grind (arith, content_apart, content_there)
 
-  n_kept : node_of t n ≡ node_of cut.between n
-  n_kept = grind arith
-
   pub left_holds : Holds s t d n (take half xs) (take (half + 1) ks)
-  left_holds = held_after cut.first n_kept (part_agree s t d (half + 1) ks cut_agree).0
+  left_holds = held_after cut.first (grind arith) (part_agree s t d (half + 1) ks cut_agree).0
 
   pub right_holds : Holds s t d split.right (drop (half + 1) xs) (drop (half + 1) ks)
   right_holds = held_new cut.second (part_agree s t d (half + 1) ks cut_agree).1

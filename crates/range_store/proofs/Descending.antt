@@ -14,7 +14,6 @@ use Rattle.range_store.specs.Nodes.{items_below, ShapedBut}
 use Rattle.range_store.proofs.Below.{items_below_leaf}
 use Rattle.range_store.proofs.Edges.{leaf_edge, leaf_place}
 use Rattle.range_store.proofs.Searching.{kid_falls, search_step}
-use Rattle.range_store.proofs.Paths.{level_of_children}
 use Rattle.range_store.proofs.PathsBelow.{LiesBelow, lies_in_child}
 
 module _ {T : Type 0} (p : T → Bool) (s : Heap T) where
@@ -39,9 +38,9 @@ module _ {T : Type 0} (p : T → Bool) (s : Heap T) where
 
   pub descends : {below number left : ℕ} (at path weight : ℕ) → left ≢ 0
       → Descent below number left at path weight → (i : ℕ)
-      → i ≡ count_by p (node_items s at) → Descent below number (left - 1) (node_child s at i) (path + weight * i) (weight * PATH_BASE)
+      → i ≡ count_by p (node_items s at) → Descent below number (left - 1) (node_child s at i)
+      (path + weight * i) (weight * PATH_BASE)
   descends {below} {number} {left} at path weight inner d i count =
-      let back = level_of_children inner d.lies.shaped in
       let low : i ≤ length (node_items s at) =
       omega (arith, count_by-le-length p (node_items s at)) in
       grind (
@@ -57,11 +56,10 @@ module _ {T : Type 0} (p : T → Bool) (s : Heap T) where
       → Outcome below number (record { path = path; leaf = at; index = i })
   descent_ends {below} {number} (suc left) at path weight bottom d i count = absurd (omega arith)
   descent_ends {below} {number} zero at path weight bottom d i count =
-      let all = items_below_leaf s at d.lies.shaped.node.branches in
       let low : i ≤ length (node_items s at) =
       omega (arith, count_by-le-length p (node_items s at)) in
       let e : Edge = record { path = 0; leaf = at; index = i } in
-      grind (arith, leaf_edge s at e refl refl low, leaf_place s at e)
+      grind (arith, leaf_edge s at e refl refl low, leaf_place s at e, items_below_leaf)
 
 -- the steps of a node come to those of the nodes above
 pub adds_more : {first before after : ℕ} (below left : ℕ) → left ≢ 0 → left ≤ below

@@ -19,17 +19,13 @@ unfolding IsEdge
 path_fits s zero n g is = omega (arith, is.1)
 path_fits s (suc d) n g is = omega (arith, pow-suc PATH_BASE d, path_fits s d _ (inside g) is.1)
 
-path_under : {T : Type 0} (s : Heap T) (d n : ℕ) (g : Edge) (most : ℕ) → d ≤ most → IsEdge s d n g
-    → g.path < PATH_BASE ^ most
-path_under s d n g most low is = grind (arith, pow-le-pow_right, path_fits)
-
 pub path_small : {T : Type 0} (s : Heap T) (d n : ℕ) (g : Edge) → d < MAX_LEVELS → IsEdge s d n g
     → g.path < 2 ^ 60
-path_small s d n g deep is = path_under s d n g 15 (omega arith) is
+path_small s d n g deep is = grind (arith, pow-le-pow_right, path_fits)
 
 pub path_low : {T : Type 0} (s : Heap T) (d n : ℕ) (g : Edge) → d + 1 < MAX_LEVELS → IsEdge s d n g
     → g.path < 2 ^ 56
-path_low s d n g deep is = path_under s d n g 14 (omega arith) is
+path_low s d n g deep is = grind (arith, pow-le-pow_right, path_fits)
 
 pub leaf_edge : {T : Type 0} (s : Heap T) (n : ℕ) (g : Edge) → g.leaf ≡ n → g.path ≡ 0
     → g.index ≤ length (node_items s n) → IsEdge s zero n g
@@ -85,7 +81,6 @@ place_within {T} {s} (suc d) {n} g {least} {most} shaped is =
     let xs = node_items s n in
     let lists = child_lists s (suc d) n in
     let i = turn g in
-    let kid = node_child s n i in
     let low : i ≤ length xs = omega (arith, turn_within s d n g is) in
     let further = place_within d (inside g) (kid_shaped d i shaped low) (edge_inside s d n g is) in
     let whole = items_below_at (omega arith) shaped i low in
@@ -101,9 +96,7 @@ pub same_edge : {T : Type 0} (s t : Heap T) (d n : ℕ) (g : Edge) → AgreeAt s
     → IsEdge s d n g → SameEdge s t d n g
 unfolding used IsEdge place
 same_edge s t zero n g agree is =
-    let here : node_of t n ≡ node_of s n =
-    agree n (occurrences_here n (flat_map (used s zero) (node_children s n))) in
-    record { edge = λ h. rw here h; place = refl }
+    grind (arith, occurrences_here)
 same_edge s t (suc d) n g agree is =
     let ks = node_children s n in
     let here : node_of t n ≡ node_of s n =

@@ -16,9 +16,7 @@ pub removed_one : {T : Type 0} (before now new : List T) (place i r : ℕ) (d : 
     → now ≡ take place before ++ drop (place + i) before → new ≡ remove now r → r ≡ place
     → place + i < length before → new ≡ take place before ++ drop (place + (i + 1)) before
 removed_one before now new place i r d was done same within =
-    let front : length (take place before) ≡ place = length-take-le place before (omega arith) in
-    let more = drop_more before (place + i) d within in
-    grind (arith, remove_behind)
+    grind (arith, length-take-le, drop_more before (place + i) d within, remove_behind)
 
 pub remove_parts : {T : Type 0} (xs : List T) (i : ℕ) → remove xs i ≡ take i xs ++ drop (i + 1) xs
 remove_parts xs i = ap (λ m. take i xs ++ drop m xs) (sym (add-one i))

@@ -1,5 +1,5 @@
 -- A test that falls once along a list.
-use Rattle.std.proofs.Common.{◌≡◌, ◌⊎◌, ℕ, zero, suc, ◌+◌, ◌<◌, ◌≤◌, Bool, true, false, cond, List, [], ◌∷◌, ◌++◌, length, get_or, refl, sym, ◌∙◌, inl, inr, arith, count_by, min}
+use Rattle.std.proofs.Common.{◌≡◌, ◌⊎◌, ℕ, zero, suc, ◌+◌, ◌<◌, ◌≤◌, Bool, true, false, cond, List, [], ◌∷◌, ◌++◌, length, get_or, refl, sym, ◌∙◌, arith, count_by, min}
 use Rattle.std.specs.List.Sorted.{IsPartitionedBy}
 use Rattle.std.proofs.lemmas.Bool.{false_from_ne_true, false≢true, both_ways}
 use Rattle.std.proofs.lemmas.List.Sums.{sum_by-cons, sum_by-append, count_by-le-length}
@@ -75,22 +75,12 @@ module _ {X : Type 0} (p : X → Bool) where
 
   -- the items that pass are the first ones
   pub falling_front : (xs : List X) → Falls p xs → IsFrontOf p xs (count_by p xs)
-  falling_front xs falls = (
-    count_by-le-length p xs,
-    (
-      (λ k d low less.
-          elim (true_or_false (p (get_or xs k d))) [
-            | inl holds ↦ holds
-            | inr fails ↦
-                grind (arith, falls_false, count_by-le-length)
-          ]),
-      (grind (arith, falls_true)),
-    ),
-  )
+  falling_front xs falls = grind (arith, count_by-le-length, true_or_false, falls_false, falls_true)
 
 -- where a search stands that knows that `low` items pass, and `left` more may, with the steps that
 -- were counted
-pub record Narrowed {X : Type 0} (p : X → Bool) (xs : List X) (low left first now : ℕ) : Type 0 where
+pub record Narrowed {X : Type 0} (p : X → Bool) (xs : List X)
+    (low left first now : ℕ) : Type 0 where
   pub within : low + left ≤ length xs
   pub at_least : low ≤ count_by p xs
   pub at_most : count_by p xs ≤ low + left

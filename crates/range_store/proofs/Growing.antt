@@ -1,14 +1,14 @@
 -- What becomes of a node when the subtree of one of its children became one or two.
-use Rattle.std.proofs.Common.{◌≡◌, ◌≢◌, ℕ, suc, ◌+◌, ◌-◌, ◌<◌, ◌≤◌, List, [], ◌∷◌, ◌++◌, length, get_or, take, drop, map, refl, sym, ap, ◌∙◌, arith, Option, Some, None, IsSome}
-use Rattle.std.specs.List.{All, flat_map, sum_by, insert}
+use Rattle.std.proofs.Common.{◌≡◌, ◌≢◌, ℕ, suc, ◌+◌, ◌-◌, ◌<◌, ◌≤◌, List, [], ◌∷◌, ◌++◌, length, get_or, take, drop, map, refl, ap, arith, Option, Some, None, IsSome, sym, ◌∙◌}
+use Rattle.std.specs.List.{All, flat_map, insert, sum_by}
 use Rattle.std.proofs.lemmas.List.{append-nil, append_assoc, length-append, length-map, map-append, length-take-le, length-drop, take-append-drop, take_more, take-map, drop-map}
 use Rattle.std.proofs.lemmas.List.Concat.{flat_map-append}
 use Rattle.std.proofs.lemmas.List.Elements.{All-append, All-take, All-drop}
 use Rattle.std.proofs.lemmas.List.Edits.{length-insert}
-use Rattle.range_store.specs.Heap.{Heap, node_of, HasRoomFor, items_of, child_count, Writes, node_items, node_children, node_child}
+use Rattle.range_store.specs.Heap.{Heap, node_of, HasRoomFor, child_count, Writes, node_items, node_children, node_child}
 use Rattle.range_store.specs.declared.btree.nodes.Split.{Split}
-use Rattle.range_store.specs.declared.btree.nodes.TheConstants.{CAPACITY, MIN_LEN}
-use Rattle.range_store.specs.Nodes.{weave, rest_of, front_of, before, after, items_below, used, Shaped, ShapedBut, here, Owned, Moves, tops, separators, Replaces, EnoughFor, HasTreeRoom, child_lists, before_child}
+use Rattle.range_store.specs.declared.btree.nodes.TheConstants.{CAPACITY}
+use Rattle.range_store.specs.Nodes.{weave, rest_of, front_of, before, after, items_below, used, Shaped, ShapedBut, Owned, Moves, tops, separators, Replaces, HasTreeRoom, child_lists, before_child}
 use Rattle.range_store.specs.Contents.{IsContent, Settles}
 use Rattle.range_store.specs.Occurrences.{occurrences, occurrences-append, occurrences-cons, occurrences_itself}
 use Rattle.range_store.specs.Weave.{list_splits_at, weave_splice, insert_middle, length-weave, length-before}
@@ -44,11 +44,8 @@ module _ {T : Type 0} {s t : Heap T} {b n : ℕ} {us ms vs ts : List ℕ}
       ≡ occurrences k (flat_map (used s b) ms) + occurrences k rest
   occur_old k = omega (arith, ap (occurrences k) used_old, occurrences-cons, occurrences-append)
 
-  once : (k : ℕ) → occurrences k (flat_map (used s b) ms) + occurrences k rest ≤ here s k
-  once k = omega (arith, occur_old k, run.owned k)
-
   agree : AgreeAt s t rest
-  agree = Moves-agree rest once run.moved
+  agree = Moves-agree rest (λ k. omega (arith, occur_old k, run.owned k)) run.moved
 
   pub run_kept : node_of t n ≡ node_of s n
   run_kept = grind (arith, agree, occurrences-cons, occurrences_itself)
@@ -69,9 +66,7 @@ module _ {T : Type 0} {s t : Heap T} {b n : ℕ} {us ms vs ts : List ℕ}
   used_new : flat_map (used t b) (us ++ (ts ++ vs)) ≡ flat_map (used s b) us
       ++ (flat_map (used t b) ts ++ flat_map (used s b) vs)
   used_new =
-      flat_map-append (used t b) us (ts ++ vs)
-      ∙ ap (λ zs. flat_map (used t b) us ++ zs) (flat_map-append (used t b) ts vs)
-      ∙ rw (same_before.used_same, same_after.used_same) refl
+      grind (arith, flat_map-append, same_before, same_after)
 
   pub run_moved : Moves s t (used s (suc b) n) (n ∷ flat_map (used t b) (us ++ (ts ++ vs)))
   run_moved = Moves-like (used s (suc b) n) (n ∷ flat_map (used t b) (us ++ (ts ++ vs)))
@@ -98,9 +93,7 @@ module _ {T : Type 0} {s t : Heap T} {b n : ℕ} {us ms vs ts : List ℕ}
   pub run_lists : map (items_below t b) (us ++ (ts ++ vs)) ≡ map (items_below s b) us
       ++ (map (items_below t b) ts ++ map (items_below s b) vs)
   run_lists =
-      map-append (items_below t b) us (ts ++ vs)
-      ∙ ap (λ zs. map (items_below t b) us ++ zs) (map-append (items_below t b) ts vs)
-      ∙ rw (same_before.items_below_same, same_after.items_below_same) refl
+      grind (arith, map-append, same_before, same_after)
 
 -- a written node in the place of what became of the old one
 pub settled_replaces : {T : Type 0} {s t u : Heap T} {b n : ℕ} {xs : List T} {ks : List ℕ}
@@ -181,14 +174,8 @@ module _ {T : Type 0} {s t : Heap T} {b n i rest : ℕ} {item : T} {split : Opti
   many : length ks ≡ length xs + 1
   many = children_length (omega arith) grows.shaped
 
-  ks_parts : ks ≡ us ++ (kid ∷ vs)
-  ks_parts = list_splits_at ks i 0 (omega (arith, many))
-
-  kid_shape : ShapedBut MIN_LEN CAPACITY s (b - 1) kid
-  kid_shape = Shaped-but s (b - 1) kid (grind arith)
-
   grown_run : Runs s t b n us (kid ∷ []) vs (tops kid split)
-  grown_run = grind (arith, ks_parts, append-nil)
+  grown_run = grind (arith, list_splits_at ks i 0 (omega (arith, many)), append-nil)
 
   pub grown_kept : node_of t n ≡ node_of s n
   grown_kept = run_kept grown_run
@@ -196,30 +183,18 @@ module _ {T : Type 0} {s t : Heap T} {b n i rest : ℕ} {item : T} {split : Opti
   pub grown_moved : Moves s t (used s (suc b) n) (n ∷ flat_map (used t b) new_ks)
   grown_moved = run_moved grown_run
 
-  tops_shaped : All (Shaped t b) (tops kid split)
-  tops_shaped =
-      let but = grows.child.shape MIN_LEN (omega arith) (enough split) in
-      grind (arith, Shaped-from_but)
-    where
-      enough : (cut : Option (Split T)) → EnoughFor MIN_LEN cut (length (node_items s kid))
-      enough None = kid_shape.node.enough
-      enough (Some cut) = tt
-
   us_many : length us ≡ i
   us_many = length-take-le i ks (omega (arith, many))
 
-  front_many : length (take i xs) ≡ i
-  front_many = length-take-le i xs grows.low
-
   pub grown_content : IsContent t b n new_xs new_ks
-  grown_content = run_content grown_run new_xs (grind (
+  grown_content = grind (
     arith,
-    length-append,
-    us_many,
-    front_many,
-    length-drop,
-  )) (All-take (Shaped s b) i ks grows.shaped.children) tops_shaped
-      (All-drop (Shaped s b) (i + 1) ks grows.shaped.children)
+    run_content grown_run new_xs
+        (grind (arith, length-append, us_many, length-take-le i xs grows.low, length-drop))
+        (All-take (Shaped s b) i ks grows.shaped.children)
+        (grind (arith, Shaped-from_but, Shaped-but s (b - 1) kid (grind arith)))
+        (All-drop (Shaped s b) (i + 1) ks grows.shaped.children),
+  )
 
   abbrev lists : List (List T)
   lists = child_lists s b n
@@ -233,7 +208,7 @@ module _ {T : Type 0} {s t : Heap T} {b n i rest : ℕ} {item : T} {split : Opti
       ap (weave new_xs) (run_lists grown_run)
       ∙ weave_tops (take i xs) (drop i xs) (map (items_below s b) us) (map (items_below s b) vs)
       (items_below t b) kid split
-      (omega (arith, front_many, us_many, length-map us (items_below s b)))
+      (omega (arith, length-take-le i xs grows.low, us_many, length-map us (items_below s b)))
       ∙ rw (inserted, ← take-map (items_below s b) i ks, ← drop-map (items_below s b) (i + 1) ks)
       refl
       ∙ sym (insert_middle (before xs lists i) (items_below s b kid)
@@ -255,21 +230,17 @@ module _ {T : Type 0} {s t : Heap T} {b n i rest : ℕ} {item : T} {split : Opti
   grown_seat side g seat =
       let all =
       seat_run t (b - 1) us (tops kid split) vs (take i xs) (separators split)
-      (drop i xs) i side g us_many front_many (tops_many kid split) seat in
+      (drop i xs) i side g us_many (length-take-le i xs grows.low) (tops_many kid split) seat in
       let here = ap (λ m. seat_place t m new_xs new_ks (i + side) g) level in
       let sums = ap (λ m. sum_by length (map (items_below t m) us)) level in
       let front =
       length-before xs lists i grows.low (omega (arith, many, length-map ks (items_below s b))) in
-      let same : map (items_below t b) us ≡ take i lists = (same_before grown_run).items_below_same
-      ∙ sym (take-map (items_below s b) i ks) in
-      (rw level at all.0, omega (arith, all.1, front, here, sums, ap (sum_by length) same))
+      grind (arith, same_before grown_run, take-map (items_below s b) i ks, level, here)
 
 -- the children with the new one
 pub with_right : (ks : List ℕ) (i right : ℕ) → i < length ks
     → insert ks (i + 1) right ≡ take i ks ++ (get_or ks i 0 ∷ right ∷ drop (i + 1) ks)
-with_right ks i right low =
-    ap (λ zs. zs ++ (right ∷ drop (i + 1) ks)) (take_more ks i 0 low)
-    ∙ append_assoc (take i ks) (get_or ks i 0 ∷ []) (right ∷ drop (i + 1) ks)
+with_right ks i right low = grind (arith, take_more ks i 0 low, append_assoc)
 
 pub kid_owned : {T : Type 0} (s : Heap T) (b n i : ℕ) → Owned s (suc b) n
     → i < length (node_children s n) → Owned s b (node_child s n i)
@@ -294,14 +265,11 @@ module _ {T : Type 0} {s t : Heap T} {b n i rest : ℕ} {item : T}
   abbrev ks' : List ℕ
   ks' = take i (node_children s n) ++ (node_child s n i ∷ drop (i + 1) (node_children s n))
 
-  kept : node_of t n ≡ node_of s n
-  kept = grown_kept grows
-
   content : IsContent t b n xs' ks'
   content = grown_content grows
 
   written : Writes t t n xs' ks'
-  written = grind (arith, kept, take-append-drop, list_splits_at, children_length)
+  written = grind (arith, grown_kept grows, take-append-drop, list_splits_at, children_length)
 
   same_length : length xs' ≡ length (node_items s n)
   same_length = ap length (take-append-drop i (node_items s n))
@@ -334,8 +302,7 @@ module _ {T : Type 0} {s t : Heap T} {b n i rest : ℕ} {item : T} {split : Spli
     (grows : Grows s t b n i rest item (Some split)) where
   pub some_items : take i (node_items s n) ++ (split.middle ∷ drop i (node_items s n))
       ≡ insert (node_items t n) i split.middle
-  some_items = ap (λ zs. insert zs i split.middle)
-      (sym (ap items_of (grown_kept grows)))
+  some_items = grind (arith, grown_kept grows)
 
   pub some_children : take i (node_children s n) ++ (node_child s n i ∷ split.right ∷ drop (i + 1)
       (node_children s n)) ≡ insert (node_children t n) (i + 1) split.right

@@ -2,7 +2,7 @@
 use Rattle.std.proofs.Common.{◌≡◌, ◌≢◌, ℕ, List, Option, Some, None, sym, arith}
 use Rattle.std.proofs.Math.ListN.{set}
 use Rattle.std.proofs.lemmas.List.{get_or-set_other}
-use Rattle.range_store.specs.Heap.{Heap, Content, node_of, HasNode, with_item, Writes, Removes}
+use Rattle.range_store.specs.Heap.{Heap, Content, HasNode, Writes, Removes}
 use Rattle.range_store.proofs.Slots.{slot_count, slot_read}
 
 module _ {T : Type 0} where
@@ -16,10 +16,6 @@ module _ {T : Type 0} where
   removes_slot : (s : Heap T) (n : ℕ) → HasNode s n → Removes s (with_slot s n None) n
   removes_slot s n present = grind (arith, slot_read, get_or-set_other, slot_count)
 
-  pub item_other : (s : Heap T) (n i k : ℕ) (x : T) → k ≢ n
-      → node_of (with_item s n i x) k ≡ node_of s k
-  item_other s n i k x other = grind (arith, get_or-set_other)
-
   module _ (s t u : Heap T) (n m : ℕ) (xs : List T) (ks : List ℕ) (apart : m ≢ n) where
     -- two writes of different nodes
     pub record WritesFirst (ys : List T) (ls : List ℕ) : Type 0 where
@@ -31,10 +27,7 @@ module _ {T : Type 0} where
         → WritesFirst ys ls
     write_first {ys} {ls} one two =
         let present : HasNode s m = rw (one.others m apart) at two.was in
-        let between = with_slot s m (Some (record { items = ys; children = ls })) in
-        let first : Writes s between m ys ls = writes_slot s m
-        (record { items = ys; children = ls }) present in
-        grind arith
+        grind (arith, writes_slot s m (record { items = ys; children = ls }) present)
 
     pub record RemovesFirst : Type 0 where
       pub between : Heap T
@@ -53,7 +46,4 @@ module _ {T : Type 0} where
     remove_last one two =
         let apart' = λ (e : n ≡ m). apart (sym e) in
         let present : HasNode s n = rw (one.others n apart') at two.was in
-        let between = with_slot s n (Some (record { items = xs; children = ks })) in
-        let first : Writes s between n xs ks = writes_slot s n
-        (record { items = xs; children = ks }) present in
-        grind arith
+        grind (arith, writes_slot s n (record { items = xs; children = ks }) present)

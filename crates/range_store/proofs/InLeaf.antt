@@ -1,5 +1,5 @@
 -- An edge within its leaf.
-use Rattle.std.proofs.Common.{◌≡◌, ℕ, zero, suc, ◌+◌, ◌-◌, ◌/◌, ◌%◌, ◌<◌, ◌≤◌, List, [], ◌∷◌, length, get_or, refl, ap, ◌∙◌, arith, IsSome}
+use Rattle.std.proofs.Common.{◌≡◌, ℕ, zero, suc, ◌+◌, ◌-◌, ◌/◌, ◌<◌, ◌≤◌, List, [], ◌∷◌, length, get_or, refl, ap, arith, IsSome, ◌%◌}
 use Rattle.std.specs.List.{remove}
 use Rattle.std.proofs.Math.ListN.{set}
 use Rattle.range_store.specs.Heap.{Heap, node_of, node_items, node_children, node_child}
@@ -48,8 +48,7 @@ pub leaf_beside : {T : Type 0} (s : Heap T) (d n : ℕ) (g h : Edge) → h.leaf 
     → IsEdge s d n h × (place s d n h + g.index ≡ place s d n g + h.index)
 unfolding IsEdge place
 leaf_beside s zero n g h leaf path index is =
-    let within : h.index ≤ length (node_items s n) = rw is.0 at index in
-    ((leaf ∙ is.0, path ∙ is.1, within), omega arith)
+    grind arith
 leaf_beside s (suc d) n g h leaf path index is =
     let first : turn h ≡ turn g = ap (λ w. w % PATH_BASE) path in
     let rest =

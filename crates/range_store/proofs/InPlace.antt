@@ -1,15 +1,14 @@
 -- A leaf with other items, below nodes that stay as they were.
-use Rattle.std.proofs.Common.{◌≡◌, ◌≢◌, ℕ, zero, suc, ◌+◌, ◌-◌, ◌<◌, ◌≤◌, List, [], ◌++◌, length, sym, ap, ◌∙◌, arith}
+use Rattle.std.proofs.Common.{◌≡◌, ℕ, zero, suc, ◌+◌, ◌-◌, ◌<◌, ◌≤◌, List, [], ◌++◌, length, sym, ap, ◌∙◌, arith}
 use Rattle.std.specs.List.{insert, remove}
 use Rattle.std.proofs.lemmas.List.{append-nil, length-append, nil_from_length}
 use Rattle.std.proofs.lemmas.List.Edits.{length-insert, length-remove}
-use Rattle.range_store.specs.Heap.{Heap, node_of, Writes, node_items, node_children, node_child}
+use Rattle.range_store.specs.Heap.{Heap, Writes, node_items, node_children, node_child}
 use Rattle.range_store.specs.declared.btree.nodes.TheConstants.{CAPACITY, MIN_LEN}
 use Rattle.range_store.specs.declared.btree.BoxStorage.{BoxStorage}
 use Rattle.range_store.specs.declared.btree.path.Edge.{Edge}
 use Rattle.range_store.specs.Nodes.{items_below, Shaped, ShapedBut, Owned, IsTree, before_child, after_child}
 use Rattle.range_store.specs.Edges.{turn, inside, IsEdge, place}
-use Rattle.range_store.specs.Contents.{IsContent}
 use Rattle.range_store.specs.Holding.{box_items, IsBoxEdge, box_place}
 use Rattle.range_store.proofs.Below.{items_below_at, items_below_leaf, shaped_within_wider, Shaped-from_but}
 use Rattle.range_store.proofs.Contents.{IsRewritten, Holds, written_holds, held_items_below, held_used, bare_content}
@@ -40,11 +39,8 @@ module _ {T : Type 0} {s t : Heap T} {n : ℕ} (g : Edge) {items : List T}
     (fits : length items ≤ CAPACITY) (enough : (least : ℕ) → least ≤ MIN_LEN → least ≤ length
     (node_items s n) → least ≤ length items) (shaped : ShapedBut 1 CAPACITY s zero n)
     (owned : Owned s 1 n) (written : Writes s t n items (node_children s n)) where
-  content : IsContent s zero n items (node_children s n)
-  content = bare_content items shaped owned
-
   holds : Holds s t zero n items (node_children s n)
-  holds = written_holds t content written
+  holds = written_holds t (bare_content items shaped owned) written
 
   edited_here : g.leaf ≡ n → g.path ≡ 0 → IsLeafEdit s t zero n g items
   edited_here at first =
@@ -57,11 +53,7 @@ module _ {T : Type 0} {s t : Heap T} {n : ℕ} (g : Edge) {items : List T}
         rewritten =
             grind (arith, held_items_below holds, append-nil items, held_used, holds, Writes-moves);
         edges =
-            λ h leaf path index. (
-              leaf_edge t n h (leaf ∙ at) (path ∙ first)
-                  (omega (arith, ap length holds.items_are)),
-              omega (arith, leaf_place t n h),
-            );
+            grind (arith, leaf_edge, holds, leaf_place);
       }
 
 -- of a leaf below the child through which the path goes
@@ -70,9 +62,6 @@ module _ {T : Type 0} {s t : Heap T} {d n : ℕ} (g : Edge) {items : List T}
     (low : turn g ≤ length (node_items s n)) (within : turn g < length (node_children s n))
     (below : IsLeafEdit s t d (node_child s n (turn g)) (inside g) items)
   where
-    inner : suc d ≢ 0
-    inner same = absurd (omega (arith, same))
-
     abbrev fore : List T
     fore = before_child s (suc d) n (turn g)
 
@@ -82,12 +71,8 @@ module _ {T : Type 0} {s t : Heap T} {d n : ℕ} (g : Edge) {items : List T}
     anew : ListsAnew s t (suc d) n (turn g) (below.front ++ (items ++ below.rest))
     anew = grind arith
 
-    kept : node_of t n ≡ node_of s n
-    kept = kid_kept anew
-
     kid_now : Shaped t (suc d) (node_child s n (turn g))
-    kid_now = Shaped-from_but t d _
-        (below.rewritten.shape MIN_LEN (omega arith) (kid_shaped d (turn g) shaped low))
+    kid_now = grind (arith, Shaped-from_but, kid_shaped d (turn g) shaped low)
 
     edited_above : IsLeafEdit s t (suc d) n g items
     edited_above = record {
@@ -100,10 +85,10 @@ module _ {T : Type 0} {s t : Heap T} {d n : ℕ} (g : Edge) {items : List T}
       rewritten = record {
         listed = kid_listed anew ∙ regroup fore below.front items below.rest behind;
         moved = kid_moved anew;
-        shape = λ least small old. grind (arith, kept, kid_children, kid_now);
+        shape = λ least small old. grind (arith, kid_kept anew, kid_children, kid_now);
       };
       edges = λ h leaf path index.
-          grind (arith, kept, place_inside, kid_front, edge_above, length-append);
+          grind (arith, kid_kept anew, place_inside, kid_front, edge_above, length-append);
     }
 
 pub leaf_edit : {T : Type 0} {s t : Heap T} (d : ℕ) {n : ℕ} (g : Edge) {items : List T}
@@ -164,12 +149,6 @@ module _ {T : Type 0} {t : BoxStorage T} (new : Heap T) {g : Edge} (is : IsBoxEd
     pub edge : IsEdge new (t.levels - 1) t.root h
     pub place_is : place new (t.levels - 1) t.root h + g.index ≡ box_place t g + before
 
-  leaf_change_lists : {now : List T} (list : List T) (h : Edge)
-      (edit : IsLeafEdit t.nodes new (t.levels - 1) t.root g now)
-      → edit.front ++ (now ++ edit.rest) ≡ list → h.leaf ≡ g.leaf → h.path ≡ g.path
-      → h.index ≤ length now → IsLeafChange list h h.index
-  leaf_change_lists list h edit same at path within = grind arith
-
   pub put_in_leaf : (item : T) (h : Edge) → length items < CAPACITY
       → Writes t.nodes new g.leaf (insert items g.index item) (node_children t.nodes g.leaf)
       → h.leaf ≡ g.leaf → h.path ≡ g.path → h.index ≡ g.index + 1
@@ -179,8 +158,7 @@ module _ {T : Type 0} {t : BoxStorage T} (new : Heap T) {g : Edge} (is : IsBoxEd
       let more = length-insert items g.index item within in
       let edit = leaf_edit (t.levels - 1) g (omega (arith, more, room))
       (λ least small old. omega (arith, more, old)) shaped owned is.edge written in
-      leaf_change_lists _ h edit (rw level at (inserted_in_leaf item edit within)) at path
-      (omega (arith, more, next, within))
+      grind (arith, level, inserted_in_leaf item edit within)
 
   pub take_from_leaf : (h : Edge) → MIN_LEN < length items → 0 < g.index
       → Writes t.nodes new g.leaf (remove items (g.index - 1))
@@ -191,5 +169,4 @@ module _ {T : Type 0} {t : BoxStorage T} (new : Heap T) {g : Edge} (is : IsBoxEd
       let less = length-remove items (g.index - 1) (omega (arith, within, some)) in
       let edit = leaf_edit (t.levels - 1) g (omega (arith, less, leaf.fits))
       (λ least small old. omega (arith, less, spare, small)) shaped owned is.edge written in
-      leaf_change_lists _ h edit (rw level at (removed_in_leaf edit some within)) at path
-      (omega (arith, less, back, within))
+      grind (arith, level, removed_in_leaf edit some within)

@@ -1,5 +1,5 @@
 -- Two neighbours and the item between them, as one.
-use Rattle.std.proofs.Common.{◌≡◌, ◌≢◌, ℕ, zero, suc, ◌+◌, ◌<◌, ◌≤◌, List, [], ◌∷◌, ◌++◌, length, get_or, take, drop, map, refl, sym, ap, ◌∙◌, arith, Some, None}
+use Rattle.std.proofs.Common.{◌≡◌, ◌≢◌, ℕ, zero, suc, ◌+◌, ◌<◌, ◌≤◌, List, [], ◌∷◌, ◌++◌, length, get_or, take, drop, map, refl, sym, arith, Some, None, ap, ◌∙◌}
 use Rattle.std.specs.List.{flat_map}
 use Rattle.std.proofs.lemmas.List.{append-nil, append_assoc, length-append, length-map, map-append}
 use Rattle.std.proofs.lemmas.List.Concat.{flat_map-append}
@@ -8,7 +8,7 @@ use Rattle.range_store.specs.Heap.{Heap, node_of, Writes, Removes, node_items, n
 use Rattle.range_store.specs.declared.btree.nodes.Split.{Split}
 use Rattle.range_store.specs.declared.btree.nodes.TheConstants.{CAPACITY, MIN_LEN}
 use Rattle.range_store.specs.declared.btree.path.Edge.{Edge}
-use Rattle.range_store.specs.Nodes.{weave, items_below, used, Shaped, here}
+use Rattle.range_store.specs.Nodes.{weave, items_below, used, Shaped}
 use Rattle.range_store.specs.Edges.{turn, inside, seat_of, IsEdge, place, IsSeat, seat_place}
 use Rattle.range_store.specs.Contents.{IsContent}
 use Rattle.range_store.specs.Occurrences.{occurrences, occurrences-append, occurrences-cons, occurrences_itself}
@@ -36,23 +36,13 @@ module _ {T : Type 0} {s : Heap T} {d l r : ℕ} (x : T) (pair : IsPair s d l r)
   pub pair_nodes : SameNodes (used s (suc d) l ++ used s (suc d) r) (r ∷ l ∷ F)
   pair_nodes = grind (arith, used_is, occurrences-append, occurrences-cons, both, length-append)
 
-  occur_pair : (k : ℕ)
-      → occurrences k (r ∷ []) + (occurrences k (l ∷ []) + occurrences k F) ≤ here s k
-  occur_pair k = omega (arith, pair_nodes.occur k, occurrences-cons)
-
   pub pair_apart : l ≢ r
   pair_apart same =
-      let itself : occurrences r (l ∷ []) ≡ 1 = rw same (occurrences_itself r) in
-      omega (arith, occur_pair r, occurrences_itself r, here_le s r, itself)
+      grind (arith, occurrences_itself r, pair_nodes.occur r, occurrences-cons, here_le s r)
 
   pub right_apart : (k : ℕ) → 0 < occurrences k F → k ≢ r
   right_apart k among same =
-      let itself : occurrences k (r ∷ []) ≡ 1 = rw same (occurrences_itself r) in
-      omega (arith, occur_pair k, itself, here_le s k)
-
-  one : length (node_items s l) + (1 + length (node_items s r))
-      ≡ length (node_items s l) + length (x ∷ node_items s r)
-  one = omega arith
+      grind (arith, occurrences_itself r, pair_nodes.occur k, occurrences-cons, here_le s k)
 
   pub pair_content : IsContent s d l xs ks
   pair_content = record {
@@ -61,7 +51,7 @@ module _ {T : Type 0} {s : Heap T} {d l r : ℕ} (x : T) (pair : IsPair s d l r)
         All-append (Shaped s d) (node_children s l)
         (node_children s r) pair.left.children pair.right.children;
     branches = grind (arith, length-append);
-    owned = λ k. omega (arith, occur_pair k, occurrences-cons k l F);
+    owned = λ k. omega (arith, pair_nodes.occur k, occurrences-cons, occurrences-cons k l F);
   }
 
   pub pair_listed : weave xs (map (items_below s d) ks) ≡ items_below s (suc d) l
@@ -77,24 +67,18 @@ module _ {T : Type 0} {s : Heap T} {d l r : ℕ} (x : T) (pair : IsPair s d l r)
     gone_apart : (k : ℕ) → 0 < occurrences k F → node_of u k ≡ node_of s k
     gone_apart k among = grind (arith, right_apart, content_apart, pair_content)
 
-    l_kept : node_of u l ≡ node_of t l
-    l_kept = removed.others l pair_apart
-
     pub united_holds : Holds s u d l xs ks
-    united_holds = held_after written l_kept gone_apart
+    united_holds = held_after written (removed.others l pair_apart) gone_apart
 
     pub united_agree : AgreeAt s u F
     united_agree = gone_apart
-
-    united_used : used u (suc d) l ≡ l ∷ F
-    united_used = held_used united_holds
 
     pub united_rejoins : Rejoins s u d l x r None
     united_rejoins = record {
       listed = grind (arith, append-nil, held_items_below, united_holds, pair_listed);
       moved = Moves-like (used s (suc d) l ++ used s (suc d) r) (used u (suc d) l ++ [])
           (record { occur = λ k. sym (pair_nodes.occur k); len = sym pair_nodes.len })
-          (grind (arith, append-nil, united_used))
+          (grind (arith, append-nil, held_used united_holds))
           (Moves-then
           (Moves-like (r ∷ l ∷ F) (r ∷ l ∷ F) swapped swapped (Writes-moves (r ∷ F) written))
           (Removes-moves (l ∷ F) removed));
@@ -110,12 +94,10 @@ module _ {T : Type 0} {s : Heap T} {d l r : ℕ} (x : T) (pair : IsPair s d l r)
     pub shared_agree : AgreeAt s u F
     shared_agree k among = grind (arith, right_apart, content_apart, pair_content)
 
-    left_kept : node_of u l ≡ node_of t l
-    left_kept = second.others l pair_apart
-
     pub shared_left : Holds s u d l (take half xs) (take (half + 1) ks)
     shared_left =
-        held_after first left_kept (part_agree s u d (half + 1) ks shared_agree).0
+        held_after first (second.others l pair_apart)
+        (part_agree s u d (half + 1) ks shared_agree).0
 
     pub shared_right : Holds s u d r (drop (half + 1) xs) (drop (half + 1) ks)
     shared_right = held_after second refl (part_agree s u d (half + 1) ks shared_agree).1
@@ -150,10 +132,7 @@ module _ {T : Type 0} (s : Heap T) (l : ℕ) (x : T) (r : ℕ) (g : Edge) where
       → IsSeat s d all_items all_children (seat_of d g) (inside g)
       × (seat_place s d all_items all_children (seat_of d g) (inside g) ≡ place s d l g)
   unfolding IsEdge place IsSeat seat_place
-  seat_from_left zero pair is = (
-    omega (arith, length-append (node_items s l) (x ∷ node_items s r)),
-    refl,
-  )
+  seat_from_left zero pair is = grind (arith, length-append)
   seat_from_left (suc e) pair is =
       let run =
       seat_run s e [] (node_children s l) (node_children s r) []
@@ -166,10 +145,7 @@ module _ {T : Type 0} (s : Heap T) (l : ℕ) (x : T) (r : ℕ) (g : Edge) where
       × (seat_place s d all_items all_children (length (node_items s l) + 1 + seat_of d g)
       (inside g) ≡ length (items_below s (suc d) l) + 1 + place s d r g)
   unfolding IsEdge place IsSeat seat_place
-  seat_from_right zero pair is = (
-    omega (arith, is.2, length-append (node_items s l) (x ∷ node_items s r)),
-    omega (arith, ap length (items_below_leaf s l pair.left.node.branches)),
-  )
+  seat_from_right zero pair is = grind (arith, length-append, items_below_leaf)
   seat_from_right (suc e) pair is =
       let xs = node_items s l in
       let ys = node_items s r in

@@ -9,7 +9,7 @@ use Rattle.range_store.specs.Rows.{full_cells, HoldsItems}
 use Rattle.range_store.specs.declared.btree.BoxStorage.{BoxStorage}
 use Rattle.range_store.specs.declared.btree.path.Edge.{Edge}
 use Rattle.range_store.proofs.Cells.{items_in_full, length-full, standing}
-use Rattle.range_store.proofs.Whole.{edge_within, leaf_item, tree_beside, tree_leaf}
+use Rattle.range_store.proofs.Whole.{edge_within, leaf_item, tree_beside}
 
 module _ {T : Type 0} where
   full_cells_full : (xs : List T) → AreFull (full_cells xs)
@@ -42,7 +42,6 @@ module _ {T : Type 0} {t : BoxStorage T} {g : Edge} (is : IsBoxEdge t g) where
   pub leaf_rest : drop g.index leaf_items
       ≡ take (length leaf_items - g.index) (drop (box_place t g) (box_items t))
   leaf_rest =
-      let leaf = tree_leaf is in
       let end = at_index (length leaf_items) (omega arith) in
       let most = edge_within end.0 in
       same_lists _ _

@@ -1,5 +1,5 @@
 -- An item into a leaf.
-use Rattle.std.proofs.Common.{◌≡◌, ℕ, ◌+◌, ◌≤◌, List, ◌∷◌, length, refl, ap, arith, subst}
+use Rattle.std.proofs.Common.{◌≡◌, ℕ, ◌+◌, ◌≤◌, List, ◌∷◌, length, refl, arith, subst}
 use Rattle.std.specs.List.{insert, flat_map}
 use Rattle.std.proofs.lemmas.List.{nil_from_length}
 use Rattle.std.proofs.lemmas.List.Edits.{length-insert}
@@ -13,7 +13,8 @@ use Rattle.range_store.proofs.Below.{used_is, items_below_leaf}
 use Rattle.range_store.proofs.Moves.{Moves-none}
 use Rattle.range_store.proofs.Contents.{bare_content}
 
-module _ {T : Type 0} {s : Heap T} {n : ℕ} (i : ℕ) (item : T) (shaped : ShapedBut 1 CAPACITY s 0 n) where
+module _ {T : Type 0} {s : Heap T} {n : ℕ} (i : ℕ) (item : T)
+    (shaped : ShapedBut 1 CAPACITY s 0 n) where
   pub leaf_content : Owned s 1 n
       → IsContent s 0 n (insert (node_items s n) i item) (node_children s n)
   leaf_content owned = bare_content (insert (node_items s n) i item) shaped owned
@@ -28,12 +29,7 @@ module _ {T : Type 0} {s : Heap T} {n : ℕ} (i : ℕ) (item : T) (shaped : Shap
   pub leaf_longer : i ≤ length (node_items s n) → length (weave (insert (node_items s n) i item)
       (child_lists s 0 n)) ≡ length (items_below s 1 n) + 1
   leaf_longer low =
-      omega (
-        arith,
-        ap length leaf_listed,
-        length-insert,
-        ap length (items_below_leaf s n shaped.node.branches),
-      )
+      grind (arith, leaf_listed, length-insert, items_below_leaf)
 
 pub leaf_seat : {T : Type 0} (s : Heap T) (xs : List T) (ks : List ℕ) (i : ℕ) (g : Edge)
     → i ≤ length xs → IsSeat s 0 xs ks i g

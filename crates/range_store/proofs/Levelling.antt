@@ -1,18 +1,18 @@
 -- A node after two of its children were levelled.
-use Rattle.std.proofs.Common.{◌≡◌, ℕ, suc, ◌+◌, ◌<◌, List, [], ◌∷◌, ◌++◌, length, get_or, take, drop, map, refl, sym, ap, ◌∙◌, subst, arith, Option, Some, None}
-use Rattle.std.specs.List.{flat_map, sum_by}
+use Rattle.std.proofs.Common.{◌≡◌, ℕ, suc, ◌+◌, ◌<◌, List, [], ◌∷◌, ◌++◌, length, get_or, take, drop, map, refl, ◌∙◌, arith, Option, Some, None, sym, ap, subst}
+use Rattle.std.specs.List.{flat_map}
 use Rattle.std.proofs.lemmas.List.{append-nil, append_assoc, length-append, length-map, length-take-le, length-drop, take_more, take-map, drop_more}
 use Rattle.range_store.specs.Heap.{Heap, Writes, node_items, node_children, node_child}
 use Rattle.range_store.specs.declared.btree.nodes.Split.{Split}
 use Rattle.range_store.specs.declared.btree.path.Edge.{Edge}
-use Rattle.range_store.specs.Nodes.{weave, rest_of, front_of, before, items_below, used, Moves, tops, separators, Shrinks, IsLevelled}
+use Rattle.range_store.specs.Nodes.{weave, rest_of, front_of, before, items_below, used, tops, separators, Shrinks, IsLevelled, Moves}
 use Rattle.range_store.specs.Edges.{turn, inside, IsEdge, place, IsSeat, seat_place}
 use Rattle.range_store.specs.Contents.{IsContent}
-use Rattle.range_store.specs.Occurrences.{occurrences, occurrences-append, occurrences-cons}
+use Rattle.range_store.specs.Occurrences.{occurrences-append, occurrences-cons}
 use Rattle.range_store.specs.Weave.{list_splits_at, weave_splice, length-before}
 use Rattle.range_store.proofs.Below.{weave_items_below}
 use Rattle.range_store.proofs.Moves.{Moves-then, Writes-moves}
-use Rattle.range_store.proofs.Contents.{IsPair, Rejoins, held_items_below, held_used, held_shape, written_holds, written_agree}
+use Rattle.range_store.proofs.Contents.{IsPair, Rejoins, held_items_below, held_used, written_holds, written_agree}
 use Rattle.range_store.proofs.Growing.{Runs, tops_many, weave_tops, run_moved, run_content, run_lists, same_before, used_old}
 use Rattle.range_store.proofs.Seats.{seat_run, seat_written}
 
@@ -60,15 +60,7 @@ module _ {T : Type 0} {s : Heap T} {low n j : ℕ} (x : T) (levelled : IsLevelle
   same_run = grind (arith, ks_parts)
 
   pub pair_of : IsPair s low l r
-  pair_of = record {
-    left = levelled.left;
-    right = levelled.right;
-    owned =
-        λ k.
-        omega (arith, ap (occurrences k) (used_old same_run), occurrences-cons, occurrences-append);
-    enough = levelled.enough;
-    fits = levelled.fits;
-  }
+  pair_of = grind (arith, used_old same_run, same_run, occurrences-cons, occurrences-append)
 
   module _ {t : Heap T} {split : Option (Split T)} (rejoins : Rejoins s t low l x r split) where
     pair_run : Runs s t (suc low) n us (l ∷ r ∷ []) vs (tops l split)
@@ -84,22 +76,14 @@ module _ {T : Type 0} {s : Heap T} {low n j : ℕ} (x : T) (levelled : IsLevelle
 
     pub new_length : length new_xs + 1 ≡ length xs + length (separators split)
     new_length =
-        grind (
-          arith,
-          length-append (take j xs) (separators split ++ drop (j + 1) xs),
-          front_many,
-          length-drop (j + 1) xs,
-        )
+        grind (arith, length-append, front_many, length-drop)
 
     new_content : IsContent t (suc low) n new_xs new_ks
-    new_content = run_content pair_run new_xs (grind (
+    new_content = grind (
       arith,
-      new_length,
-      length-append,
-      us_many,
-      length-drop,
-    ))
-        levelled.before rejoins.shaped levelled.behind
+      run_content pair_run new_xs
+          (grind (arith, new_length, length-append, us_many, length-drop)) levelled.before rejoins.shaped levelled.behind,
+    )
 
     woven_old : items_below s (suc (suc low)) n
         ≡ front_of (take j xs) (map (items_below s (suc low)) us)
@@ -131,12 +115,9 @@ module _ {T : Type 0} {s : Heap T} {low n j : ℕ} (x : T) (levelled : IsLevelle
     -- what is written to the node
     pub pair_children : (cut : Option (Split T))
         → take (j + 1) ks ++ (drop 1 (tops l cut) ++ vs) ≡ us ++ (tops l cut ++ vs)
-    pair_children None =
-        ap (λ zs. zs ++ vs) (take_more ks j 0 (omega (arith, many, levelled.within)))
-        ∙ append_assoc us (l ∷ []) vs
+    pair_children None = grind (arith, take_more, many, append_assoc us (l ∷ []) vs)
     pair_children (Some cut) =
-        ap (λ zs. zs ++ (cut.right ∷ vs)) (take_more ks j 0 (omega (arith, many, levelled.within)))
-        ∙ append_assoc us (l ∷ []) (cut.right ∷ vs)
+        grind (arith, take_more, many, append_assoc us (l ∷ []) (cut.right ∷ vs))
 
     module _ {u : Heap T} (written : Writes t u n new_xs new_ks) where
       pub levelled_shrinks : Shrinks s u (suc low) n (items_below s (suc (suc low)) n)
@@ -147,9 +128,7 @@ module _ {T : Type 0} {s : Heap T} {low n j : ℕ} (x : T) (levelled : IsLevelle
             moved = subst (λ zs. Moves s u (used s (suc (suc low)) n) zs) (sym (held_used holds))
                 (Moves-then (run_moved pair_run)
                 (Writes-moves (flat_map (used t (suc low)) new_ks) written));
-            shape = λ least more. held_shape holds least (omega (arith, new_length, more))
-                (grind (arith, new_length, levelled.node.fits)) new_content.branches
-                new_content.shaped;
+            shape = grind (arith, new_length, new_content);
           }
 
       pub levelled_edge : (side : ℕ) (g h : Edge) → turn h ≡ j + side → inside h ≡ g
@@ -171,7 +150,4 @@ module _ {T : Type 0} {s : Heap T} {low n j : ℕ} (x : T) (levelled : IsLevelle
           length-before xs (map (items_below s (suc low)) ks) j
           (omega (arith, levelled.within))
           (omega (arith, many, levelled.within, length-map ks (items_below s (suc low)))) in
-          let same : map (items_below t (suc low)) us ≡ take j (map (items_below s (suc low)) ks) =
-          (same_before pair_run).items_below_same
-          ∙ sym (take-map (items_below s (suc low)) j ks) in
-          (edge.0, omega (arith, edge.1, run.1, front, ap (sum_by length) same))
+          grind (arith, same_before pair_run, take-map (items_below s (suc low)) j ks)

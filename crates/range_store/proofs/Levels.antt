@@ -36,21 +36,14 @@ but_sizes : {T : Type 0} {least most : ℕ} {s : Heap T} (d : ℕ) {n : ℕ}
     × (length (items_below s (suc d) n) + 1 ≤ (most + 1) * (CAPACITY + 1) ^ d)
 but_sizes {T} {least} {most} {s} zero {n} below shaped = (
   omega (arith, items_below_size shaped),
-  omega (
-    arith,
-    items_below_size shaped,
-    ap (λ zs. sizes s zero zs) (nil_from_length (node_children s n) shaped.node.branches),
-  ),
+  grind (arith, items_below_size shaped, nil_from_length (node_children s n) shaped.node.branches),
 )
 but_sizes {T} {least} {most} {s} (suc d) {n} below shaped =
     let ks = node_children s n in
     let p = (MIN_LEN + 1) ^ suc d in
     let q = (CAPACITY + 1) ^ suc d in
     let all = children_sizes s (suc d) p q below ks shaped.children in
-    let enough : least + 1 ≤ length ks = omega arith in
-    let fits : length ks ≤ most + 1 = omega arith in
-    let size = items_below_size shaped in
-    grind (arith, mul-le-mul_right)
+    grind (arith, items_below_size shaped, mul-le-mul_right)
 
 items_sizes : {T : Type 0} (s : Heap T) (d n : ℕ) → Shaped s d n
     → ((MIN_LEN + 1) ^ d ≤ length (items_below s d n) + 1)
@@ -86,16 +79,13 @@ empty_levels {T} {s} {levels} {root} tree none = omega (arith, levels_le levels 
 pub levels_least : {T : Type 0} {s : Heap T} (levels : ℕ) {root : ℕ} → IsTree s levels root
     → 0 < length (items_below s levels root)
     → 2 * (MIN_LEN + 1) ^ (levels - 1) ≤ length (items_below s levels root) + 1
-levels_least {T} {s} zero {root} tree some = absurd (omega (
-  arith,
-  ap length (items_below_none s root),
-))
+levels_least {T} {s} zero {root} tree some = grind (arith, items_below_none)
 levels_least (suc d) {root} tree some = grind (arith, tree_lower)
 
 pub levels_most : {T : Type 0} {s : Heap T} (levels : ℕ) {root : ℕ} → IsTree s levels root
     → 0 < length (items_below s levels root)
     → length (items_below s levels root) + 1 ≤ (CAPACITY + 1) ^ levels
-levels_most {T} {s} zero {root} tree some = absurd (omega (arith, ap length (items_below_none s root)))
+levels_most {T} {s} zero {root} tree some = grind (arith, items_below_none)
 levels_most {T} {s} (suc d) {root} tree some = tree_upper d tree
 
 pub has_levels : {T : Type 0} {s : Heap T} {levels root : ℕ} → IsTree s levels root

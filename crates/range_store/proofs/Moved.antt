@@ -23,7 +23,4 @@ moved_after front now new done x listed longer =
 -- one item more was taken from the front of all
 pub taken_more : {X : Type 0} (all later : List X) (i : ℕ) (x : X) → drop i all ≡ x ∷ later
     → (take (i + 1) all ≡ take i all ++ x ∷ []) × (later ≡ drop (i + 1) all)
-taken_more all later i x next = (
-  take-add i 1 all ∙ ap (λ ys. take i all ++ take 1 ys) next,
-  sym (ap (drop 1) next) ∙ drop-drop 1 i all,
-)
+taken_more all later i x next = grind (arith, take-add i 1 all, drop-drop 1 i all)

@@ -6,7 +6,7 @@ use Rattle.range_store.specs.declared.btree.path.Edge.{Edge}
 use Rattle.range_store.specs.Nodes.{items_below, ShapedBut, before_child}
 use Rattle.range_store.specs.Edges.{turn, inside, is_start, IsEdge, place, home_of}
 use Rattle.range_store.specs.Written.{place_of_start, start_of_place}
-use Rattle.range_store.proofs.Below.{children_length, items_below_at, length-before_more, none_after_last, shaped_within_wider}
+use Rattle.range_store.proofs.Below.{children_length, items_below_at, length-before_more, none_after_last}
 use Rattle.range_store.proofs.Edges.{edge_above, place_above, place_inside, edge_inside, turn_within, place_within}
 use Rattle.range_store.proofs.Rank.{kid_shaped}
 use Rattle.std.proofs.lemmas.List.{length-append}
@@ -36,8 +36,7 @@ pub not_start : {T : Type 0} {s : Heap T} {d n : ℕ} (g : Edge) → ShapedBut 1
 not_start {T} {s} {d} {n} g shaped is later =
     elim (cases_eq (place s d n g) 0) [
       | inr some ↦ omega arith
-      | inl none ↦ let start =
-          start_of_place s 1 CAPACITY d n g shaped is none in grind arith
+      | inl none ↦ grind (arith, start_of_place s 1 CAPACITY d n g shaped is none)
     ]
 
 module _ {T : Type 0} {s : Heap T} {b n : ℕ} (inner : b ≢ 0)
@@ -53,8 +52,7 @@ module _ {T : Type 0} {s : Heap T} {b n : ℕ} (inner : b ≢ 0)
 
   pub below_kid : (i : ℕ) → i ≤ length (node_items s n)
       → ShapedBut 1 CAPACITY s (b - 1) (node_child s n i)
-  below_kid i low = shaped_within_wider 1 CAPACITY (omega arith) (omega arith)
-      (kid_shaped (b - 1) i deeper low)
+  below_kid i low = grind (arith, kid_shaped (b - 1) i deeper low, deeper)
 
   pub below_turn : (g : Edge) → IsEdge s b n g → turn g ≤ length (node_items s n)
   below_turn g is = grind (arith, turn_within s (b - 1) n g (rw (← level_of_children) at is))

@@ -1,6 +1,6 @@
 -- The way down from a node: the edges below a node on it, as they are seen from where it began.
-use Rattle.std.proofs.Common.{◌≡◌, ◌≢◌, ℕ, suc, ◌+◌, ◌-◌, ◌*◌, ◌/◌, ◌^◌, ◌<◌, ◌≤◌, length, refl, sym, ap, ◌∙◌, arith}
-use Rattle.std.proofs.Math.Nat.{pow-suc, pow-le-pow_right, mul-le-mul_left}
+use Rattle.std.proofs.Common.{◌≡◌, ◌≢◌, ℕ, suc, ◌+◌, ◌-◌, ◌*◌, ◌/◌, ◌^◌, ◌<◌, ◌≤◌, length, ap, arith}
+use Rattle.std.proofs.Math.Nat.{pow-suc, pow-le-pow_right}
 use Rattle.range_store.specs.Heap.{Heap, node_items, node_child}
 use Rattle.range_store.specs.declared.btree.nodes.TheConstants.{CAPACITY}
 use Rattle.range_store.specs.declared.btree.path.Edge.{Edge}
@@ -14,19 +14,12 @@ use Rattle.range_store.proofs.Paths.{below_kid, below_edge, below_place}
 abbrev pub from_above : ℕ → ℕ → Edge → Edge
 from_above path weight e = record e { path = path + weight * e.path }
 
-heavier : (path weight i : ℕ) → path < weight → i ≤ CAPACITY
-    → path + weight * i < weight * PATH_BASE
-heavier path weight i small low = omega (arith, small, mul-le-mul_left weight low)
-
 -- above a leaf no weight is too great
 pub weight_fits : (below left weight : ℕ) → below < MAX_LEVELS → 0 < left
     → weight ≡ PATH_BASE ^ (below - left) → weight ≤ 2 ^ 56
 weight_fits below left weight deep some is =
     let few : below - left ≤ 14 = omega (arith, deep, some) in
-    let wide : 0 < PATH_BASE = omega arith in
-    let most : PATH_BASE ^ (below - left) ≤ PATH_BASE ^ 14 = pow-le-pow_right wide few in
-    let width : ◌≡◌ {A = ℕ} (PATH_BASE ^ 14) (2 ^ 56) = refl in
-    omega (arith, is, most, width)
+    grind (arith, pow-le-pow_right)
 
 module _ {T : Type 0} (s : Heap T) where
   -- how many items stand before the child at i
@@ -43,13 +36,10 @@ module _ {T : Type 0} (s : Heap T) where
     pub place_is : (e : Edge) → IsEdge s left at e
         → place s below number (from_above path weight e) ≡ ahead + place s left at e
 
-  pub lies_itself : {below number : ℕ} → ShapedBut 1 CAPACITY s below number
-      → LiesBelow below number below number 0 1 0
-  lies_itself shaped = grind arith
-
   pub lies_in_child : {below number left : ℕ} (at path weight ahead : ℕ) → left ≢ 0
       → LiesBelow below number left at path weight ahead → (i : ℕ)
-      → i ≤ length (node_items s at) → LiesBelow below number (left - 1) (node_child s at i) (path + weight * i) (weight * PATH_BASE) (ahead + ahead_of
+      → i ≤ length (node_items s at) → LiesBelow below number (left - 1) (node_child s at i)
+      (path + weight * i) (weight * PATH_BASE) (ahead + ahead_of
       left at i)
   lies_in_child {below} {number} {left} at path weight ahead inner lies i low =
       let kid = node_child s at i in
@@ -65,22 +55,13 @@ module _ {T : Type 0} (s : Heap T) where
       omega arith in
       let edge_above : (e : Edge) → IsEdge s (left - 1) kid e → IsEdge s left at (above e) = λ e is.
       below_edge inner lies.shaped i e (above e) (turned e) (within e) low is in
-      record {
-        low = omega (arith, lies.low);
-        weight_is =
-            rw deeper
-            (ap (λ w. w * PATH_BASE) lies.weight_is ∙ sym (pow-suc PATH_BASE (below - left)));
-        small = heavier path weight i lies.small few;
-        shaped = below_kid inner lies.shaped i low;
-        edge = λ e is. rw (path_is e.path) (lies.edge (above e) (edge_above e is));
-        place_is = λ e is.
-            let found = lies.place_is (above e) (edge_above e is) in
-            let step = below_place inner lies.shaped i e (above e) (turned e) (within e)
-            in
-            let sum : ahead + place s left at (above e)
-            ≡ ahead + ahead_of left at i + place s (left - 1) kid e = omega (arith, step) in
-            ap (λ w. place s below number (record e { path = w })) (path_is e.path) ∙ found ∙ sum;
-      }
+      grind (
+        arith,
+        pow-suc PATH_BASE (below - left),
+        lies.small,
+        below_kid inner lies.shaped i low,
+        below_place,
+      )
 
   -- its first edge as it is seen from above
   pub first_below : {below number left : ℕ} (at path weight ahead : ℕ)
@@ -88,10 +69,4 @@ module _ {T : Type 0} (s : Heap T) where
       → place s left at e ≡ 0 → IsEdge s below number (record e { path = path }) ×
       (place s below number (record e { path = path }) ≡ ahead)
   first_below {below} {number} {left} at path weight ahead lies e is first =
-      let start = start_of_place s 1 CAPACITY left at e lies.shaped is first in
-      let none : path + weight * e.path ≡ path = rw start.0 (omega arith) in
-      let found = lies.place_is e is in
-      let all : ahead + place s left at e ≡ ahead = omega (arith, first) in (
-        rw none at (lies.edge e is),
-        ap (λ w. place s below number (record e { path = w })) (sym none) ∙ found ∙ all,
-      )
+      grind (arith, start_of_place s 1 CAPACITY left)

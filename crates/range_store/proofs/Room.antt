@@ -21,7 +21,8 @@ pub sizes-append : {T : Type 0} (s : Heap T) (d : ℕ) (us vs : List ℕ)
 sizes-append s d us vs = grind (arith, map-append, sum_by-append)
 
 pub items_below_size : {T : Type 0} {least most : ℕ} {s : Heap T} {d n : ℕ}
-    → ShapedBut least most s d n → length (items_below s (suc d) n) ≡ length (node_items s n) + sizes s d (node_children s n)
+    → ShapedBut least most s d n → length (items_below s (suc d) n) ≡ length
+    (node_items s n) + sizes s d (node_children s n)
 items_below_size shaped = grind (arith, weave_items_below, length-weave, length-map)
 
 children_le_from : {T : Type 0} (s : Heap T) (d : ℕ)
@@ -43,11 +44,7 @@ unfolding used items_below
 used_le s zero n shaped = omega arith
 used_le s (suc d) n shaped =
     let but = Shaped-but s d n shaped in
-    grind (
-      arith,
-      items_below_size but,
-      children_le_from s d (used_le s d) (node_children s n) but.children,
-    )
+    grind (arith, items_below_size but, children_le_from, used_le s d)
 
 pub children_le : {T : Type 0} (s : Heap T) (d : ℕ) (ns : List ℕ) → All (Shaped s d) ns
     → MIN_LEN * length (flat_map (used s d) ns) ≤ sizes s d ns

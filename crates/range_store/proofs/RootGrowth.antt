@@ -1,5 +1,5 @@
 -- A whole tree after an insertion: of the first item, below the root, and with a cut of the root.
-use Rattle.std.proofs.Common.{◌≡◌, ℕ, zero, suc, ◌+◌, ◌-◌, ◌*◌, ◌<◌, ◌≤◌, List, [], ◌∷◌, ◌++◌, length, refl, ap, ◌∙◌, arith, None, Some}
+use Rattle.std.proofs.Common.{◌≡◌, ℕ, zero, suc, ◌+◌, ◌-◌, ◌*◌, ◌<◌, ◌≤◌, List, [], ◌∷◌, ◌++◌, length, ap, ◌∙◌, arith, None, Some}
 use Rattle.std.specs.List.{All, flat_map}
 use Rattle.std.proofs.lemmas.List.{append-nil, length-append}
 use Rattle.range_store.specs.Heap.{Heap, HasRoomFor, Stores, node_children}
@@ -33,13 +33,7 @@ first_tree {T} {s} {t} zero {root} {n} item none tree stored =
       shaped = grind arith;
       once =
           λ k.
-          omega (
-            arith,
-            ap (occurrences k) (used_leaf t n childless),
-            Stores-here stored k,
-            ap (occurrences k) (used_none s root),
-            occurrences-nil k,
-          );
+          grind (arith, used_leaf, Stores-here stored k, used_none s root, occurrences-nil k);
       len = omega (arith, ap length (used_leaf t n childless), ap length (used_none s root));
     } in
     (whole, items_below_leaf t n childless ∙ stored.items_are)
@@ -78,25 +72,15 @@ module _ {T : Type 0} {s t u : Heap T} {d root n : ℕ} (split : Split T) {list 
   abbrev ts : List ℕ
   ts = root ∷ split.right ∷ []
 
-  agree : AgreeAt t u (flat_map (used t (suc d)) ts)
-  agree k among = grind arith
-
   holds : Holds t u (suc d) n (split.middle ∷ []) ts
-  holds = held_new stored agree
-
-  ts_shaped : All (Shaped t (suc d)) ts
-  ts_shaped = grind (arith, Shaped-from_but)
+  holds = held_new stored (λ k among. grind arith)
 
   used_now : used u (suc (suc d)) n ≡ n ∷ flat_map (used t (suc d)) ts
   used_now = held_used holds
 
   taller_tree : IsTree u (suc (suc d)) n
   taller_tree =
-      record {
-        shaped = held_shape holds 1 (omega arith) (omega arith) refl ts_shaped;
-        once = λ k. grind (arith, ap (occurrences k) used_now, occurrences-cons, Stores-here);
-        len = omega (arith, ap length used_now);
-      }
+      grind (arith, held_shape, holds, Shaped-from_but, used_now, occurrences-cons, Stores-here)
 
   taller_items_below : items_below u (suc (suc d)) n ≡ list
   taller_items_below = held_items_below holds ∙ step.listed
@@ -106,17 +90,17 @@ module _ {T : Type 0} {s t u : Heap T} {d root n : ℕ} (split : Split T) {list 
       → IsEdge u (suc d) n h
       × (place u (suc d) n h ≡ seat_place t (suc d) (split.middle ∷ []) ts side g)
   taller_seat side g h at within seat =
-      seat_written t u n (split.middle ∷ []) ts side g h (suc d) holds agree
+      seat_written t u n (split.middle ∷ []) ts side g h (suc d) holds (λ k among. grind arith)
       (λ no. absurd (omega (arith, no))) (λ some. at) (λ some. within) seat
 
 pub taller_root : {T : Type 0} {s t u : Heap T} (levels : ℕ) {root n : ℕ} (split : Split T)
     {list : List T} → 0 < levels → IsTree s levels root
     → Replaces s t (levels - 1) root (Some split) list
     → Stores t u n (split.middle ∷ []) (root ∷ split.right ∷ []) → IsGrown u (levels + 1) n list
-taller_root {T} {s} {t} {u} zero {root} {n} split {list} some tree step stored = absurd (omega arith)
+taller_root {T} {s} {t} {u} zero {root} {n} split {list} some tree step stored =
+    absurd (omega arith)
 taller_root {T} {s} {t} {u} (suc d) {root} {n} split {list} some tree step' stored =
     let level : suc d - 1 ≡ d = omega arith in
-    let more : suc d + 1 ≡ suc (suc d) = omega arith in
     let step = rw level at step' in
     grind (arith, taller_tree split tree step stored, taller_items_below split tree step stored)
 
@@ -129,9 +113,9 @@ pub taller_edge : {T : Type 0} {s t u : Heap T} (levels : ℕ) {root n : ℕ} (s
     (suc (levels - 1)) (split.middle ∷ []) (root ∷ split.right ∷ []) side g)
 taller_edge {T} {s} {t} {u} zero {root} {n} side split {list} g h some tree step stored at within
     seat = absurd (omega arith)
-taller_edge {T} {s} {t} {u} (suc d) {root} {n} side split {list} g h some tree step' stored at within seat' =
+taller_edge {T} {s} {t} {u}
+    (suc d) {root} {n} side split {list} g h some tree step' stored at within seat' =
     let level : suc d - 1 ≡ d = omega arith in
-    let lower : suc d + 1 - 1 ≡ suc d = omega arith in
     let step = rw level at step' in
     grind (arith, taller_seat split tree step stored side g h at within (rw level at seat'))
 

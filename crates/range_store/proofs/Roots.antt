@@ -1,13 +1,10 @@
 -- A whole tree after a removal.
-use Rattle.std.proofs.Common.{◌≡◌, ◌≢◌, ℕ, zero, suc, ◌+◌, ◌-◌, ◌<◌, ◌≤◌, List, [], ◌∷◌, length, get_or, refl, ap, ◌∙◌, arith}
-use Rattle.std.specs.List.{flat_map}
+use Rattle.std.proofs.Common.{◌≡◌, ◌≢◌, ℕ, zero, suc, ◌+◌, ◌-◌, ◌<◌, ◌≤◌, List, [], ◌∷◌, length, get_or, refl, ap, arith}
 use Rattle.std.proofs.lemmas.List.{append-nil, nil_from_length}
 use Rattle.range_store.specs.Heap.{Heap, Removes, node_items, node_children, node_child}
-use Rattle.range_store.specs.declared.btree.nodes.TheConstants.{CAPACITY}
 use Rattle.range_store.specs.Occurrences.{occurrences, occurrences-cons, occurrences-nil, occurrences_itself, occurrences_other}
 use Rattle.range_store.specs.Nodes.{items_below, used, here, Shaped, IsTree, IsLooseTree, Shrinks}
-use Rattle.range_store.proofs.Contents.{IsRewritten}
-use Rattle.range_store.proofs.Below.{weave_items_below, used_is, used_leaf, items_below_leaf, Shaped-but, shaped_within_wider}
+use Rattle.range_store.proofs.Below.{weave_items_below, used_is, used_leaf, items_below_leaf, Shaped-but}
 use Rattle.range_store.specs.Frame.{AgreeAt, same_below, SameBelow}
 use Rattle.range_store.proofs.Edges.{same_edge, edge_inside, turn_within, place_inside}
 use Rattle.range_store.proofs.Rank.{items_below_none, used_none}
@@ -24,11 +21,6 @@ list_of_one [] one = absurd (omega arith)
 list_of_one (k ∷ []) one = refl
 list_of_one (k ∷ j ∷ ks) one = absurd (omega arith)
 
--- what stands under each number once the root went
-here_without : {T : Type 0} {s t : Heap T} {root : ℕ} → here s root ≡ 1 → Removes s t root → (k : ℕ)
-    → here t k + occurrences k (root ∷ []) ≡ here s k
-here_without present gone k = grind (arith, occurrences_itself, occurrences_other)
-
 -- a tree of one level that lost its last item
 pub empty_root_leaves_nothing : {T : Type 0} {s t : Heap T} (levels : ℕ) {root : ℕ} → levels ≡ 1
     → IsLooseTree s levels root → length (node_items s root) ≡ 0 → Removes s t root
@@ -37,7 +29,8 @@ empty_root_leaves_nothing levels one loose empty gone =
     grind (
       arith,
       used_leaf,
-      here_without,
+      occurrences_itself,
+      occurrences_other,
       used_none,
       occurrences-nil,
       items_below_none,
@@ -50,8 +43,7 @@ module _ {T : Type 0} {s t : Heap T} {e root : ℕ} (loose : IsLooseTree s (suc 
     (one : node_children s root ≡ node_child s root 0 ∷ []) (gone : Removes s t root) where
   used_all : used s (suc (suc e)) root ≡ root ∷ used s (suc e) (node_child s root 0)
   used_all =
-      used_is s (suc e) root ∙ ap (λ zs. root ∷ flat_map (used s (suc e)) zs) one
-      ∙ ap (λ zs. root ∷ zs) (append-nil (used s (suc e) (node_child s root 0)))
+      grind (arith, used_is, append-nil)
 
   occurs : (k : ℕ) → occurrences k (root ∷ [])
       + occurrences k (used s (suc e) (node_child s root 0)) ≡ here s k
@@ -76,9 +68,8 @@ only_child_is_root {T} {s} {t} (suc (suc e)) {root} more loose empty gone =
     let same : SameBelow s t (suc e) kid = same_below s t (suc e) kid (agree loose one gone) in
     let kid_shaped : Shaped s (suc e) kid = shaped.children 0 0 (omega arith) in
     let tree : IsTree t (suc e) kid = record {
-      shaped = shaped_within_wider 1 CAPACITY (omega arith) (omega arith)
-          (Shaped-but t e kid (same.shaped_same kid_shaped));
-      once = λ k. grind (arith, occurs loose one gone k, here_without (grind arith) gone k);
+      shaped = grind (arith, Shaped-but t e kid (same.shaped_same kid_shaped));
+      once = λ k. grind (arith, occurs loose one gone k, occurrences_itself, occurrences_other);
       len = omega (arith, ap length (used_all loose one gone), ap length same.used_same);
     } in
     grind (arith, weave_items_below, nil_from_length, append-nil)
@@ -93,7 +84,6 @@ lowered_edge {T} {s} {t} zero {root} g more loose empty gone is = absurd (omega 
 lowered_edge {T} {s} {t} (suc zero) {root} g more loose empty gone is = absurd (more refl)
 lowered_edge {T} {s} {t} (suc (suc e)) {root} g more loose empty gone is' =
     let level : suc (suc e) - 1 ≡ suc e = omega arith in
-    let lower : suc e - 1 ≡ e = omega arith in
     let shaped = rw level at loose.shaped in
     let is = rw level at is' in
     let ks = node_children s root in
@@ -106,9 +96,3 @@ lowered_edge {T} {s} {t} (suc (suc e)) {root} g more loose empty gone is' =
 pub tree_owned : {T : Type 0} {s : Heap T} {levels root : ℕ} → IsTree s levels root → (k : ℕ)
     → occurrences k (used s levels root) ≤ here s k
 tree_owned tree k = omega (arith, tree.once k)
-
--- the tree after an item was put in the place of another
-pub rewritten_tree : {T : Type 0} {s t : Heap T} (levels : ℕ) {root : ℕ} {list : List T}
-    → 0 < levels → IsTree s levels root → IsRewritten s t (levels - 1) root list
-    → IsTree t levels root × (items_below t levels root ≡ list)
-rewritten_tree levels some tree step' = grind arith

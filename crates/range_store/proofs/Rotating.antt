@@ -2,13 +2,13 @@
 -- joined.
 use Rattle.std.proofs.Common.{◌≡◌, ◌≢◌, ◌⊎◌, ℕ, zero, suc, ◌+◌, ◌-◌, ◌^◌, ◌<◌, ◌≤◌, List, [], ◌∷◌, ◌++◌, length, get_or, take, drop, take_all, map, refl, ap, ◌∙◌, inl, inr, arith, Some, None}
 use Rattle.std.proofs.Math.ListN.{set, length-set}
-use Rattle.std.specs.List.{remove, flat_map}
+use Rattle.std.specs.List.{remove}
 use Rattle.std.proofs.lemmas.List.{length-append, length-take-le, get_or_default, get_or-append-add, get_or_append_left, drop_all, take-append-le, drop-append-le}
 use Rattle.range_store.specs.Heap.{Heap, child_count, HasPair, RotatesLeft, RotatesRight, Merges, Writes, Removes, node_items, node_children, node_child}
 use Rattle.range_store.specs.declared.btree.nodes.Split.{Split}
 use Rattle.range_store.specs.declared.btree.nodes.TheConstants.{CAPACITY, MIN_LEN}
 use Rattle.range_store.specs.declared.btree.path.Edge.{Edge}
-use Rattle.range_store.specs.Nodes.{before, items_below, used, Shrinks, IsLevelled, child_size}
+use Rattle.range_store.specs.Nodes.{before, items_below, Shrinks, IsLevelled, child_size}
 use Rattle.range_store.specs.Edges.{turn, inside, seat_of, IsEdge, place, IsSeat, seat_place}
 use Rattle.range_store.specs.Written.{set_parts, item_behind, some_of}
 use Rattle.range_store.specs.Frame.{used_kid_le}
@@ -178,7 +178,6 @@ module _ {T : Type 0} {s : Heap T} {low n j : ℕ} (levelled : IsLevelled s low 
 
   kid_apart : (i : ℕ) → i < length ks → get_or ks i 0 ≢ n
   kid_apart i low' same =
-      let F = flat_map (used s (suc low)) ks in
       let inner = used_kid_le s (suc low) i ks n low' in
       grind (arith, used_is, occurrences_here, occurrences-cons, occurrences_itself, here_le)
 
@@ -211,9 +210,6 @@ module _ {T : Type 0} {s : Heap T} {low n j : ℕ} (levelled : IsLevelled s low 
 
   -- the child at j lent an item to the one after it
   module _ {u : Heap T} (rotates : RotatesRight s u n j) (spare : MIN_LEN < child_size s n j) where
-    one : a - 1 + 1 ≡ a
-    one = omega (arith, spare)
-
     to_right : IsShared rotates.down rotates.down_is rotates.rotates.first rotates.rotates.second u
         rotates.up (a - 1)
     to_right =

@@ -1,5 +1,5 @@
 -- Rows of which the items of one, or of two, change one after the other.
-use Rattle.std.proofs.Common.{◌≡◌, ◌≢◌, ℕ, suc, ◌+◌, ◌-◌, ◌<◌, ◌≤◌, List, [], ◌∷◌, ◌++◌, length, get_or, take, drop, sym, ap, ◌∙◌, arith}
+use Rattle.std.proofs.Common.{◌≡◌, ◌≢◌, ℕ, suc, ◌+◌, ◌-◌, ◌<◌, ◌≤◌, List, [], ◌∷◌, ◌++◌, length, get_or, take, drop, ap, ◌∙◌, arith, sym}
 use Rattle.std.proofs.Math.ListN.{set, length-set}
 use Rattle.std.proofs.Math.Seq.{drop-cons}
 use Rattle.std.specs.List.{insert, remove}
@@ -18,10 +18,8 @@ module _ {T : Type 0} where
       → (set now n (insert (row_of now n) k x) ≡ set rows n (take (k + 1) items))
       × (rest ≡ drop (k + 1) items)
   filled_more rows now n k items rest x there within was next =
-      let here : row_of now n ≡ take k items =
-      ap (λ zs. row_of zs n) was ∙ get_or-set_same rows n (take k items) [] there in
       let long : k ≡ length (take k items) = sym (length-take-le k items (omega arith)) in
-      grind (arith, taken_more, insert_end, set-set)
+      grind (arith, taken_more, insert_end, set-set, get_or-set_same)
 
 -- two rows of many have these items, and one is changed
 module _ {T : Type 0} (rows : List (List T)) (l r : ℕ) (l_there : l < length rows)
@@ -35,9 +33,6 @@ module _ {T : Type 0} (rows : List (List T)) (l r : ℕ) (l_there : l < length r
 
   left_anew : (zs : List T) → set now l zs ≡ set (set rows l zs) r ys
   left_anew zs = grind (arith, set_comm, set-set)
-
-  right_anew : (zs : List T) → set now r zs ≡ set (set rows l xs) r zs
-  right_anew zs = ap (λ rs. set rs r zs) was ∙ set-set (set rows l xs) r ys zs
 
   -- the last item of the first one went
   less_left : (k : ℕ) → length xs ≡ k + 1
@@ -61,17 +56,16 @@ moved_last rows now from to left from_there to_there apart some few was item is 
     let held = row_of rows to in
     let xs = take left source in
     let tail = held ++ drop left source in
-    let less = take (left - 1) source in
     let next : suc (left - 1) ≡ left = omega arith in
-    let taken : set now from (remove (row_of now from) (left - 1)) ≡ set (set rows from less) to tail =
-    less_left rows from to from_there to_there apart now xs tail was (left - 1)
-    (omega (arith, length-take-le left source few))
-    ∙ ap (λ zs. set (set rows from zs) to tail) (take-take (left - 1) left source (omega arith)) in
     grind (
       arith,
+      less_left rows from to from_there to_there apart now xs tail was (left - 1)
+          (omega (arith, length-take-le left source few)),
+      length-take-le left source few,
+      take-take,
       left_row,
       get_or-take,
-      right_anew,
+      set-set,
       right_row,
       insert-append_left,
       insert_end,
@@ -112,7 +106,7 @@ module _ {T : Type 0} (rows one two three : List (List T)) (l r : ℕ) (l_there 
       → three ≡ set two r (insert (row_of two r) j x)
       → three ≡ set (set rows l (take (k - 1) (insert whole i x))) r (drop k (insert whole i x))
   divided_high j high fits place put =
-      grind (arith, right_anew, halves, right_row, drop_insert_before, take_insert_before)
+      grind (arith, set-set, halves, right_row, drop_insert_before, take_insert_before)
 
 -- a row took an item and all that another had
 pub absorbed : {T : Type 0} (rows now : List (List T)) (l r len : ℕ) (x : T) → l < length rows

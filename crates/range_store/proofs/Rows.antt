@@ -12,8 +12,7 @@ use Rattle.range_store.proofs.Cells.{Standing, cell_read, items_held, row_length
 module _ {T : Type 0} where
   cells_on : (cells : List (Option T)) (n : ℕ) → cells_of (drop CAPACITY cells) n
       ≡ cells_of cells (suc n)
-  cells_on cells n = ap (take CAPACITY) (drop-drop (CAPACITY * n) CAPACITY cells
-      ∙ ap (λ i. drop i cells) (omega arith))
+  cells_on cells n = grind (arith, drop-drop (CAPACITY * n) CAPACITY cells)
 
   pub rows_read : (many : ℕ) (cells : List (Option T)) (n : ℕ) → n < many
       → row_of (rows_in many cells) n ≡ items_in (cells_of cells n)
@@ -76,6 +75,8 @@ module _ {T : Type 0} where
           ext_get_or [] (rows_in many new) (set (rows_in many cells) n items)
               (length-rows many new ∙ sym (length-set (rows_in many cells) n items ∙ long))
               (grind (arith, length-rows, rows_read, items_held, get_or-set_same, get_or-set_other)),
+          length-rows,
+          get_or-set_other,
         )
 
   -- the cells of a number were written at once
@@ -92,13 +93,7 @@ module _ {T : Type 0} where
       simp (drop_at, take_at) in
       record {
         len =
-            omega (
-              arith,
-              length-append front (part ++ back),
-              length-append part back,
-              length-drop CAPACITY (drop (CAPACITY * n) cells),
-              length-drop (CAPACITY * n) cells,
-            );
+            grind (arith, length-append front (part ++ back), length-drop (CAPACITY * n) cells);
         others = λ m other.
             elim (cases_lt m n) [
               | inl less ↦
@@ -133,7 +128,6 @@ module _ {T : Type 0} where
       → Rewrites cells (set cells (CAPACITY * n + i) (Some item)) n (set items i item)
   cell_rewritten n i cells {items} item within holds =
       let cell : Option T = Some item in
-      let less : i < CAPACITY = omega arith in
       let here : cells_of (set cells (CAPACITY * n + i) cell) n ≡ set (cells_of cells n) i cell =
       grind (arith, drop-set-add) in
       record {
@@ -165,17 +159,12 @@ module _ {T : Type 0} where
     abbrev topped : List (Option T)
     topped = cells ++ replicate missing None
 
-    length-topped : length topped ≡ length cells + missing
-    length-topped = grind (arith, length-append, length-replicate)
-
     pub topped_room : CAPACITY * n + CAPACITY ≤ length topped
-    topped_room = omega (arith, length-topped)
+    topped_room = grind (arith, length-append, length-replicate)
 
     old_cells : (m : ℕ) → m < rows.there → cells_of topped m ≡ cells_of cells m
     old_cells m less =
-        sym (drop-take (CAPACITY * m) CAPACITY topped)
-        ∙ ap (drop (CAPACITY * m)) (grind (arith, take-append-le))
-        ∙ drop-take (CAPACITY * m) CAPACITY cells
+        grind (arith, drop-take (CAPACITY * m) CAPACITY topped, take-append-le, drop-take)
 
     new_cells : (m : ℕ) → rows.there ≤ m → m ≤ n → cells_of topped m ≡ replicate CAPACITY None
     new_cells m past least =
@@ -184,13 +173,10 @@ module _ {T : Type 0} where
         let parts : topped ≡ front ++ replicate (missing - skipped) None =
         grind (arith, replicate-append-replicate, append_assoc) in
         let long : length front ≡ CAPACITY * m =
-        omega (
-          arith,
-          length-append cells (replicate skipped None),
-          length-replicate {A = Option T} skipped None,
-        ) in
+        grind (arith, length-append, length-replicate) in
         ap (λ cs. cells_of cs m) parts
-        ∙ ap (take CAPACITY) (drop_at front (replicate (missing - skipped) None) (CAPACITY * m) long)
+        ∙ ap (take CAPACITY)
+        (drop_at front (replicate (missing - skipped) None) (CAPACITY * m) long)
         ∙ take-replicate CAPACITY (missing - skipped) None (omega arith)
 
     pub topped_rows : IsRows many topped
@@ -201,14 +187,10 @@ module _ {T : Type 0} where
           | inr past ↦ record {
             there = suc n;
             few = omega arith;
-            cells_are = omega (arith, length-topped);
-            held = λ m least.
-                grind (arith, old_cells, new_cells);
+            cells_are = grind (arith, length-append, length-replicate);
+            held = grind (arith, old_cells, new_cells);
           }
         ]
-
-    none_new : (m : ℕ) → rows.there ≤ m → items_in (cells_of topped m) ≡ []
-    none_new m past = grind (arith, drop_all, length-topped, new_cells)
 
     pub topped_same : rows_in many topped ≡ rows_in many cells
     topped_same =
@@ -220,15 +202,14 @@ module _ {T : Type 0} where
         ∙ elim (cases_lt m rows.there) [
           | inl less ↦ ap items_in (old_cells m less)
           | inr past ↦
-              none_new m (omega (arith, past))
+              grind (arith, drop_all, length-append, length-replicate, new_cells)
               ∙ sym (ap items_in (cells_past rows m (omega (arith, past))))
         ]
         ∙ sym (rows_read many cells m (omega (arith, long, below))))
 
     pub topped_held : HoldsItems (cells_of topped n) (row_of (rows_in many cells) n)
     topped_held =
-        let less : n < topped_rows.there = omega (arith, topped_rows.cells_are, topped_room) in
-        rw (← topped_same, rows_read many topped n within) (topped_rows.held n less)
+        grind (arith, topped_rows, topped_room, topped_same, rows_read)
 
   -- rows without cells were added
   module _ {many : ℕ} {cells : List (Option T)} (rows : IsRows many cells) (more : ℕ)

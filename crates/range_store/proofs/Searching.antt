@@ -5,7 +5,7 @@ use Rattle.std.proofs.lemmas.List.Sums.{count_by-le-length}
 use Rattle.range_store.specs.Heap.{Heap, child_count, node_items, node_children, node_child}
 use Rattle.range_store.specs.Falling.{Falls}
 use Rattle.range_store.specs.Nodes.{weave, rest_of, before, items_below, ShapedBut, child_lists, before_child}
-use Rattle.range_store.proofs.Below.{children_length, lists_length, items_below_at, weave_items_below, child_count_cases}
+use Rattle.range_store.proofs.Below.{lists_length, items_below_at, weave_items_below, child_count_cases}
 use Rattle.range_store.proofs.Front.{falls_parts, count-append, count-yes}
 
 module _ {T : Type 0} (p : T → Bool) where
@@ -76,7 +76,6 @@ module _ {T : Type 0} (p : T → Bool) {least most : ℕ} {s : Heap T} {d n : �
       let xs = node_items s n in
       let ks = node_children s n in
       let within = count_by-le-length p xs in
-      let many = children_length inner shaped in
       let main = count-weave p xs (map (items_below s d) ks) (lists_length inner shaped)
       (rw weave_items_below at falls) in
       grind (arith, get_or-map, weave_items_below)

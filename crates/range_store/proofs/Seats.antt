@@ -1,5 +1,5 @@
 -- Edges in a node that is to be written, by their seats.
-use Rattle.std.proofs.Common.{◌≡◌, ℕ, zero, suc, ◌+◌, ◌-◌, ◌^◌, ◌<◌, ◌≤◌, List, ◌++◌, length, get_or, take, drop, map, refl, sym, ap, ◌∙◌, arith, Option, Some, take-add, take-take, get_or-take, get_or-drop}
+use Rattle.std.proofs.Common.{◌≡◌, ℕ, zero, suc, ◌+◌, ◌-◌, ◌^◌, ◌<◌, ◌≤◌, List, ◌++◌, length, get_or, take, drop, map, refl, ap, ◌∙◌, arith, Option, Some, take-add, take-take, get_or-take, get_or-drop}
 use Rattle.std.specs.List.{flat_map, sum_by}
 use Rattle.std.proofs.lemmas.List.{length-append, length-map, length-take-le, length-drop, take-map, drop-map, map-append, get_or-append-add, get_or_append_left, take-append-le}
 use Rattle.std.proofs.lemmas.List.Sums.{sum_by-append}
@@ -43,20 +43,11 @@ seat_path s (suc d) xs ks i g deep some seat = path_small s d _ g (omega (arith,
 -- a cut at `half` leaves an edge in the first part, at the same seat
 module _ {T : Type 0} (s : Heap T) (half : ℕ) (xs : List T) (ks : List ℕ) (i : ℕ) (g : Edge)
     (low : half < length xs) where
-  lists_take : (d : ℕ)
-      → map (items_below s d) (take (half + 1) ks) ≡ take (half + 1) (map (items_below s d) ks)
-  lists_take d = sym (take-map (items_below s d) (half + 1) ks)
-
-  lists_drop : (d : ℕ)
-      → map (items_below s d) (drop (half + 1) ks) ≡ drop (half + 1) (map (items_below s d) ks)
-  lists_drop d = sym (drop-map (items_below s d) (half + 1) ks)
-
   pub seat_left : (d : ℕ) → length ks ≡ child_count d (length xs) → i ≤ half → IsSeat s d xs ks i g
       → IsSeat s d (take half xs) (take (half + 1) ks) i g
       × (seat_place s d (take half xs) (take (half + 1) ks) i g ≡ seat_place s d xs ks i g)
   unfolding IsSeat seat_place
-  seat_left d branches small seat =
-      grind (arith, length-take-le, get_or-take, take-take, lists_take)
+  seat_left d branches small seat = grind (arith, length-take-le, get_or-take, take-take, take-map)
 
   -- or in the second part
   pub seat_right : (d : ℕ) → length ks ≡ child_count d (length xs) → half < i → IsSeat s d xs ks i g
@@ -75,8 +66,8 @@ module _ {T : Type 0} (s : Heap T) (half : ℕ) (xs : List T) (ks : List ℕ) (i
         take-add,
         sum_by-append,
         length-weave,
-        lists_take,
-        lists_drop,
+        take-map,
+        drop-map,
       )
 
 -- an edge below a node, or below the one after it, among the two
@@ -92,10 +83,7 @@ module _ {T : Type 0} (s : Heap T) (d n : ℕ) (g : Edge) where
       × (seat_place s (suc d) (separators (Some split)) (tops n (Some split)) 1 g
       ≡ length (items_below s (suc d) n) + 1 + place s d split.right g)
   unfolding IsSeat seat_place
-  seat_beside split is = (
-    (omega arith, is),
-    grind (arith, length-append),
-  )
+  seat_beside split is = grind (arith, length-append)
 
 -- an edge in a run of children, among all of them
 module _ {T : Type 0} (s : Heap T) (d : ℕ) (us ts vs : List ℕ) (xs seps ys : List T) (i j : ℕ)
@@ -114,25 +102,14 @@ module _ {T : Type 0} (s : Heap T) (d : ℕ) (us ts vs : List ℕ) (xs seps ys :
       map-append f us (ts ++ vs) ∙ ap (λ zs. map f us ++ zs) (map-append f ts vs) in
       let us_many : length (map f us) ≡ i = length-map us f ∙ many in
       let ts_many : length (map f ts) ≡ length seps + 1 = length-map ts f ∙ more in
-      let whole : length (map f us ++ (map f ts ++ map f vs)) ≡ i + (length seps + 1 + length vs) =
-      omega (
+      grind (
         arith,
-        length-append (map f us) (map f ts ++ map f vs),
-        length-append (map f ts) (map f vs),
-        length-map vs f,
-      ) in
-      let all =
-      length-before (xs ++ (seps ++ ys)) (map f us ++ (map f ts ++ map f vs)) (i + j)
-      (grind (arith, length-append)) (omega arith) in
-      let inner =
-      length-before seps (map f ts) j (omega arith)
-      (omega arith) in
-      let first : take (i + j) (map f us ++ (map f ts ++ map f vs)) ≡ map f us
-      ++ take j (map f ts) =
-      take-append-add (map f us) (map f ts ++ map f vs) (i + j) j (omega arith)
-      ∙ ap (λ zs. map f us ++ zs)
-      (take-append-le j (map f ts) (map f vs) (omega arith)) in
-      grind (arith, sum_by-append, length-append)
+        length-before,
+        length-append,
+        take-append-add (map f us) (map f ts ++ map f vs) (i + j) j (omega arith),
+        take-append-le j (map f ts) (map f vs) (omega arith),
+        sum_by-append,
+      )
 
 pub seat_side : {T : Type 0} (s : Heap T) (d : ℕ) (xs : List T) (ks : List ℕ) (i : ℕ) (g : Edge)
     → IsSeat s (suc d) xs ks i g → i < length ks

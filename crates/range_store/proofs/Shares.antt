@@ -1,5 +1,5 @@
 -- How items are shared out to the children of a node, so that each has enough, and none too many.
-use Rattle.std.proofs.Common.{◌≡◌, ℕ, zero, suc, ◌+◌, ◌-◌, ◌*◌, ◌/◌, ◌%◌, ◌^◌, ◌<◌, ◌≤◌, ap, arith}
+use Rattle.std.proofs.Common.{◌≡◌, ℕ, zero, suc, ◌+◌, ◌-◌, ◌*◌, ◌/◌, ◌^◌, ◌<◌, ◌≤◌, ap, arith}
 use Rattle.std.proofs.lemmas.Nat.{le-div}
 use Rattle.range_store.specs.declared.btree.nodes.TheConstants.{CAPACITY, MIN_LEN}
 
@@ -15,18 +15,9 @@ pub record IsShare (rest others low high share : ℕ) : Type 0 where
   pub within : share ≤ rest
   pub others_can : CanBeShared (rest - share) others low high
 
--- a quotient, with what is left
-quotient : (n k : ℕ) → 0 < k → (z : ℕ) × (n ≡ k * (n / k) + z) × (z < k)
-quotient n k some = (n % k, omega arith, omega arith)
-
 pub share_is : {rest : ℕ} (others : ℕ) {low high : ℕ} → CanBeShared rest (others + 1) low high
     → IsShare rest others low high (rest / (others + 1))
-share_is {rest} others {low} {high} can =
-    let q = rest / (others + 1) in
-    let parts = quotient rest (others + 1) (omega arith) in
-    let enough : low ≤ q = grind arith in
-    let fits : q < high = grind arith in
-    grind arith
+share_is {rest} others {low} {high} can = grind arith
 
 -- a node with `many` items, over children that have fewer than `width` each
 pub can_be_shared : (inner width many count : ℕ) → width ≡ inner * (CAPACITY + 1) → 0 < inner

@@ -1,5 +1,5 @@
 -- What is known of a node of whose children one may be short.
-use Rattle.std.proofs.Common.{◌≡◌, ◌⊎◌, ℕ, suc, ◌+◌, ◌-◌, ◌<◌, ◌≤◌, List, ◌∷◌, ◌++◌, length, get_or, take, drop, sym, subst, inl, inr, arith, IsSome}
+use Rattle.std.proofs.Common.{◌≡◌, ◌⊎◌, ℕ, suc, ◌+◌, ◌-◌, ◌<◌, ◌≤◌, List, ◌∷◌, length, get_or, take, drop, subst, inl, inr, arith, IsSome, sym}
 use Rattle.std.specs.List.{All}
 use Rattle.std.proofs.lemmas.List.{drop_more, get_or-take, length-take-le}
 use Rattle.std.proofs.lemmas.List.Elements.{All-cons, All-head, All-tail, All-append, All-weaker}
@@ -28,15 +28,12 @@ module _ {T : Type 0} (s : Heap T) (low n i : ℕ) (m : MayBeRebalanced s low n 
   pub many : length ks ≡ length xs + 1
   many = m.node.branches
 
-  kids : ks ≡ take i ks ++ (kid ∷ drop (i + 1) ks)
-  kids = list_splits_at ks i 0 (omega (arith, many, m.within))
-
   present_of : (c : ℕ) → Shaped s (suc low) c → IsSome (node_of s c)
   present_of c shaped = (Shaped-but s low c shaped).node.present
 
   pub all_present : All (λ c. IsSome (node_of s c)) ks
   all_present =
-      subst (All Present) (sym kids)
+      subst (All Present) (sym (list_splits_at ks i 0 (omega (arith, many, m.within))))
       (All-append Present (take i ks) (kid ∷ drop (i + 1) ks)
       (All-weaker P Present present_of (take i ks) m.before)
       (grind (arith, present_of)))
@@ -47,7 +44,7 @@ module _ {T : Type 0} (s : Heap T) (low n i : ℕ) (m : MayBeRebalanced s low n 
       let here = Shaped-from_but s low kid
       (grind arith) in
       let children =
-      subst (All P) (sym kids)
+      subst (All P) (sym (list_splits_at ks i 0 (omega (arith, many, m.within))))
       (All-append P (take i ks) (kid ∷ drop (i + 1) ks) m.before
       (All-cons P kid (drop (i + 1) ks) here m.behind)) in
       grind arith
@@ -59,14 +56,9 @@ module _ {T : Type 0} (s : Heap T) (low n i : ℕ) (m : MayBeRebalanced s low n 
   with_behind within short =
       let two : drop (i + 1) ks ≡ get_or ks (i + 1) 0 ∷ drop (i + 1 + 1) ks =
       drop_more ks (i + 1) 0 (omega arith) in
-      let far : i + 1 + 1 ≡ i + 2 = omega arith in
       let behind = subst (All P) two m.behind in
       let next = All-head P (get_or ks (i + 1) 0) (drop (i + 1 + 1) ks) behind in
-      grind (
-        arith,
-        Shaped-but s low (get_or ks (i + 1) 0) next,
-        All-tail P (get_or ks (i + 1) 0) (drop (i + 1 + 1) ks) behind,
-      )
+      grind (arith, Shaped-but, All-tail P (get_or ks (i + 1) 0) (drop (i + 1 + 1) ks) behind)
 
   with_before : (j : ℕ) → j + 1 ≡ i → length (node_items s kid) < MIN_LEN → IsLevelled s low n j
   with_before j next short = grind (arith, get_or-take, length-take-le, Shaped-but, loose)

@@ -1,14 +1,13 @@
 -- What becomes of a node when an item went below one of its children.
-use Rattle.std.proofs.Common.{◌≡◌, ◌≢◌, ℕ, suc, ◌+◌, ◌-◌, ◌<◌, ◌≤◌, List, [], ◌∷◌, ◌++◌, length, take, drop, map, refl, sym, ap, ◌∙◌, subst, arith}
+use Rattle.std.proofs.Common.{◌≡◌, ◌≢◌, ℕ, suc, ◌+◌, ◌-◌, ◌<◌, ◌≤◌, List, [], ◌∷◌, ◌++◌, length, take, drop, map, refl, arith, sym, ap, ◌∙◌, subst}
 use Rattle.std.specs.List.{All, remove}
 use Rattle.std.proofs.lemmas.List.{append-nil, length-map, length-take-le, take-map, drop-map, take-append-drop, nil_from_length}
 use Rattle.std.proofs.lemmas.List.Edits.{remove-append_left, remove-append_right, length-remove}
 use Rattle.std.proofs.lemmas.List.Elements.{All-append, All-cons, All-take, All-drop}
-use Rattle.range_store.specs.Heap.{Heap, node_of, items_of, children_of, Writes, node_items, node_children, node_child}
+use Rattle.range_store.specs.Heap.{Heap, node_of, Writes, node_items, node_children, node_child}
 use Rattle.range_store.specs.declared.btree.nodes.TheConstants.{CAPACITY, MIN_LEN}
-use Rattle.range_store.specs.Nodes.{weave, rest_of, front_of, before, after, items_below, used, Shaped, ShapedBut, Owned, Moves, Shrinks, MayBeRebalanced, child_lists, before_child}
+use Rattle.range_store.specs.Nodes.{before, after, items_below, used, Shaped, ShapedBut, Owned, Moves, Shrinks, MayBeRebalanced, child_lists, before_child}
 use Rattle.range_store.specs.Weave.{list_splits_at, weave_splice}
-use Rattle.range_store.specs.Frame.{IsNode-same}
 use Rattle.range_store.proofs.Below.{children_length, items_below_at, weave_items_below, used_is, items_below_leaf}
 use Rattle.range_store.proofs.Moves.{Moves-then, Writes-moves}
 use Rattle.range_store.proofs.Growing.{Runs, run_kept, run_moved, run_lists, same_before, same_after}
@@ -48,11 +47,8 @@ module _ {T : Type 0} {s t : Heap T} {b n i : ℕ} {list : List T}
   abbrev vs : List ℕ
   vs = drop (i + 1) (node_children s n)
 
-  many : length ks ≡ length xs + 1
-  many = children_length (omega arith) anew.shaped
-
   ks_parts : ks ≡ us ++ (kid ∷ vs)
-  ks_parts = list_splits_at ks i 0 (omega (arith, many))
+  ks_parts = list_splits_at ks i 0 (omega (arith, children_length (omega arith) anew.shaped))
 
   kid_run : Runs s t b n us (kid ∷ []) vs (kid ∷ [])
   kid_run = grind (arith, ks_parts, append-nil)
@@ -73,23 +69,21 @@ module _ {T : Type 0} {s t : Heap T} {b n i : ℕ} {list : List T}
   kid_listed =
       let L = map (items_below s b) us in
       let R = map (items_below s b) vs in
-      let woven =
-      weave_splice (take i xs) [] (drop i xs) L (items_below t b kid) [] R
-      (grind (arith, length-take-le, length-map)) refl in
-      let middle =
-      ap (λ zs. front_of (take i xs) L ++ (zs ++ rest_of (drop i xs) R))
-      (append-nil (items_below t b kid) ∙ anew.listed) in
-      let sides : front_of (take i xs) (map (items_below s b) us)
-      ++ (list ++ rest_of (drop i xs) (map (items_below s b) vs)) ≡ before xs lists i
-      ++ (list ++ after xs lists i) =
-      rw (← take-map (items_below s b) i ks, ← drop-map (items_below s b) (i + 1) ks) refl
-      in
-      weave_items_below t b n ∙ ap (λ zs. weave zs (child_lists t b n))
-      (ap items_of kid_kept ∙ sym (take-append-drop i xs))
-      ∙ ap (λ zs. weave (take i xs ++ drop i xs) (map (items_below t b) zs))
-      (ap children_of kid_kept ∙ ks_parts)
-      ∙ ap (weave (take i xs ++ drop i xs)) (run_lists kid_run)
-      ∙ woven ∙ middle ∙ sides
+      grind (
+        arith,
+        weave_splice (take i xs) [] (drop i xs) L (items_below t b kid) [] R
+            (grind (arith, length-take-le, length-map)) refl,
+        length-take-le,
+        length-map,
+        append-nil (items_below t b kid),
+        take-map (items_below s b) i ks,
+        drop-map (items_below s b) (i + 1) ks,
+        weave_items_below t b n,
+        kid_kept,
+        take-append-drop i xs,
+        run_lists kid_run,
+        kid_run,
+      )
 
   -- what stands before the child
   pub kid_front : length (before_child t b n i) ≡ length (before xs lists i)
@@ -111,7 +105,6 @@ module _ {T : Type 0} {s t : Heap T} {b n i : ℕ} {list : List T}
   pub kid_may_be_rebalanced : ShapedBut (MIN_LEN - 1) CAPACITY t (b - 1) kid
       → MayBeRebalanced t (b - 1) n i
   kid_may_be_rebalanced short =
-      let node = IsNode-same t kid_kept anew.shaped.node in
       let before = (same_before kid_run).shaped_same (All-take (Shaped s b) i ks
       anew.shaped.children) in
       let behind = (same_after kid_run).shaped_same

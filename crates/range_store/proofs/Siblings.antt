@@ -19,7 +19,8 @@ front_child (suc below) ks zs ls others =
     let some : slice_get ls (length zs) ≡ Some at = grind (arith, slice_get-get_or) in
     grind (arith, drop_more, drop_all)
 
-module _ {T : Type 0} {s : Heap T} (t u v : Heap T) {n i : ℕ} (pair : HasPair s n i) (down up : T) where
+module _ {T : Type 0} {s : Heap T} (t u v : Heap T) {n i : ℕ} (pair : HasPair s n i)
+    (down up : T) where
   abbrev l : ℕ
   l = node_child s n i
 
@@ -67,10 +68,6 @@ module _ {T : Type 0} {s : Heap T} (t u v : Heap T) {n i : ℕ} (pair : HasPair 
         arith,
         without_last,
       ) in
-      let fewer_children : remove ks (length xs) ≡ take (length xs) ks = grind (
-        arith,
-        without_last,
-      ) in
       let parent : node_of t n ≡ node_of s n = one.others n (λ e. pair.left_apart (sym e)) in
       let here = subst (λ node. Writes t u n (set (items_of node) i up) (children_of node)) parent
       two in
@@ -81,7 +78,7 @@ module _ {T : Type 0} {s : Heap T} (t u v : Heap T) {n i : ℕ} (pair : HasPair 
       (length xs) ks ++ right_children s n i = grind (arith, front_child) in
       let swapped = write_first t u v n r (set (node_items s n) i up)
       (node_children s n) pair.right_apart here (rw (items, children) at three) in
-      grind (arith, take_all, take_more)
+      grind (arith, take_all, take_more, without_last)
 
 module _ {T : Type 0} (s t u : Heap T) (n i : ℕ) (pair : HasPair s n i) (down : T) where
   pub merged : down ≡ get_or (node_items s n) i down → Writes s t n (remove (node_items s n) i)

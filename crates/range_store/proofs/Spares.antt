@@ -8,14 +8,11 @@ use Rattle.std.proofs.lemmas.List.{get_or-set_other, get_or-set_same, get_or_pas
 use Rattle.std.proofs.lemmas.List.Sums.{sum_by-cons}
 use Rattle.slab.specs.Slab.{Slab, get, slab_len, with_value, Updates}
 use Rattle.range_store.specs.declared.btree.node.Node.{Node}
-use Rattle.range_store.specs.Heap.{Heap, node_of, HasNode, HasRoomFor, SameNodes, items_of, children_of, node_count, with_item, FitsChild, Writes, Stores, Removes, Absorbs, node_items, node_children}
+use Rattle.range_store.specs.Heap.{Heap, node_of, HasNode, HasRoomFor, SameNodes, children_of, node_count, with_item, FitsChild, Writes, Stores, Removes, Absorbs, node_items, node_children}
 use Rattle.range_store.specs.Occurrences.{occurrences, occurrences-append, occurrences-cons, occurrences-nil, occurrences_here, occurrences_itself, occurrences_other}
 use Rattle.range_store.specs.Rows.{row_of}
 use Rattle.range_store.specs.Spares.{without, len_of, content_of, contents, heap_of, FitsCount, IsWhole}
 use Rattle.range_store.proofs.Slots.{slot_count, slot_read}
-
-listed : (n : ℕ) (ns : List ℕ) (k : ℕ) → k ≡ n → occurrences k (n ∷ ns) ≡ 0 → ⊥
-listed n ns k same none = grind (arith, occurrences_here)
 
 module _ {X : Type 0} where
   without_here : (ns : List ℕ) (slots : List (Option X)) (k : ℕ) → 0 < occurrences k ns
@@ -26,9 +23,11 @@ module _ {X : Type 0} where
       elim (cases_eq k n) [
         | inl same ↦ rw same (grind (arith, get_or-set_same, get_or_past, length-set))
         | inr other ↦
-            get_or-set_other (without ns slots) n k None None other
-            ∙ without_here ns slots k
-            (omega (arith, among, occurrences-cons k n ns, occurrences_other k n (λ e. other (sym e))))
+            grind (
+              arith,
+              get_or-set_other,
+              without_here ns slots k (omega (arith, occurrences-cons, occurrences_other)),
+            )
       ]
 
   without_other : (ns : List ℕ) (slots : List (Option X)) (k : ℕ) → occurrences k ns ≡ 0
@@ -37,7 +36,7 @@ module _ {X : Type 0} where
   without_other [] slots k none = refl
   without_other (n ∷ ns) slots k none =
       get_or-set_other (without ns slots) n k None None
-      (λ same. absurd (listed n ns k same none))
+      (λ same. absurd (grind (arith, occurrences_here)))
       ∙ without_other ns slots k (omega (arith, none, occurrences-cons k n ns))
 
   without_count : (ns : List ℕ) (slots : List (Option X)) → ((k : ℕ) → occurrences k ns ≤ 1)
@@ -65,15 +64,12 @@ module _ {X : Type 0} where
       ap (λ zs. set zs n None)
       (without_set ns slots k slot (omega (arith, none, occurrences-cons k n ns)))
       ∙ set_comm (without ns slots) k n slot None
-      (λ same. absurd (listed n ns k same none))
+      (λ same. absurd (grind (arith, occurrences_here)))
 
 module _ {X : Type 0} where
   module _ (s : Slab X) (n : ℕ) (present : IsSome (get s n)) (new : X) where
     pub value_updates : Updates s (with_value s n new) n (Some new)
-    value_updates = record {
-      changed = slot_read s.slots n present (Some new);
-      others = λ k other. get_or-set_other s.slots n k (Some new) None other;
-    }
+    value_updates = grind (arith, slot_read, get_or-set_other)
 
     pub value_len : slab_len (with_value s n new) ≡ slab_len s
     value_len = omega (arith, slot_count s.slots n present (Some new))
@@ -170,9 +166,7 @@ module _ {T : Type 0} {slab : Slab Node} {rows : List (List T)} {spares : List �
 
   pub counted : node_count (heap_of slab rows spares) + length spares ≡ slab_len slab
   counted =
-      without_count spares (contents rows slab.slots) whole.once
-      (λ k among. rw (contents_read rows slab.slots k, whole.empty k among) refl)
-      ∙ count_contents rows slab.slots
+      grind (arith, without_count, contents_read, count_contents)
 
   pub spares_left : (more : ℕ) → HasRoomFor (heap_of slab rows spares) more → more ≤ length spares
   spares_left more room = omega (arith, room, counted)
@@ -196,42 +190,16 @@ pub record Changes {T : Type 0} (old new : Slab Node) (was now : List (List T)) 
 module _ {T : Type 0} {old new : Slab Node} {was now : List (List T)} {spares : List ℕ}
     (whole : IsWhole old was spares) {n : ℕ} {node : Node} {items : List T}
     (changes : Changes old new was now n node items) where
-  changed_there : (k : ℕ) → IsSome (get new k) → k < length now
-  changed_there k some = grind arith
-
-  changed_lens : (k : ℕ) → length (row_of now k) ≡ len_of (get new k)
-  changed_lens k = grind arith
-
-  changed : content_of (row_of now n) (get new n)
-      ≡ Some (record { items = items; children = node.children.items })
-  changed = grind arith
-
   changed_whole : (left : List ℕ) → ((k : ℕ) → occurrences k left ≤ occurrences k spares)
       → occurrences n left ≡ 0 → IsWhole new now left
-  changed_whole left fewer apart = record {
-    there = changed_there;
-    lens = changed_lens;
-    empty = λ k among.
-        grind arith;
-    once = λ k. omega arith;
-  }
-
-  elsewhere : (left : List ℕ) → ((k : ℕ) → k ≢ n → occurrences k left ≡ occurrences k spares)
-      → (k : ℕ) → k ≢ n → node_of (heap_of new now left) k ≡ node_of (heap_of old was spares) k
-  elsewhere left alike k differs = grind (arith, slot_seen, spare_read)
+  changed_whole left fewer apart = grind arith
 
   -- the number became a spare, with nothing
   more_whole : (left : List ℕ)
       → ((k : ℕ) → occurrences k left ≡ occurrences k (n ∷ []) + occurrences k spares)
       → occurrences n spares ≡ 0 → items ≡ [] → node.children.items ≡ [] → IsWhole new now left
-  more_whole left told apart no_items no_children = record {
-    there = changed_there;
-    lens = changed_lens;
-    empty = λ k among.
-        grind (arith, occurrences_other);
-    once = λ k.
-        grind (arith, occurrences_itself, occurrences_other);
-  }
+  more_whole left told apart no_items no_children =
+      grind (arith, occurrences_other, occurrences_itself)
 
   module _ (len : slab_len new ≡ slab_len old) where
     -- a node was written
@@ -240,13 +208,11 @@ module _ {T : Type 0} {old new : Slab Node} {was now : List (List T)} {spares : 
 
     here : (left : List ℕ) → occurrences n left ≡ 0 → node_of (heap_of new now left) n
         ≡ Some (record { items = items; children = node.children.items })
-    here left apart = slot_seen new now left n apart ∙ changed
+    here left apart = slot_seen new now left n apart ∙ (grind arith)
 
     pub written : HasNode (heap_of old was spares) n
         → Writes (heap_of old was spares) (heap_of new now spares) n items node.children.items
-    written present =
-        let apart = in_use old was spares n present in
-        grind (arith, here, apart, elsewhere, counted)
+    written present = grind (arith, here, slot_seen, spare_read, counted, in_use)
 
     -- a spare got what a new node has
     module _ {left : List ℕ} (parts : spares ≡ n ∷ left) where
@@ -263,16 +229,7 @@ module _ {T : Type 0} {old new : Slab Node} {was now : List (List T)} {spares : 
           node.children.items
       stored =
           let read = here left spare_apart in
-          record {
-            fresh = spare_read old was spares n (omega (arith, told n, occurrences_itself n));
-            present = rw read refl;
-            items_are = ap items_of read;
-            children_are = ap children_of read;
-            others = elsewhere left
-                (λ k differs. omega (arith, told k, occurrences_other k n (λ e. differs (sym e))));
-            len = omega (arith, counted whole, counted stored_whole, len, ap length parts);
-            capacity = len;
-          }
+          grind (arith, spare_read, told, occurrences_itself, slot_seen, occurrences_other, counted)
 
     -- a node became a spare
     module _ (present : HasNode (heap_of old was spares) n) (no_items : items ≡ [])
@@ -291,7 +248,7 @@ module _ {T : Type 0} {old new : Slab Node} {was now : List (List T)} {spares : 
       removed = record {
         was = present;
         gone = grind (arith, spare_read, longer, occurrences_itself);
-        others = grind (arith, elsewhere, longer, occurrences_other);
+        others = grind (arith, slot_seen, spare_read, longer, occurrences_other);
         len = omega (arith, counted whole, counted freed_whole);
         capacity = len;
       }
@@ -322,9 +279,6 @@ module _ {T : Type 0} {slab larger : Slab Node} {was : List (List T)} {spares : 
     (same : larger ≡ record slab { capacity = larger.capacity }) (now : List (List T))
     (whole : IsWhole slab was spares) (long : length was ≤ length now)
     (kept : (k : ℕ) → row_of now k ≡ row_of was k) where
-  abbrev grown : Slab Node
-  grown = record slab { capacity = larger.capacity }
-
   pub roomier : IsWhole larger now spares
       × SameNodes (heap_of slab was spares) (heap_of larger now spares)
   roomier = grind (arith, slot_seen, spare_read, counted)
@@ -426,32 +380,20 @@ module _ {T : Type 0} {slab : Slab Node} {rows : List (List T)} {spares : List �
   gone : Leaves slab rows spares r blank [] (r ∷ spares) (λ old new. Removes old new r)
   gone = emptied whole r right_at blank [] no_len no_children right refl refl
 
-  grew : Leaves (with_value slab r blank) (set rows r []) (r ∷ spares) l node
-      (row_of rows l ++ x ∷ row_of rows r) (r ∷ spares)
-      (λ old new. Writes old new l (row_of rows l ++ x ∷ row_of rows r)
-      (lower.children.items ++ upper.children.items))
-  grew = edited gone.whole l
-      (get_or-set_other slab.slots r l (Some blank) None apart ∙ left_at) node
-      (row_of rows l ++ x ∷ row_of rows r) (grind (
-        arith,
-        length-append,
-      )) children_are (rw (gone.nodes.others l apart) left)
-
   pub absorbs : Leaves (with_value slab r blank) (set rows r []) (r ∷ spares) l node
       (row_of rows l ++ x ∷ row_of rows r) (r ∷ spares)
       (λ old new. Absorbs (heap_of slab rows spares) new l x r)
   absorbs =
-      let lefts = seen whole l left left_at in
-      let rights = seen whole r right right_at in
-      record {
-        whole = grew.whole;
-        nodes = record {
-          between = heap_of (with_value slab r blank) (set rows r []) (r ∷ spares);
-          right = gone.nodes;
-          left = rw (lefts.items, rights.items, lefts.children, rights.children) grew.nodes;
-        };
-        len = grew.len;
-      }
+      grind (
+        arith,
+        seen,
+        edited gone.whole l
+            (get_or-set_other slab.slots r l (Some blank) None apart ∙ left_at) node
+            (row_of rows l ++ x ∷ row_of rows r) (grind (arith, length-append)) children_are (rw (gone.nodes.others l apart) left),
+        heap_of,
+        with_value,
+        gone,
+      )
 
 -- a spare has nothing
 module _ {T : Type 0} {slab : Slab Node} {rows : List (List T)} {spares : List ℕ}

@@ -1,14 +1,14 @@
 -- What is known of a whole tree.
-use Rattle.std.proofs.Common.{◌≡◌, ℕ, zero, suc, ◌+◌, ◌-◌, ◌^◌, ◌<◌, ◌≤◌, length, get_or, refl, inl, inr, arith}
+use Rattle.std.proofs.Common.{◌≡◌, ℕ, zero, suc, ◌+◌, ◌-◌, ◌<◌, ◌≤◌, length, get_or, refl, inl, inr, arith}
 use Rattle.std.proofs.Math.Nat.{pow-le-pow_right}
 use Rattle.std.proofs.lemmas.Bool.{cases_lt}
 use Rattle.range_store.specs.Heap.{Heap, node_items}
-use Rattle.range_store.specs.declared.btree.nodes.TheConstants.{CAPACITY, MIN_LEN}
+use Rattle.range_store.specs.declared.btree.nodes.TheConstants.{MIN_LEN}
 use Rattle.range_store.specs.declared.btree.path.TheConstants.{MAX_LEVELS}
 use Rattle.range_store.specs.declared.btree.BoxStorage.{BoxStorage}
 use Rattle.range_store.specs.declared.btree.path.Edge.{Edge}
 use Rattle.range_store.specs.Holding.{box_items, IsBoxEdge, box_place, good_item}
-use Rattle.range_store.specs.Nodes.{IsRoomy, ShapedBut}
+use Rattle.range_store.specs.Nodes.{IsRoomy}
 use Rattle.range_store.proofs.Edges.{place_within}
 use Rattle.range_store.proofs.InLeaf.{IsLeafOf, leaf_of_edge, leaf_beside, leaf_home, place_index}
 use Rattle.range_store.proofs.Levels.{tree_lower}
@@ -23,34 +23,25 @@ tree_is_not_too_deep {T} {s} (suc d) {root} roomy =
       | inl low ↦ omega arith
       | inr high ↦
           let some : 0 < MIN_LEN + 1 = omega arith in
-          let more : (MIN_LEN + 1) ^ MAX_LEVELS ≤ (MIN_LEN + 1) ^ d = pow-le-pow_right some high in
-          grind (arith, tree_lower)
+          grind (arith, pow-le-pow_right some high, tree_lower)
     ]
 
 -- no edge lies past the end
 pub edge_within : {T : Type 0} {t : BoxStorage T} {g : Edge} → IsBoxEdge t g
     → box_place t g ≤ length (box_items t)
 edge_within {T} {t} {g} is =
-    let level : suc (t.levels - 1) ≡ t.levels = omega (arith, is.some) in
-    rw level at (place_within (t.levels - 1) g (root_shaped t.levels is.some t.whole.tree) is.edge)
+    grind (arith, place_within (t.levels - 1) g (root_shaped t.levels is.some t.whole.tree) is.edge)
 
 -- an edge in the leaf of another, and the item there
 module _ {T : Type 0} {t : BoxStorage T} {g : Edge} (is : IsBoxEdge t g) where
-  level : suc (t.levels - 1) ≡ t.levels
-  level = omega (arith, is.some)
-
-  shaped : ShapedBut 1 CAPACITY t.nodes (t.levels - 1) t.root
-  shaped = root_shaped t.levels is.some t.whole.tree
-
   pub tree_leaf : IsLeafOf t.nodes g
-  tree_leaf = leaf_of_edge (t.levels - 1) g shaped is.edge
+  tree_leaf = leaf_of_edge (t.levels - 1) g (root_shaped t.levels is.some t.whole.tree) is.edge
 
   pub tree_beside : (h : Edge) → h.leaf ≡ g.leaf → h.path ≡ g.path
       → h.index ≤ length (node_items t.nodes g.leaf)
       → IsBoxEdge t h × (box_place t h + g.index ≡ box_place t g + h.index)
   tree_beside h leaf path index =
-      let other = leaf_beside t.nodes (t.levels - 1) t.root g h leaf path index is.edge in
-      (record { some = is.some; edge = other.0 }, other.1)
+      grind (arith, leaf_beside t.nodes (t.levels - 1) t.root g h leaf path index is.edge)
 
   -- the edge after the first item of the leaf
   pub tree_behind : g.index ≡ 0

@@ -1,6 +1,5 @@
-use Rattle.std.proofs.Common.{◌≡◌, ◌+◌, suc, length, ap, sym, ◌∙◌, arith}
-use Rattle.std.specs.Vec.Iter.{into_iter_items}
-use Rattle.range_store.specs.Nodes.{items_below, IsTree}
+use Rattle.std.proofs.Common.{◌≡◌, ◌+◌, length, ap, sym, ◌∙◌, arith}
+use Rattle.range_store.specs.Nodes.{IsTree}
 use Rattle.range_store.proofs.Building.{all_taken, built_tree}
 use Rattle.range_store.proofs.Levels.{empty_levels, has_levels}
 use Rattle.range_store.proofs.Rank.{nothing_stored}
@@ -11,14 +10,7 @@ use Rattle.range_store.proofs.btree.BoxStorage.build.Goals.{After-build-self}
 
 pub build-self-requires-clause-room : goal.build-self-requires-clause-room
 build-self-requires-clause-room g c =
-    let s = c.args.self.now in
-    let layout = c.layout_of-below.ensures in
-    let cut =
-    cut_is c.layout_of-below.result.width c.len-count.result (omega (arith, layout.deep))
-    layout.least layout.most in
-    let none = ap length c.requires.empty in
-    let empty = nothing_stored s.levels (empty_levels s.whole.tree none) s.whole.tree in
-    omega arith
+    grind (arith, cut_is, nothing_stored, empty_levels)
 
 tree : (g : Over) (c : After-build-self g)
     → IsTree c.build-self.new.nodes (c.layout_of-below.result.below + 1) c.build-self.result
@@ -31,22 +23,10 @@ tree g c =
     built_tree s.levels (empty_levels s.whole.tree (ap length c.requires.empty)) s.whole.tree
     c.build-self.ensures.built cut.some
 
-listed : (g : Over) (c : After-build-self g)
-    → items_below c.build-self.new.nodes (c.layout_of-below.result.below + 1)
-    c.build-self.result ≡ c.args.added.items
-listed g c =
-    let next : c.layout_of-below.result.below + 1 ≡ suc c.layout_of-below.result.below =
-    omega arith in
-    rw next (all_taken c.args.added.items
-    (items_below c.build-self.new.nodes (suc c.layout_of-below.result.below) c.build-self.result)
-    (into_iter_items c.build-self.new.items)
-    (sym c.into_iter-items.ensures.rest ∙ c.build-self.ensures.list)
-    (c.build-self.ensures.size ∙ c.len-count.ensures ∙ c.args.added.ok.0))
-
 pub invariant_of-self : goal.invariant_of-self
 invariant_of-self g c =
     let a = (goal.at.invariant_of-self g c).After-build-self in
-    let many = ap length (listed g a) in
+    let many = ap length (grind (arith, all_taken)) in
     let count : length c.args.added.items ≡ c.len-count.result =
     omega (arith, c.len-count.ensures, c.args.added.ok.0) in
     record {

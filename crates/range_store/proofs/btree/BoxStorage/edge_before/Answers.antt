@@ -14,5 +14,4 @@ returns-then-edge-gt0 g c =
 
 pub preceding-requires-clause-deep : goal.preceding-requires-clause-deep
 preceding-requires-clause-deep g c =
-    let s = c.args.self.now in
-    tree_is_not_too_deep s.levels s.whole
+    grind (arith, tree_is_not_too_deep)

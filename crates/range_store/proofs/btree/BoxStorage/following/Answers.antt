@@ -1,6 +1,4 @@
-use Rattle.std.proofs.Common.{◌≡◌, ◌+◌, length, refl, arith}
-use Rattle.range_store.specs.Heap.{node_items}
-use Rattle.range_store.specs.Holding.{box_place}
+use Rattle.std.proofs.Common.{◌+◌, refl, arith}
 use Rattle.range_store.specs.Written.{root_shaped}
 use Rattle.range_store.proofs.InLeaf.{place_index}
 use Rattle.range_store.proofs.Positions.{next_from}
@@ -22,18 +20,8 @@ returns-then-edge-item_count g c =
 
 pub around_leaf-requires : goal.around_leaf-requires
 around_leaf-requires g c =
-    let s = c.args.self.now in
-    record {
-      shaped = root_shaped s.levels c.requires.some s.whole.tree;
-      deep = tree_is_not_too_deep s.levels s.whole;
-      edge = c.requires.edge;
-      some = omega (arith, place_index, (tree_leaf c.requires).some);
-    }
+    grind (arith, root_shaped, tree_is_not_too_deep, place_index, tree_leaf)
 
 pub returns : goal.returns
 returns g c =
-    let s = c.args.self.now in
-    let last : length (node_items s.nodes c.args.edge.leaf) ≡ c.args.edge.index =
-    omega (arith, (tree_leaf c.requires).within) in
-    next_from s (box_place s c.args.edge) c.requires.some c.around_leaf.result.1
-    (rw last at c.around_leaf.ensures.behind)
+    grind (arith, tree_leaf, next_from)

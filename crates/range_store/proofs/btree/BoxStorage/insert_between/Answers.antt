@@ -1,7 +1,6 @@
-use Rattle.std.proofs.Common.{◌≡◌, suc, ◌+◌, ◌-◌, [], ◌∷◌, length, refl, ◌∙◌, arith}
+use Rattle.std.proofs.Common.{◌≡◌, suc, ◌+◌, ◌-◌, length, refl, ◌∙◌, arith}
 use Rattle.std.specs.List.{insert}
 use Rattle.std.proofs.lemmas.List.Edits.{length-insert}
-use Rattle.range_store.specs.Edges.{IsEdge, place, seat_place}
 use Rattle.range_store.specs.Holding.{box_items, box_place}
 use Rattle.range_store.proofs.Edges.{path_small}
 use Rattle.range_store.proofs.InPlace.{IsLeafChange, put_in_leaf}
@@ -16,8 +15,7 @@ use Rattle.range_store.proofs.btree.BoxStorage.insert_between.Goals.{Start, Afte
 longer : (g : Over) (c : Start g)
     → length (insert (box_items c.args.self.now) (box_place c.args.self.now c.args.edge)
     c.args.item) ≡ length (box_items c.args.self.now) + 1
-longer g c = length-insert (box_items c.args.self.now) (box_place c.args.self.now c.args.edge)
-    c.args.item (edge_within c.requires.edge)
+longer g c = grind (arith, length-insert, edge_within)
 
 -- of a leaf with capacity to spare
 pub item_count-requires : goal.item_count-requires
@@ -25,14 +23,7 @@ item_count-requires g c = (tree_leaf c.requires.edge).present
 
 pub put-requires : goal.put-requires
 put-requires g c =
-    let leaf = tree_leaf c.requires.edge in
-    record {
-      present = leaf.present;
-      within = leaf.within;
-      near = omega arith;
-      room = omega (arith, c.if-item_count-lt-CAPACITY.true, c.item_count.ensures);
-      child = leaf.childless;
-    }
+    grind (arith, tree_leaf)
 
 put_here : (g : Over) (c : After-put g)
     → IsLeafChange c.put.new.self c.requires.edge
@@ -58,20 +49,12 @@ invariant_of-self g c =
 
 pub returns-then-item_count-lt-CAPACITY : goal.returns-then-item_count-lt-CAPACITY
 returns-then-item_count-lt-CAPACITY g c =
-    let at = goal.at.returns-then-item_count-lt-CAPACITY g c in
-    let put = put_here g at.After-put in
-    record {
-      list = put.items_are;
-      room = omega arith;
-      edge = record { some = c.requires.edge.some; edge = put.edge };
-      place = omega (arith, put.place_is);
-    }
+    grind (arith, put_here)
 
 -- below the root
 pub insert_below-inserted-requires-clause-deep : goal.insert_below-inserted-requires-clause-deep
 insert_below-inserted-requires-clause-deep g c =
-    let s = c.args.self.now in
-    tree_is_not_too_deep s.levels s.whole
+    grind (arith, tree_is_not_too_deep)
 
 -- with no cut of the root
 kept : (g : Over) (c : In-None g)
@@ -95,17 +78,7 @@ invariant_of-self-in-None g c =
 
 pub returns-in-None : goal.returns-in-None
 returns-in-None g c =
-    let a = goal.at.returns-in-None g c in
-    let list = (kept g a.In-None).items_are in
-    let edge = kept_edge c.insert_below-inserted.new.nodes (c.args.self.now.levels - 1)
-    c.args.self.now.root c.insert_below-inserted.result.side c.insert_below-inserted.result.edge
-    (rw c.in-None.is at c.insert_below-inserted.ensures.edge) in
-    record {
-      list = list;
-      room = omega arith;
-      edge = record { some = c.requires.edge.some; edge = edge.0 };
-      place = edge.1 ∙ (rw c.in-None.is at c.insert_below-inserted.ensures.place);
-    }
+    grind (arith, kept, kept_edge)
 
 -- with a cut of the root
 pub store_branch-self-requires : goal.store_branch-self-requires
@@ -145,39 +118,19 @@ invariant_of-self-in-Some g c =
 
 pub seen_above-requires : goal.seen_above-requires
 seen_above-requires g c =
-    let t = c.insert_below-inserted.new.nodes in
-    let low = c.args.self.now.levels - 1 in
-    let edge = c.insert_below-inserted.result.edge in
-    let seat = rw c.in-Some.is at c.insert_below-inserted.ensures.edge in
-    record {
-      index = omega (arith, seat_side t low _ _ c.insert_below-inserted.result.side edge seat);
-      path = path_small t low _ edge
-          (tree_is_not_too_deep c.args.self.now.levels c.args.self.now.whole)
-          (seat_inside t low _ _ c.insert_below-inserted.result.side edge seat);
-    }
-
-higher : (g : Over) (c : After-seen_above g)
-    → IsEdge c.store_branch-self.new.self
-    (c.args.self.now.levels + 1 - 1) c.store_branch-self.result c.seen_above.result
-    × (place c.store_branch-self.new.self
-    (c.args.self.now.levels + 1 - 1) c.store_branch-self.result c.seen_above.result
-    ≡ seat_place c.insert_below-inserted.new.nodes (suc (c.args.self.now.levels - 1))
-    (c.in-Some.split.middle ∷ [])
-    (c.args.self.now.root ∷ c.in-Some.split.right ∷ []) c.insert_below-inserted.result.side
-    c.insert_below-inserted.result.edge)
-higher g c = taller_edge c.args.self.now.levels c.insert_below-inserted.result.side c.in-Some.split
-    c.insert_below-inserted.result.edge c.seen_above.result c.requires.edge.some
-    c.args.self.now.whole.tree (rw c.in-Some.is at c.insert_below-inserted.ensures.replaces)
-    c.store_branch-self.ensures c.seen_above.ensures.turn c.seen_above.ensures.inside
-    (rw c.in-Some.is at c.insert_below-inserted.ensures.edge)
+    grind (arith, seat_side, path_small, tree_is_not_too_deep, seat_inside)
 
 pub returns-in-Some : goal.returns-in-Some
 returns-in-Some g c =
     let a = goal.at.returns-in-Some g c in
-    let list = (taller g a.After-store_branch-self).items_are in
+    let above = taller_edge c.args.self.now.levels c.insert_below-inserted.result.side
+    c.in-Some.split c.insert_below-inserted.result.edge c.seen_above.result c.requires.edge.some
+    c.args.self.now.whole.tree (rw c.in-Some.is at c.insert_below-inserted.ensures.replaces)
+    c.store_branch-self.ensures c.seen_above.ensures.turn c.seen_above.ensures.inside
+    (rw c.in-Some.is at c.insert_below-inserted.ensures.edge) in
     record {
-      list = list;
+      list = (taller g a.After-store_branch-self).items_are;
       room = omega arith;
-      edge = record { some = omega arith; edge = (higher g c).0 };
-      place = (higher g c).1 ∙ (rw c.in-Some.is at c.insert_below-inserted.ensures.place);
+      edge = record { some = omega arith; edge = above.0 };
+      place = above.1 ∙ (rw c.in-Some.is at c.insert_below-inserted.ensures.place);
     }

@@ -1,4 +1,4 @@
-use Rattle.std.proofs.Common.{◌≡◌, [], ◌≤◌, ◌+◌, length, ap, arith}
+use Rattle.std.proofs.Common.{◌≤◌, length, arith}
 use Rattle.range_store.specs.Holding.{box_items, box_place, IsGood, good_home}
 use Rattle.range_store.proofs.Taking.{one_fewer, room_grows, space_grows, IsReplaced, replaced, replaced_item}
 use Rattle.range_store.proofs.Whole.{edge_within, tree_behind}
@@ -24,23 +24,12 @@ take_in_leaf-next-requires-clause-edge g c =
 
 pub unreachable-requires : goal.unreachable-requires
 unreachable-requires g c =
-    let s = c.args.self.now in
-    let behind = tree_behind c.requires.edge (omega (arith, c.if-edge-gt0.false)) in
-    let inside = edge_within behind.0 in
-    let none : box_items c.take_in_leaf-next.new.self ≡ [] =
-    rw c.in_default.is at c.take_in_leaf-next.ensures.edge in
-    omega (
-      arith,
-      one_fewer s c.take_in_leaf-next.new.self (box_place s c.args.edge + 1) (omega arith)
-          (omega (arith, inside, behind.1)) (rw behind.1 at c.take_in_leaf-next.ensures.list),
-      ap length none,
-    )
+    grind (arith, tree_behind, edge_within, one_fewer)
 
 pub home-home-requires-clause-some : goal.home-home-requires-clause-some
 home-home-requires-clause-some g c =
     let behind = tree_behind c.requires.edge (omega (arith, c.if-edge-gt0.false)) in
-    let left = rw c.in-Some-left.is at c.take_in_leaf-next.ensures.edge in
-    omega (arith, left.1, behind.1, c.requires.some)
+    grind arith
 
 pub replace_item-item-requires : goal.replace_item-item-requires
 replace_item-item-requires g c =
@@ -79,11 +68,7 @@ returns g c =
     let behind = tree_behind c.requires.edge (omega (arith, c.if-edge-gt0.false)) in
     let left = rw c.in-Some-left.is at c.take_in_leaf-next.ensures.edge in
     record {
-      removed = replaced_item s t c.args.edge
-          (record { leaf = c.args.edge.leaf; path = c.args.edge.path; index = 1 })
-          c.in-Some-left.left c.requires.some (edge_within behind.0) behind.1
-          c.take_in_leaf-next.ensures.list left.0 left.1 c.replace_item-item.result
-          c.home-home.result c.home-home.ensures c.replace_item-item.ensures.before;
+      removed = grind (arith, replaced_item, edge_within);
       list = so.items_are;
       space = space_grows s (box_place s c.args.edge) c.replace_item-item.new.self t.levels t.root
           c.requires.some (within g at.Start) so.items_are so.capacity;

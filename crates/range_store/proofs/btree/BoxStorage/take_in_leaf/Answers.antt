@@ -1,8 +1,7 @@
-use Rattle.std.proofs.Common.{◌≡◌, suc, ◌-◌, ◌<◌, ◌+◌, ◌∙◌, length, refl, ap, sym, arith}
+use Rattle.std.proofs.Common.{◌≡◌, ◌-◌, ◌+◌, length, refl, arith}
 use Rattle.std.specs.List.{remove}
 use Rattle.std.proofs.lemmas.List.Edits.{length-remove}
 use Rattle.range_store.specs.Holding.{box_items, box_place}
-use Rattle.range_store.specs.Nodes.{items_below}
 use Rattle.range_store.proofs.InLeaf.{no_child_gone, place_index}
 use Rattle.range_store.proofs.InPlace.{IsLeafChange, take_from_leaf}
 use Rattle.range_store.proofs.RootGrowth.{grown_whole}
@@ -12,18 +11,11 @@ use Rattle.range_store.proofs.btree.BoxStorage.take_in_leaf.Goals as goal
 use Rattle.range_store.proofs.btree.BoxStorage.take_in_leaf.Given.{Over}
 use Rattle.range_store.proofs.btree.BoxStorage.take_in_leaf.Goals.{Start, After-take_beside-item, After-shrink_root-shrunk}
 
-some_before : (g : Over) (c : Start g) → 0 < box_place c.args.self.now c.args.edge
-some_before g c =
-    let s = c.args.self.now in
-    omega (arith, place_index s.nodes (s.levels - 1) s.root c.args.edge, c.requires.in_leaf)
-
 -- how many items are left
 fewer : (g : Over) (c : Start g)
     → length (remove (box_items c.args.self.now) (box_place c.args.self.now c.args.edge - 1)) + 1
     ≡ length (box_items c.args.self.now)
-fewer g c =
-    let within = edge_within c.requires.edge in
-    omega (arith, length-remove, some_before)
+fewer g c = grind (arith, edge_within, length-remove, place_index)
 
 pub item_count-requires : goal.item_count-requires
 item_count-requires g c = (tree_leaf c.requires.edge).present
@@ -31,8 +23,7 @@ item_count-requires g c = (tree_leaf c.requires.edge).present
 -- from a leaf with an item to spare
 pub take_beside-item-requires-clause-within : goal.take_beside-item-requires-clause-within
 take_beside-item-requires-clause-within g c =
-    let leaf = tree_leaf c.requires.edge in
-    omega (arith, leaf.within, c.requires.in_leaf)
+    grind (arith, tree_leaf)
 
 taken : (g : Over) (c : After-take_beside-item g)
     → IsLeafChange c.take_beside-item.new.self c.requires.edge
@@ -40,8 +31,7 @@ taken : (g : Over) (c : After-take_beside-item g)
     (record { leaf = c.args.edge.leaf; path = c.args.edge.path; index = c.args.edge.index - 1 })
     (c.args.edge.index - 1)
 taken g c = take_from_leaf c.take_beside-item.new.self c.requires.edge _ (omega arith)
-    c.requires.in_leaf (rw (no_child_gone _ (tree_leaf c.requires.edge).childless) at
-    c.take_beside-item.ensures.rest) refl refl refl
+    c.requires.in_leaf (grind (arith, no_child_gone, tree_leaf)) refl refl refl
 
 pub invariant_of-self : goal.invariant_of-self
 invariant_of-self g c =
@@ -56,56 +46,20 @@ invariant_of-self g c =
 
 pub returns-then-item_count-gt-MIN_LEN : goal.returns-then-item_count-gt-MIN_LEN
 returns-then-item_count-gt-MIN_LEN g c =
-    let a = goal.at.returns-then-item_count-gt-MIN_LEN g c in
-    let taken = taken g a.After-take_beside-item in
-    record {
-      removed = c.take_beside-item.ensures.item
-          ∙ sym (leaf_item c.requires.edge c.take_beside-item.result.0 c.requires.in_leaf);
-      list = taken.items_are;
-      capacity = taken.capacity;
-      edge = (
-        record { some = c.requires.edge.some; edge = taken.edge },
-        omega (arith, taken.place_is, c.requires.in_leaf),
-      );
-    }
+    grind (arith, taken, leaf_item)
 
 -- below the root
 pub remove_below-taken-requires-clause-deep : goal.remove_below-taken-requires-clause-deep
 remove_below-taken-requires-clause-deep g c =
-    let s = c.args.self.now in
-    tree_is_not_too_deep s.levels s.whole
-
-shrunk : (g : Over) (c : After-shrink_root-shrunk g)
-    → items_below c.shrink_root-shrunk.new.nodes c.shrink_root-shrunk.result.levels c.shrink_root-shrunk.result.root
-    ≡ remove (box_items c.args.self.now) (box_place c.args.self.now c.args.edge - 1)
-shrunk g c =
-    let s = c.args.self.now in
-    let some = c.requires.edge.some in
-    let level : suc (s.levels - 1) ≡ s.levels = omega (arith, some) in
-    c.shrink_root-shrunk.ensures.items
-    ∙ loosened_items s.levels some c.remove_below-taken.ensures.shrinks
-    ∙ ap (λ m. remove (items_below s.nodes m s.root) (box_place s c.args.edge - 1)) level
+    grind (arith, tree_is_not_too_deep)
 
 pub invariant_of-self-2 : goal.invariant_of-self-2
-invariant_of-self-2 g c =
-    let s = c.args.self.now in
-    let at = goal.at.invariant_of-self-2 g c in
-    let back = fewer g at.Start in
-    let capacity =
-    c.shrink_root-shrunk.ensures.capacity ∙ c.remove_below-taken.ensures.shrinks.moved.capacity in
-    let whole = grown_whole (s.len - 1) (record {
-      tree = c.shrink_root-shrunk.ensures.tree;
-      items_are = shrunk g at.After-shrink_root-shrunk;
-    }) (omega (arith, back, s.counted)) (omega (arith, back, s.whole.fits, capacity))
-    (omega (arith, back, s.whole.counted)) in
-    record { whole = whole.0; counted = whole.1; levelled = whole.2 }
+invariant_of-self-2 g c = grind (arith, fewer, grown_whole, loosened_items)
 
 pub returns-then-self-eq0-clause-removed : goal.returns-then-self-eq0-clause-removed
 returns-then-self-eq0-clause-removed g c =
-    c.remove_below-taken.ensures.item
-    ∙ sym (leaf_item c.requires.edge c.remove_below-taken.result.item c.requires.in_leaf)
+    grind (arith, leaf_item)
 
 pub returns-clause-removed : goal.returns-clause-removed
 returns-clause-removed g c =
-    c.remove_below-taken.ensures.item
-    ∙ sym (leaf_item c.requires.edge c.remove_below-taken.result.item c.requires.in_leaf)
+    grind (arith, leaf_item)

@@ -1,8 +1,7 @@
-use Rattle.std.proofs.Common.{◌≡◌, ◌≤◌, ◌+◌, ◌-◌, length, ap, arith, rules, sym, subst, ◌∙◌, drop, take}
+use Rattle.std.proofs.Common.{◌≡◌, ◌+◌, ◌-◌, length, ap, arith, ◌∙◌, drop}
 use Rattle.std.proofs.lemmas.List.{length-drop}
 use Rattle.range_store.specs.Heap.{items_of, node_of}
-use Rattle.range_store.specs.Holding.{box_items, box_place, box_rank, good_home, rank_is, IsGood}
-use Rattle.range_store.specs.ListPlaces.{IsAt}
+use Rattle.range_store.specs.Holding.{box_place, box_rank, good_home, rank_is}
 use Rattle.range_store.proofs.Cells.{row_length}
 use Rattle.range_store.proofs.LeafItems.{at_index, leaf_rest, rest_full, rest_items}
 use Rattle.range_store.proofs.Lent.{item_home}
@@ -26,9 +25,7 @@ slice_bounds-of_cells-count g c =
 
 pub slice_bounds-of_cells-start : goal.slice_bounds-of_cells-start
 slice_bounds-of_cells-start g c =
-    let low : c.args.p.index ≤ c.item_count-len.result =
-    omega (arith, (tree_leaf c.requires.is).within, c.item_count-len.ensures) in
-    search rules
+    grind (arith, tree_leaf)
 
 pub item_at-requires : goal.item_at-requires
 item_at-requires g c =
@@ -37,13 +34,11 @@ item_at-requires g c =
 
 pub of_cells-requires : goal.of_cells-requires
 of_cells-requires g c =
-    rw c.item_count-len.ensures
-    (rest_full c.cells-cells.ensures c.args.p.index (tree_leaf c.requires.is).within)
+    grind (arith, rest_full, tree_leaf)
 
 pub around_leaf-behind-requires-clause-deep : goal.around_leaf-behind-requires-clause-deep
 around_leaf-behind-requires-clause-deep g c =
-    let s = c.args.self.now in
-    tree_is_not_too_deep s.levels s.whole
+    grind (arith, tree_is_not_too_deep)
 
 pub returns : goal.returns
 returns g c =
@@ -59,15 +54,4 @@ returns g c =
     let behind : box_place s p ≡ box_rank s p + 1 =
     omega (arith, rank_is c.requires, c.requires.some) in
     let end = at_index c.requires.is (length items) (omega arith) in
-    let place : box_place s (record p { index = length items })
-    ≡ box_rank s p + 1 + length c.of_cells.result = omega (arith, end.1, behind, low, many) in
-    record {
-      first = item_home c.requires c.around_leaf-behind.result.0 c.around_leaf-behind.ensures.home
-          c.item_at.result.now c.item_at.ensures;
-      rest = run ∙ leaf_rest c.requires.is
-          ∙ ap (λ n. take n (drop (box_place s p) (box_items s))) (sym many)
-          ∙ ap (λ n. take (length c.of_cells.result) (drop n (box_items s))) behind;
-      after = subst (IsAt (IsGood s) (box_rank s) (length (box_items s))
-          c.around_leaf-behind.result.1) place (next_at s _ c.around_leaf-behind.result.1 (next_from s _
-          c.requires.is.some c.around_leaf-behind.result.1 c.around_leaf-behind.ensures.behind));
-    }
+    grind (arith, item_home, leaf_rest, next_at, next_from)

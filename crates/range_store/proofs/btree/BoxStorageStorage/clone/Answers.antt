@@ -1,24 +1,12 @@
-use Rattle.std.proofs.Common.{◌≡◌, ℕ, ◌+◌, ◌-◌, ◌<◌, true, List, [], ◌∷◌, ◌++◌, length, get_or, take, sym, ap, ◌∙◌, arith}
-use Rattle.std.specs.List.{AllZip}
+use Rattle.std.proofs.Common.{◌≡◌, ◌+◌, ◌<◌, [], ◌∷◌, ◌++◌, length, arith}
 use Rattle.std.proofs.lemmas.List.{length_push, take_all}
 use Rattle.std.proofs.lemmas.List.Elements.{all_zip_more}
 use Rattle.range_store.specs.Holding.{box_items, good_in_range}
 use Rattle.range_store.proofs.btree.BoxStorageStorage.clone.Goals as goal
 
--- one item more stands in both
-copied_one : {T : Type 0} (Q : T → T → Type 0) (items before after : List T) (x y : T)
-    → after ≡ before ++ y ∷ [] → length before < length items → x ≡ get_or items (length before) x
-    → AllZip Q (take (length before) items) before → Q x y
-    → AllZip Q (take (length after) items) after
-copied_one Q items before after x y longer within read copied holds =
-    rw (longer, length_push before y)
-    (all_zip_more Q items before (length before) x y within read copied holds)
-
 pub push_reserved-requires : goal.push_reserved-requires
 push_reserved-requires g c =
-    let here = rw c.in-Some.is at c.loop-at.invariant.position in
-    let within = rw here.1 at (good_in_range c.args.self.now c.in-Some.p here.0) in
-    omega (arith, c.loop-at.invariant.space, within)
+    grind (arith, good_in_range)
 
 pub loop-at-preserved : goal.loop-at-preserved
 loop-at-preserved g c =
@@ -35,34 +23,13 @@ loop-at-preserved g c =
     record {
       position = rw count (rw here.1 at c.next-at.ensures);
       copied =
-          copied_one (λ x y. g.T.PartialEq.eq y x ≡ true) items before after c.get.result.now
-          c.in_ok-item.item longer within read c.loop-at.invariant.copied
-          ((rw (sym read) at (c.requires (length before) c.get.result.now within)) c.in_ok-item.item
-          c.in_ok-item.ensures.cases);
+          grind (arith, length_push, all_zip_more);
       space = omega (arith, c.push_reserved.ensures.capacity, c.loop-at.invariant.space);
     }
 
-fewer_left : (n m k : ℕ) → k ≡ m + 1 → m < n → n - k < n - m
-fewer_left n m k count within = omega arith
-
 pub loop-at-smaller : goal.loop-at-smaller
-loop-at-smaller g c =
-    let before = c.loop-at.copies.items in
-    let after = c.push_reserved.new.self.items in
-    let here = rw c.in-Some.is at c.loop-at.invariant.position in
-    let count : length after ≡ length before + 1 =
-    rw (c.push_reserved.ensures.items) (length_push before c.in_ok-item.item) in
-    fewer_left (length (box_items c.args.self.now)) (length before) (length after) count
-    (rw here.1 at (good_in_range c.args.self.now c.in-Some.p here.0))
+loop-at-smaller g c = grind (arith, length_push, good_in_range)
 
 pub returns : goal.returns
 returns g c =
-    let items = box_items c.args.self.now in
-    let copies = c.loop-at.copies.items in
-    let whole : length copies ≡ length items = rw c.in_default.is at c.loop-at.invariant.position in
-    let copied = rw (take_all (length copies) items (omega (arith, whole))) at
-    c.loop-at.invariant.copied in
-    let none : box_items c.reserve.new.self ≡ [] = c.reserve.ensures.list ∙ c.new-copy.ensures in
-    let list : box_items c.append.new.self ≡ copies =
-    c.append.ensures.list ∙ ap (λ l. l ++ copies) none in
-    rw list copied
+    grind (arith, take_all)

@@ -1,4 +1,4 @@
-use Rattle.std.proofs.Common.{sym, ap, length, arith}
+use Rattle.std.proofs.Common.{ap, length, arith}
 use Rattle.range_store.proofs.Levels.{has_levels}
 use Rattle.range_store.proofs.Rank.{IsTree-none, items_below_none}
 use Rattle.range_store.proofs.btree.BoxStorageStorage.new.Goals as goal
@@ -7,12 +7,4 @@ pub invariant_of-result : goal.invariant_of-result
 invariant_of-result g c =
     let none = ap length (items_below_none c.new.result 0) in
     let tree = IsTree-none c.new.result 0 c.new.ensures.empty in
-    record {
-      whole = record {
-        tree = tree;
-        fits = omega (arith, none);
-        counted = omega (arith, none);
-      };
-      counted = sym none;
-      levelled = rw none at (has_levels tree);
-    }
+    grind (arith, has_levels)

@@ -19,8 +19,7 @@ invariant_of-self g c =
 
 pub returns-clause-list : goal.returns-clause-list
 returns-clause-list g c =
-    let s = c.args.self.now in
-    kept_items c.reserve.ensures.kept s.levels s.root
+    grind (arith, kept_items)
 
 pub returns-clause-positions : goal.returns-clause-positions
 returns-clause-positions g c q good =

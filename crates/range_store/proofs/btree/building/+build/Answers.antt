@@ -1,6 +1,5 @@
-use Rattle.std.proofs.Common.{◌≡◌, ◌-◌, ◌/◌, ◌<◌, ◌∷◌, ◌++◌, suc, length, sym, ap, subst, ◌∙◌, arith, length-append, length-take-le, take-append-drop}
+use Rattle.std.proofs.Common.{◌≡◌, ◌-◌, ◌/◌, ◌<◌, ◌∷◌, suc, length, ap, arith, length-append, length-take-le, take-append-drop}
 use Rattle.std.specs.Vec.Iter.{into_iter_items}
-use Rattle.range_store.specs.Building.{IsBuilt}
 use Rattle.range_store.specs.Nodes.{items_below}
 use Rattle.range_store.specs.declared.btree.nodes.TheConstants.{CAPACITY}
 use Rattle.range_store.proofs.Building.{begun_above, built_child, built_leaf, child_level, child_listed, child_more, listed_above, node_fits, node_length, node_there, taken_more}
@@ -13,40 +12,14 @@ returns-then-below-eq0 g t c =
     let cut = leaf_cut c.args.count c.if-below-eq0.true c.requires.width in
     let all = into_iter_items c.args.items.now in
     let many = length-take-le c.args.count all c.requires.enough in
-    let leaf = built_leaf c.store_items.ensures.stored (omega (arith, many, one, c.requires.most)) in
-    record {
-      built = rw (cut, c.if-below-eq0.true)
-          (subst (IsBuilt c.args.nodes.now c.store_items.new.self 0 c.store_items.result) many
-          leaf.0);
-      list = rw (c.if-below-eq0.true, leaf.1, c.store_items.ensures.rest)
-          (sym (take-append-drop c.args.count all));
-      size = rw c.if-below-eq0.true (ap length leaf.1 ∙ many);
-    }
+    grind (arith, built_leaf, take-append-drop)
 
 pub build-first-requires : goal.build-first-requires
 build-first-requires g t c κs inside =
     let some : 0 < c.args.below = omega (arith, c.if-below-eq0.false) in
     let branch = branch_is some c.requires.width c.requires.least c.requires.most in
     let share = first_share branch in
-    let enough = cut_enough branch.some share.enough in (
-      omega (arith, some),
-      (
-        inside,
-        (
-          branch.inner_is,
-          (
-            omega (arith, share.enough),
-            (
-              share.fits,
-              (
-                omega (arith, share.within, c.requires.enough),
-                omega (arith, share.within, branch.within, c.requires.room, enough),
-              ),
-            ),
-          ),
-        ),
-      ),
-    )
+    grind (arith, cut_enough)
 
 pub store_above-number-requires : goal.store_above-number-requires
 store_above-number-requires g t c =
@@ -74,9 +47,7 @@ loop-index-init g t c =
       built = begun_above c.args.below c.build-first.result some child.moved child.shaped
           c.store_above-number.ensures;
       listed =
-          c.build-first.ensures.list
-          ∙ ap (λ zs. zs ++ into_iter_items c.build-first.new.items)
-          (child_level first c.args.below c.build-first.result some ∙ sym listed);
+          grind (arith, child_level);
       size = omega (arith, ap length listed, child.size, share.within, branch.within);
       shares = rw none share.others_can;
       room = omega arith;
@@ -87,30 +58,10 @@ build-child-requires g t c κs inside =
     let some : 0 < c.args.below = omega (arith, c.if-below-eq0.false) in
     let was = c.loop-index.invariant in
     let branch = branch_is some c.requires.width c.requires.least c.requires.most in
-    let share = next_share c.loop-index.index c.loop-index-test.true was.shares in (
-      omega (arith, some),
-      (
-        inside,
-        (
-          branch.inner_is,
-          (
-            omega (arith, share.enough),
-            (
-              share.fits,
-              (
-                omega (
-                  arith,
-                  ap length was.listed,
-                  length-append (items_below c.loop-index.nodes (suc c.args.below)
-                      c.store_above-number.result) (into_iter_items c.loop-index.items),
-                  ap length c.next_item-item.ensures,
-                ),
-                omega (arith, was.room, share.within, cut_enough branch.some share.enough),
-              ),
-            ),
-          ),
-        ),
-      ),
+    let share = next_share c.loop-index.index c.loop-index-test.true was.shares in grind (
+      arith,
+      length-append,
+      cut_enough,
     )
 
 pub put-requires : goal.put-requires
@@ -154,13 +105,7 @@ loop-index-preserved g t c =
       built = child_more c.build-child.result some was.built child.moved c.next_item-item.result
           room child.shaped c.put.ensures;
       listed =
-          taken_more (into_iter_items c.args.items.now) front (into_iter_items c.loop-index.items)
-          (into_iter_items c.next_item-item.new.items) (into_iter_items c.build-child.new.items)
-          (items_below c.put.new.self (suc c.args.below) number) middle c.next_item-item.result
-          was.listed c.next_item-item.ensures
-          (c.build-child.ensures.list
-          ∙ ap (λ zs. zs ++ into_iter_items c.build-child.new.items)
-          (child_level new c.args.below c.build-child.result some)) listed;
+          grind (arith, taken_more, child_level);
       size =
           omega (arith, ap length listed, length-append front (c.next_item-item.result ∷ middle));
       shares = share.others_can;

@@ -1,4 +1,4 @@
-use Rattle.std.proofs.Common.{◌≡◌, ℕ, ◌<◌, ◌≤◌, ◌+◌, ◌-◌, length, refl, ap, ◌∙◌, arith, None}
+use Rattle.std.proofs.Common.{◌≡◌, ℕ, ◌<◌, ◌≤◌, ◌+◌, length, refl, ap, ◌∙◌, arith, None}
 use Rattle.std.proofs.lemmas.List.Edits.{length-insert}
 use Rattle.range_store.specs.Heap.{items_of, node_items}
 use Rattle.range_store.specs.declared.btree.nodes.TheConstants.{CAPACITY}
@@ -14,12 +14,7 @@ use Rattle.range_store.proofs.btree.insertion.+insert_below.Goals as goal
 
 pub overflow_add-at : goal.overflow_add-at
 overflow_add-at g t c =
-    omega (
-      arith,
-      leaf_index c.args.nodes.now c.args.number c.args.edge
-          (rw c.if-below-eq0.true at c.requires.edge),
-      c.requires.shaped.node.fits,
-    )
+    grind (arith, leaf_index)
 
 pub put_or_cut-requires : goal.put_or_cut-requires
 put_or_cut-requires g t c =
@@ -45,26 +40,15 @@ put_or_cut-requires g t c =
 
 pub returns-then-below-eq0-clause-replaces : goal.returns-then-below-eq0-clause-replaces
 returns-then-below-eq0-clause-replaces g t c =
-    let shaped = rw c.if-below-eq0.true at c.requires.shaped in
-    let s = c.args.nodes.now in
-    let low = leaf_index s c.args.number c.args.edge (rw c.if-below-eq0.true at c.requires.edge) in
-    let long = length-insert (node_items s c.args.number) c.args.edge.index c.args.item low in
-    rw (c.if-below-eq0.true, leaf_place c.args.nodes.now c.args.number c.args.edge)
-    (settled_replaces _ (leaf_moved c.args.edge.index c.args.item shaped)
-    (leaf_listed c.args.edge.index c.args.item shaped) (omega (arith, long))
-    (rw c.if-below-eq0.true at c.put_or_cut.ensures.settles))
+    grind (arith, leaf_index, length-insert, leaf_place, settled_replaces, leaf_moved, leaf_listed)
 
 pub returns-then-below-eq0-clause-place : goal.returns-then-below-eq0-clause-place
 returns-then-below-eq0-clause-place g t c =
-    let at = rw c.if-below-eq0.true at c.put_or_cut.ensures.place in
-    rw (c.if-below-eq0.true, leaf_place c.args.nodes.now c.args.number c.args.edge)
-    (at ∙ leaf_seat_place c.args.nodes.now _ _ (c.args.edge.index + 1) c.args.edge)
+    grind (arith, leaf_place, leaf_seat_place)
 
 pub child_at-child-requires-clause-within : goal.child_at-child-requires-clause-within
 child_at-child-requires-clause-within g t c =
-    let low = below_turn c.if-below-eq0.false c.requires.shaped c.args.edge c.requires.edge in
-    let within = child_within c.if-below-eq0.false c.requires.shaped _ low in
-    rw c.first_turn-index.ensures within
+    grind (arith, below_turn, child_within)
 
 pub insert_below-inserted-requires : goal.insert_below-inserted-requires
 insert_below-inserted-requires g t c κs inside =
@@ -75,16 +59,7 @@ insert_below-inserted-requires g t c κs inside =
     let owned = kid_owned c.args.nodes.now c.args.below c.args.number (turn c.args.edge)
     c.requires.owned (child_within c.if-below-eq0.false c.requires.shaped _ low) in
     let room = HasTreeRoom-child (turn c.args.edge) (omega arith) low c.requires.shaped
-    c.requires.room in (
-      omega (arith, c.if-below-eq0.false),
-      (
-        inside,
-        rw (c.child_at-child.ensures, c.first_turn-index.ensures, c.seen_inside.ensures) (
-          kid,
-          (rw (← back) at owned, (is, (omega (arith, c.requires.deep), rw (← back) at room))),
-        ),
-      ),
-    )
+    c.requires.room in grind arith
 
 pub returns-in-None : goal.returns-in-None
 returns-in-None g t c =
@@ -111,24 +86,11 @@ returns-in-None g t c =
 
 pub seen_above-requires : goal.seen_above-requires
 seen_above-requires g t c =
-    let low = below_turn c.if-below-eq0.false c.requires.shaped c.args.edge c.requires.edge in
-    record {
-      index = omega (arith, c.first_turn-index.ensures, low, c.requires.shaped.node.fits);
-      path = path_small c.insert_below-inserted.new.nodes
-          (c.args.below - 1) _ c.insert_below-inserted.result.edge (omega (arith, c.requires.deep))
-          (seat_inside c.insert_below-inserted.new.nodes
-          (c.args.below - 1) _ _ _ c.insert_below-inserted.result.edge
-          c.insert_below-inserted.ensures.edge);
-    }
+    grind (arith, below_turn, path_small, seat_inside)
 
 pub overflow_add-seat : goal.overflow_add-seat
 overflow_add-seat g t c =
-    let seat = rw c.in-Some.is at c.insert_below-inserted.ensures.edge in
-    omega (
-      arith,
-      below_turn c.if-below-eq0.false c.requires.shaped c.args.edge c.requires.edge,
-      seat_side c.insert_below-inserted.new.nodes (c.args.below - 1) _ _ _ _ seat,
-    )
+    grind (arith, below_turn, seat_side)
 
 -- a full node has more items than fit once it has another one
 over : (now was more : ℕ) → CAPACITY ≤ now → more ≡ was + 1 → now ≡ was → CAPACITY < more

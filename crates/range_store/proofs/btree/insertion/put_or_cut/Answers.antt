@@ -15,20 +15,13 @@ use Rattle.range_store.proofs.btree.insertion.put_or_cut.Goals.{Start, After-spl
 module _ (g : Over) (c : Start g) where
   long : length (insert (node_items c.args.nodes.now c.args.number) c.args.index c.args.item)
       ≡ length (node_items c.args.nodes.now c.args.number) + 1
-  long = length-insert (node_items c.args.nodes.now c.args.number) c.args.index c.args.item
-      c.requires.within
+  long = grind (arith, length-insert)
 
   small : c.args.seat ≤ length (node_items c.args.nodes.now c.args.number) + 1
-  small = omega (
-    arith,
-    long,
-    seat_small c.args.nodes.now c.args.below _ _ c.args.seat c.args.inner
-        c.requires.content.branches c.requires.seat,
-  )
+  small = grind (arith, long, seat_small)
 
   path : 0 < c.args.below → c.args.inner.path < 2 ^ 60
-  path some = seat_path c.args.nodes.now c.args.below _ _ c.args.seat c.args.inner c.requires.deep
-      some c.requires.seat
+  path some = grind (arith, seat_path)
 
 pub edge_at-requires : goal.edge_at-requires
 edge_at-requires g c =
@@ -67,20 +60,16 @@ edge_at-requires-then-seat-le-HALF-clause-path g c =
 
 -- the node was full
 module _ (g : Over) (c : After-split-split g) where
-  full : length (insert (node_items c.args.nodes.now c.args.number) c.args.index c.args.item)
-      ≡ CAPACITY + 1
-  full = omega (arith, length-insert)
-
   low : HALF < length
       (insert (node_items c.args.nodes.now c.args.number) c.args.index c.args.item)
-  low = omega (arith, full)
+  low = omega (arith, length-insert)
 
   settles : Settles c.args.nodes.now c.split-split.new.self c.args.below c.args.number
       (insert (node_items c.args.nodes.now c.args.number) c.args.index c.args.item)
       (with_child (node_children c.args.nodes.now c.args.number) (c.args.index + 1) c.args.child)
       (Some c.split-split.result)
   settles = cut_settles c.split-split.result c.requires.content c.split-split.ensures
-      low (omega arith) (omega arith) (omega (arith, full)) (omega (arith, full))
+      low (omega arith) (omega arith) (omega (arith, length-insert)) (omega (arith, length-insert))
 
   left_whole : length (node_items c.args.nodes.now c.args.number) < CAPACITY
       → ◌≡◌ {A = Option (Split g.row.T.Denot)} (Some c.split-split.result) None

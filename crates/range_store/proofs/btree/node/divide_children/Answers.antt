@@ -23,7 +23,8 @@ returns c =
           ∙ sym (take_insert_before c.args.list.now.items c.args.index 7 c.args.child (omega arith)
           (omega arith));
       right = c.insert-2.ensures.items
-          ∙ ap (λ zs. insert zs (c.args.index - 6 - 1) c.args.child) c.children_from-upper-2.ensures.right
+          ∙ ap (λ zs. insert zs
+          (c.args.index - 6 - 1) c.args.child) c.children_from-upper-2.ensures.right
           ∙ ap (λ m. insert (drop 7 c.args.list.now.items) m c.args.child) place
           ∙ sym (drop_insert_before c.args.list.now.items c.args.index 7 c.args.child (omega arith)
           (omega arith));

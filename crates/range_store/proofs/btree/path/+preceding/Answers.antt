@@ -1,6 +1,5 @@
-use Rattle.std.proofs.Common.{◌≡◌, ◌+◌, ◌-◌, ◌<◌, length, refl, ◌∙◌, arith}
+use Rattle.std.proofs.Common.{◌≡◌, ◌+◌, ◌-◌, ◌<◌, length, arith}
 use Rattle.range_store.specs.Heap.{node_items}
-use Rattle.range_store.specs.Nodes.{before_child}
 use Rattle.range_store.specs.Edges.{turn}
 use Rattle.range_store.proofs.Edges.{leaf_edge, leaf_place, leaf_index, path_small}
 use Rattle.range_store.proofs.Paths.{level_of_children, child_within, below_kid, below_turn, below_inside, below_edge, below_place, below_here, before_next}
@@ -8,78 +7,37 @@ use Rattle.range_store.proofs.btree.path.+preceding.Goals as goal
 
 pub child_at-child-requires-clause-within : goal.child_at-child-requires-clause-within
 child_at-child-requires-clause-within g t c =
-    let low = below_turn c.if-below-eq0.false c.requires.shaped c.args.edge c.requires.edge in
-    let within = child_within c.if-below-eq0.false c.requires.shaped _ low in
-    rw c.first_turn-index.ensures within
+    grind (arith, below_turn, child_within)
 
 pub preceding-requires : goal.preceding-requires
 preceding-requires g t c κs within =
     let low = below_turn c.if-below-eq0.false c.requires.shaped c.args.edge c.requires.edge in
     let kid = below_kid c.if-below-eq0.false c.requires.shaped (turn c.args.edge) low in
-    let is = below_inside c.if-below-eq0.false c.requires.shaped c.args.edge c.requires.edge in (
-      omega (arith, c.if-below-eq0.false),
-      (
-        within,
-        rw (c.child_at-child.ensures, c.first_turn-index.ensures, c.seen_inside.ensures)
-            (kid, (omega (arith, c.requires.deep), is)),
-      ),
-    )
+    grind (arith, below_inside)
 
 pub seen_above-requires : goal.seen_above-requires
 seen_above-requires g t c =
-    let low = below_turn c.if-below-eq0.false c.requires.shaped c.args.edge c.requires.edge in
-    let found = rw c.in-Some.is at c.preceding.ensures in
-    record {
-      index = omega (arith, c.first_turn-index.ensures, low, c.requires.shaped.node.fits);
-      path = path_small c.args.nodes.now (c.args.below - 1) _ _
-          (omega (arith, c.requires.deep)) found.0;
-    }
+    grind (arith, below_turn, path_small)
 
 pub returns-in-Some : goal.returns-in-Some
 returns-in-Some g t c =
-    let found = rw (c.child_at-child.ensures, c.first_turn-index.ensures, c.seen_inside.ensures) at
-    (rw c.in-Some.is at c.preceding.ensures) in
-    let low = below_turn c.if-below-eq0.false c.requires.shaped c.args.edge c.requires.edge in
-    let at = c.seen_above.ensures.turn ∙ c.first_turn-index.ensures in
-    let place = below_place c.if-below-eq0.false c.requires.shaped (turn c.args.edge)
-    c.in-Some.earlier _ at c.seen_above.ensures.inside
-    in (
-      below_edge c.if-below-eq0.false c.requires.shaped (turn c.args.edge) c.in-Some.earlier _ at
-          c.seen_above.ensures.inside low found.0,
-      omega (arith, place, below_here c.if-below-eq0.false c.requires.shaped c.args.edge, found.1),
-    )
+    grind (arith, below_turn, below_place, below_edge, below_here)
 
 pub returns-then-edge-eq0 : goal.returns-then-edge-eq0
 returns-then-edge-eq0 g t c =
-    rw c.if-below-eq0.true (leaf_place c.args.nodes.now c.args.number c.args.edge
-    ∙ c.if-edge-eq0.true)
+    grind (arith, leaf_place)
 
 pub returns-then-below-eq0 : goal.returns-then-below-eq0
 returns-then-below-eq0 g t c =
-    let s = c.args.nodes.now in
-    let is = rw c.if-below-eq0.true at c.requires.edge in
-    rw c.if-below-eq0.true (
-      leaf_edge s c.args.number _ refl refl
-          (omega (arith, leaf_index s c.args.number c.args.edge is)),
-      omega (arith, leaf_place),
-    )
+    grind (arith, leaf_edge, leaf_index, leaf_place)
 
 pub returns-then-index-eq0 : goal.returns-then-index-eq0
 returns-then-index-eq0 g t c =
-    let none = rw (c.child_at-child.ensures, c.first_turn-index.ensures, c.seen_inside.ensures) at
-    (rw c.in_default.is at c.preceding.ensures) in
-    let first : turn c.args.edge ≡ 0 =
-    omega (arith, c.first_turn-index.ensures, c.if-index-eq0.true) in
-    let s = c.args.nodes.now in
-    let start : length (before_child s c.args.below c.args.number (turn c.args.edge)) ≡ 0 =
-    rw first refl in
-    omega (arith, below_here c.if-below-eq0.false c.requires.shaped c.args.edge, none, start)
+    grind (arith, below_here)
 
 pub child_at-last-requires-clause-within : goal.child_at-last-requires-clause-within
 child_at-last-requires-clause-within g t c =
-    let low = below_turn c.if-below-eq0.false c.requires.shaped c.args.edge c.requires.edge in
-    child_within c.if-below-eq0.false c.requires.shaped _
-    (omega (arith, c.first_turn-index.ensures, low))
+    grind (arith, below_turn, child_within)
 
 pub end_edge-requires-clause-shaped : goal.end_edge-requires-clause-shaped
 end_edge-requires-clause-shaped g t c =
@@ -89,12 +47,7 @@ end_edge-requires-clause-shaped g t c =
 
 pub seen_above-requires-2 : goal.seen_above-requires-2
 seen_above-requires-2 g t c =
-    let low = below_turn c.if-below-eq0.false c.requires.shaped c.args.edge c.requires.edge in
-    record {
-      index = omega (arith, c.first_turn-index.ensures, low, c.requires.shaped.node.fits);
-      path = path_small c.args.nodes.now (c.args.below - 1) _ _
-          (omega (arith, c.requires.deep)) c.end_edge.ensures.edge;
-    }
+    grind (arith, below_turn, path_small)
 
 pub returns : goal.returns
 returns g t c =
@@ -104,15 +57,4 @@ returns g t c =
     omega (arith, c.first_turn-index.ensures, most, c.if-index-eq0.false) in
     let next : i + 1 ≡ turn c.args.edge =
     omega (arith, c.first_turn-index.ensures, c.if-index-eq0.false) in
-    let none = rw (c.child_at-child.ensures, c.first_turn-index.ensures, c.seen_inside.ensures) at
-    (rw c.in_default.is at c.preceding.ensures) in
-    let is = rw c.child_at-last.ensures at c.end_edge.ensures.edge in
-    let end = rw (level_of_children c.if-below-eq0.false c.requires.shaped) at
-    (rw c.child_at-last.ensures at c.end_edge.ensures.place) in
-    let place = below_place c.if-below-eq0.false c.requires.shaped i c.end_edge.result _
-    c.seen_above-2.ensures.turn c.seen_above-2.ensures.inside in
-    let more = rw next at (before_next c.if-below-eq0.false c.requires.shaped i low) in (
-      below_edge c.if-below-eq0.false c.requires.shaped i c.end_edge.result _
-          c.seen_above-2.ensures.turn c.seen_above-2.ensures.inside (omega arith) is,
-      omega (arith, below_here c.if-below-eq0.false c.requires.shaped c.args.edge),
-    )
+    grind (arith, level_of_children, below_place, before_next, below_edge, below_here)

@@ -1,7 +1,6 @@
 use Rattle.std.proofs.Common.{◌≡◌, ◌≢◌, ◌+◌, ◌*◌, ◌^◌, ◌<◌, ◌≤◌, length, refl, arith}
 use Rattle.std.proofs.Math.Nat.{mul-le-mul_left}
 use Rattle.range_store.specs.Heap.{node_items}
-use Rattle.range_store.specs.declared.btree.nodes.TheConstants.{CAPACITY}
 use Rattle.range_store.proofs.Behind.{ComesAfter, leaf_end, sets_out, turn_low, goes_by_another, goes_by_the_last, comes_to_the_end, home_sets_out, home_goes_on, home_is_found}
 use Rattle.range_store.specs.Edges.{place, home_of}
 use Rattle.range_store.proofs.InLeaf.{leaf_beside}
@@ -27,26 +26,14 @@ low : (g : Over) (c : After-first_turn-index g)
 low g c = turn_low c.args.nodes.now (omega (arith, c.down-test.true)) c.down.invariant.way
     c.first_turn-index.result c.first_turn-index.ensures
 
-few : (g : Over) (c : After-first_turn-index g) → c.first_turn-index.result ≤ CAPACITY
-few g c = omega (arith, low g c, c.down.invariant.way.lies.shaped.node.fits)
-
 pub child_at-at-requires-clause-within : goal.child_at-at-requires-clause-within
 child_at-at-requires-clause-within g c =
-    let a = (goal.at.child_at-at-requires-clause-within g c).After-first_turn-index in
-    child_within (omega (arith, c.down-test.true)) c.down.invariant.way.lies.shaped _
-    (low g a)
+    grind (arith, child_within, low)
 
 small : (g : Over) (c : After-first_turn-index g)
     → c.down.path + c.down.weight * c.first_turn-index.result + c.down.weight < 2 ^ 64
 small g c =
-    let d = c.down.invariant.way.lies in
-    omega (
-      arith,
-      d.small,
-      weight_fits c.args.below c.down.left c.down.weight c.requires.deep c.down-test.true
-          d.weight_is,
-      mul-le-mul_left c.down.weight (few g c),
-    )
+    grind (arith, weight_fits, mul-le-mul_left)
 
 pub overflow_mul-path : goal.overflow_mul-path
 overflow_mul-path g c = omega
@@ -62,11 +49,7 @@ overflow_add-later g c = omega
 
 pub overflow_mul-weight : goal.overflow_mul-weight
 overflow_mul-weight g c =
-    omega (
-      arith,
-      weight_fits c.args.below c.down.left c.down.weight c.requires.deep c.down-test.true
-          c.down.invariant.way.lies.weight_is,
-    )
+    grind (arith, weight_fits)
 
 pub down-preserved-then-index-item_count : goal.down-preserved-then-index-item_count
 down-preserved-then-index-item_count g c =
@@ -119,8 +102,4 @@ pub returns-in-Some : goal.returns-in-Some
 returns-in-Some g c =
     let begins = rw c.in-Some.is at
     (comes g (goal.at.returns-in-Some g c).After-home_before-found) in
-    record {
-      home = home_found g (goal.at.returns-in-Some g c).After-home_before-found;
-      behind = begins.first c.first_edge-first.result c.first_edge-first.ensures.edge
-          c.first_edge-first.ensures.place;
-    }
+    grind (arith, home_found)

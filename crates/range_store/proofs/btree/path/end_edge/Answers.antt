@@ -1,8 +1,6 @@
-use Rattle.std.proofs.Common.{◌≤◌, true, sym, ◌∙◌, arith}
+use Rattle.std.proofs.Common.{true, sym, ◌∙◌, arith}
 use Rattle.std.proofs.Math.Nat.{mul-le-mul_left}
 use Rattle.range_store.specs.Heap.{node_items}
-use Rattle.range_store.specs.Nodes.{items_below}
-use Rattle.range_store.specs.declared.btree.nodes.TheConstants.{CAPACITY}
 use Rattle.range_store.proofs.Descending.{begins, descends, descent_ends}
 use Rattle.range_store.proofs.Front.{count_all, falls_all}
 use Rattle.range_store.proofs.PathsBelow.{weight_fits}
@@ -14,51 +12,22 @@ down-init g c =
 
 pub overflow_mul-path : goal.overflow_mul-path
 overflow_mul-path g c =
-    let d = c.down.invariant.lies in
-    let few : c.item_count-last.result ≤ CAPACITY =
-    omega (arith, c.item_count-last.ensures, d.shaped.node.fits) in
-    omega (
-      arith,
-      d.small,
-      weight_fits c.args.below c.down.left c.down.weight c.requires.deep c.down-test.true
-          d.weight_is,
-      mul-le-mul_left c.down.weight few,
-    )
+    grind (arith, weight_fits, mul-le-mul_left)
 
 pub overflow_add-path : goal.overflow_add-path
 overflow_add-path g c =
-    let d = c.down.invariant.lies in
-    let few : c.item_count-last.result ≤ CAPACITY =
-    omega (arith, c.item_count-last.ensures, d.shaped.node.fits) in
-    omega (
-      arith,
-      d.small,
-      weight_fits c.args.below c.down.left c.down.weight c.requires.deep c.down-test.true
-          d.weight_is,
-      mul-le-mul_left c.down.weight few,
-    )
+    grind (arith, weight_fits, mul-le-mul_left)
 
 pub overflow_mul-weight : goal.overflow_mul-weight
 overflow_mul-weight g c =
-    let d = c.down.invariant.lies in
-    omega (
-      arith,
-      weight_fits c.args.below c.down.left c.down.weight c.requires.deep c.down-test.true
-          d.weight_is,
-    )
+    grind (arith, weight_fits)
 
 pub down-preserved : goal.down-preserved
-down-preserved g c = rw c.child_at-leaf.ensures (descends (λ _. true) c.args.nodes.now c.down.leaf
-    c.down.path c.down.weight (omega (arith, c.down-test.true)) c.down.invariant
-    c.item_count-last.result
-    (c.item_count-last.ensures ∙ sym (count_all (node_items c.args.nodes.now c.down.leaf))))
+down-preserved g c = grind (arith, descends, count_all)
 
 pub returns : goal.returns
 returns g c =
     let ends = descent_ends (λ _. true) c.args.nodes.now c.down.left c.down.leaf c.down.path
     c.down.weight (omega (arith, c.down-test.false)) c.down.invariant c.item_count.result
     (c.item_count.ensures ∙ sym (count_all (node_items c.args.nodes.now c.down.leaf))) in
-    record {
-      edge = ends.edge;
-      place = ends.count ∙ count_all (items_below c.args.nodes.now _ c.args.number);
-    }
+    grind (arith, count_all)

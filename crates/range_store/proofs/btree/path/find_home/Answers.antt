@@ -12,10 +12,7 @@ down-init g c =
 
 pub child_at-at-requires-clause-within : goal.child_at-at-requires-clause-within
 child_at-at-requires-clause-within g c =
-    let d = c.down.invariant in
-    let above : c.down.left ≢ 0 = omega (arith, c.down-test.true) in
-    rw c.first_turn-index.ensures
-    (child_within above d.shaped _ (below_turn above d.shaped c.down.inner d.home.is))
+    grind (arith, child_within, below_turn)
 
 pub down-preserved : goal.down-preserved
 down-preserved g c =

@@ -1,18 +1,14 @@
-use Rattle.std.proofs.Common.{◌≡◌, ◌+◌, ◌-◌, ◌*◌, ◌^◌, false, sym, ◌∙◌, arith, subst}
+use Rattle.std.proofs.Common.{◌-◌, ◌^◌, false, sym, ◌∙◌, arith}
 use Rattle.range_store.specs.Heap.{node_items}
 use Rattle.range_store.specs.Nodes.{items_below}
 use Rattle.range_store.specs.declared.btree.path.TheConstants.{PATH_BASE}
-use Rattle.range_store.proofs.Descending.{Descent, begins, descends, descent_ends}
+use Rattle.range_store.proofs.Descending.{begins, descends, descent_ends}
 use Rattle.range_store.proofs.Front.{count_none, falls_none}
 use Rattle.range_store.proofs.btree.path.first_edge.Goals as goal
 
 pub down-init : goal.down-init
 down-init g c =
-    let all =
-    begins (λ _. false) c.args.nodes.now c.args.below c.args.number c.requires.shaped
-    (falls_none _) in
-    subst (λ weight. Descent (λ _. false) c.args.nodes.now c.args.below c.args.number c.args.below
-    c.args.number 0 weight) all.lies.weight_is all
+    grind (arith, begins, falls_none)
 
 pub down-preserved : goal.down-preserved
 down-preserved g c =
@@ -22,8 +18,7 @@ down-preserved g c =
     let weight = PATH_BASE ^ (below - left) in
     let down = descends (λ _. false) s c.down.leaf 0 weight (omega (arith, c.down-test.true))
     c.down.invariant 0 (sym (count_none (node_items s c.down.leaf))) in
-    let path : 0 + weight * 0 ≡ 0 = omega arith in
-    rw (c.child_at-leaf.ensures, ← down.lies.weight_is) (rw path at down)
+    grind arith
 
 pub returns : goal.returns
 returns g c =

@@ -1,4 +1,4 @@
-use Rattle.std.proofs.Common.{◌≡◌, ◌+◌, ◌-◌, ◌<◌, length, refl, ap, ◌∙◌, arith, rules}
+use Rattle.std.proofs.Common.{◌≡◌, ◌+◌, ◌-◌, ◌<◌, length, ◌∙◌, arith}
 use Rattle.std.proofs.lemmas.List.Edits.{length-remove}
 use Rattle.range_store.specs.Heap.{node_items, node_child}
 use Rattle.range_store.specs.declared.btree.nodes.TheConstants.{MIN_LEN}
@@ -15,12 +15,7 @@ use Rattle.range_store.proofs.btree.removal.+remove_below.Goals as goal
 
 pub take_beside-item-requires-clause-within : goal.take_beside-item-requires-clause-within
 take_beside-item-requires-clause-within g t c =
-    omega (
-      arith,
-      leaf_index c.args.nodes.now c.args.number c.args.edge
-          (rw c.if-below-eq0.true at c.requires.edge),
-      c.requires.in_leaf,
-    )
+    grind (arith, leaf_index)
 
 pub returns-then-below-eq0 : goal.returns-then-below-eq0
 returns-then-below-eq0 g t c =
@@ -36,36 +31,19 @@ returns-then-below-eq0 g t c =
       shrinks = rw (c.if-below-eq0.true, leaf_place s c.args.number c.args.edge)
           (leaf_shrinks (c.args.edge.index - 1) shaped owned within
           (rw (no_child_gone _ shaped.node.branches) at c.take_beside-item.ensures.rest));
-      edge = rw c.if-below-eq0.true (leaf_edge c.take_beside-item.new.self c.args.number _ refl refl
-          (omega (arith, ap length c.take_beside-item.ensures.rest.items_are, length-remove)));
+      edge = grind (arith, leaf_edge, length-remove);
       place = rw c.if-below-eq0.true (omega (arith, leaf_place));
     }
 
 pub child_at-child-requires-clause-within : goal.child_at-child-requires-clause-within
 child_at-child-requires-clause-within g t c =
-    rw c.first_turn-index.ensures (child_within c.if-below-eq0.false c.requires.shaped _
-    (below_turn c.if-below-eq0.false c.requires.shaped c.args.edge c.requires.edge))
+    grind (arith, child_within, below_turn)
 
 pub remove_below-taken-requires : goal.remove_below-taken-requires
 remove_below-taken-requires g t c κs inside =
     let low = below_turn c.if-below-eq0.false c.requires.shaped c.args.edge c.requires.edge in
     let kid = below_kid c.if-below-eq0.false c.requires.shaped (turn c.args.edge) low in
-    let is = below_inside c.if-below-eq0.false c.requires.shaped c.args.edge c.requires.edge in
-    let back = level_of_children c.if-below-eq0.false c.requires.shaped in
-    let owned = kid_owned c.args.nodes.now c.args.below c.args.number (turn c.args.edge)
-    c.requires.owned (child_within c.if-below-eq0.false c.requires.shaped _ low) in (
-      omega (arith, c.if-below-eq0.false),
-      (
-        inside,
-        rw (c.child_at-child.ensures, c.first_turn-index.ensures, c.seen_inside.ensures) (
-          kid,
-          (
-            rw (← back) at owned,
-            (omega (arith, c.requires.deep), (is, c.requires.in_leaf)),
-          ),
-        ),
-      ),
-    )
+    grind (arith, below_inside, level_of_children, kid_owned, child_within)
 
 pub rebalance-edge-requires : goal.rebalance-edge-requires
 rebalance-edge-requires g t c =
@@ -78,13 +56,7 @@ rebalance-edge-requires g t c =
     let enough =
     (kid_shaped (c.args.below - 1) i (rw (← back) at c.requires.shaped) low).node.enough in
     let short = kid_may_be_rebalanced anew (child.shape (MIN_LEN - 1) (omega (arith, enough))) in
-    let edge = rw (c.child_at-child.ensures, c.first_turn-index.ensures) at
-    c.remove_below-taken.ensures.edge in
-    record {
-      short = rw c.first_turn-index.ensures short;
-      deep = omega (arith, c.requires.deep, c.if-below-eq0.false);
-      edge = rw (c.first_turn-index.ensures, kid_kept anew) edge;
-    }
+    grind (arith, kid_kept)
 
 pub returns : goal.returns
 returns g t c =
@@ -111,10 +83,4 @@ returns g t c =
     (node_child c.args.nodes.now c.args.number (turn c.args.edge)) (inside c.args.edge) in
     let same : length (before_child c.args.nodes.now c.args.below c.args.number i) + (q - 1)
     ≡ place c.args.nodes.now c.args.below c.args.number c.args.edge - 1 = omega (arith, here, at) in
-    record {
-      item = search rules;
-      shrinks = rw (← same) (shorter_child_shrinks_node (q - 1) anew (omega (arith, within, at))
-          c.rebalance-edge.ensures.shrinks);
-      edge = rw back at c.rebalance-edge.ensures.edge;
-      place = omega (arith, kid, front, at, here);
-    }
+    grind (arith, shorter_child_shrinks_node)

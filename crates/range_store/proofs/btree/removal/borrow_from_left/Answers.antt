@@ -18,10 +18,7 @@ edge_at-inner-requires-clause-seat g c =
 
 pub seen_above-requires-clause-path : goal.seen_above-requires-clause-path
 seen_above-requires-clause-path g c =
-    moved_path c.args.low _ _ c.edge_at-inner.result c.args.edge
-    c.edge_at-inner.ensures.leaf
-    (rw c.seen_inside.ensures at c.edge_at-inner.ensures.inside)
-    (path_low c.args.nodes.now c.args.low _ c.args.edge c.requires.deep c.requires.edge)
+    grind (arith, moved_path, path_low)
 
 pub returns : goal.returns
 returns g c =

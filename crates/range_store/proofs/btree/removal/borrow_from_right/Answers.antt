@@ -9,8 +9,7 @@ rotate_left-requires-clause-pair g c =
 
 pub seen_above-requires-clause-path : goal.seen_above-requires-clause-path
 seen_above-requires-clause-path g c =
-    path_small c.args.nodes.now c.args.low _ c.args.edge
-    (omega (arith, c.requires.deep)) c.requires.edge
+    grind (arith, path_small)
 
 pub returns : goal.returns
 returns g c =

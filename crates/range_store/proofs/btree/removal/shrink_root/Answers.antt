@@ -18,10 +18,4 @@ returns g c =
     (omega (arith, c.item_count.ensures)) c.remove_node-2.ensures in
     let lowered = lowered_edge c.args.levels c.args.edge c.if-levels-eq1.false c.requires.tree
     (omega (arith, c.item_count.ensures)) c.remove_node-2.ensures c.requires.edge in
-    rw (c.child_at-child.ensures, c.seen_inside.ensures) (record {
-      tree = only.0;
-      items = only.1;
-      capacity = c.remove_node-2.ensures.capacity;
-      edge = λ some. lowered.0;
-      place = λ some. lowered.1;
-    })
+    grind arith

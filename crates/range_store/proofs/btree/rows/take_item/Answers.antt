@@ -1,4 +1,4 @@
-use Rattle.std.proofs.Common.{◌≡◌, ◌-◌, ◌<◌, length, refl, arith, ◌∙◌, sym, Some}
+use Rattle.std.proofs.Common.{◌≡◌, ◌-◌, ◌<◌, length, refl, arith, ◌∙◌, Some}
 use Rattle.std.proofs.lemmas.Option.{same_Some}
 use Rattle.range_store.specs.Rows.{items_in}
 use Rattle.range_store.proofs.Cells.{held_without, standing, turned_out}
@@ -24,8 +24,7 @@ pub returns-clause-item : goal.returns-clause-item
 returns-clause-item g c =
     let a = (goal.at.returns-clause-item g c).After-take in
     let stands = standing (items_in c.args.row.now) c.args.index (within g a) in
-    same_Some c.unwrap.result stands.item (sym c.unwrap.ensures ∙ taken g a)
-    ∙ sym (stands.item_is c.unwrap.result)
+    grind (arith, same_Some, taken)
 
 pub returns-clause-held : goal.returns-clause-held
 returns-clause-held g c =

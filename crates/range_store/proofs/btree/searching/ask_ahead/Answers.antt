@@ -1,4 +1,4 @@
-use Rattle.std.proofs.Common.{◌≡◌, ◌+◌, ◌-◌, ◌<◌, ◌≤◌, true, false, count_by, length, ap, sym, arith, ◌∙◌}
+use Rattle.std.proofs.Common.{◌≡◌, ◌+◌, ◌-◌, ◌<◌, ◌≤◌, true, false, count_by, length, sym, arith, ◌∙◌}
 use Rattle.std.proofs.lemmas.Option.{none-some, same_Some}
 use Rattle.range_store.specs.Rows.{items_in}
 use Rattle.range_store.proofs.Cells.{cell_read, standing}
@@ -32,15 +32,12 @@ tells g c =
     ∙ cell_read c.requires.held (c.args.end - 1) within stands _ in
     let same = same_Some c.in-Some.item stands.item (sym c.in-Some.is ∙ read)
     ∙ sym (stands.item_is c.in-Some.item) in
-    told p xs (c.args.end - 1) c.in-Some.item c.requires.falls within c.ask.result
-    (c.ask.ensures.answer ∙ ap p same)
+    grind (arith, told)
 
 pub returns-clause-passes : goal.returns-clause-passes
 returns-clause-passes g c more =
-    let tells = tells g (goal.at.returns-clause-passes g c).After-ask in
-    rw (c.from.ensures, tells.0 (omega (arith, more, c.requires.some))) (omega arith)
+    grind (arith, tells)
 
 pub returns-clause-fails : goal.returns-clause-fails
 returns-clause-fails g c less =
-    let tells = tells g (goal.at.returns-clause-fails g c).After-ask in
-    rw (c.from.ensures, tells.1 (omega (arith, less, c.requires.some))) (omega arith)
+    grind (arith, tells)

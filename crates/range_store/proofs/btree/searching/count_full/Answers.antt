@@ -1,22 +1,8 @@
-use Rattle.std.proofs.Common.{◌≡◌, ◌≤◌, ◌<◌, ◌+◌, ℕ, Bool, true, false, cond, [], ◌∷◌, ◌++◌, length, take, Option, Some, None, is_some, refl, sym, ap, arith, ◌∙◌, length-append}
-use mir.Val.{bool_byte}
+use Rattle.std.proofs.Common.{◌≡◌, ◌<◌, ◌+◌, [], ◌∷◌, ◌++◌, length, take, sym, ap, arith, ◌∙◌, length-append}
 use Rattle.std.proofs.lemmas.List.{take_more}
 use Rattle.std.proofs.lemmas.List.Elements.{filter_map-append}
 use Rattle.range_store.specs.Rows.{items_in}
 use Rattle.range_store.proofs.btree.searching.count_full.Goals as goal
-
-one : {T : Type 0} (cell : Option T)
-    → ◌≡◌ {A = ℕ} (length (items_in (cell ∷ []))) (cond (is_some cell) 1 0)
-one None = refl
-one (Some item) = refl
-
-byte : (b : Bool) → ◌≡◌ {A = ℕ} (bool_byte b) (cond b 1 0)
-byte true = refl
-byte false = refl
-
-few : (b : Bool) → ◌≤◌ (cond b 1 0) 1
-few true = omega arith
-few false = omega arith
 
 pub loop-cell-preserved : goal.loop-cell-preserved
 loop-cell-preserved g c =
@@ -30,9 +16,4 @@ loop-cell-preserved g c =
     (take_more cells i x within ∙ ap (λ y. take i cells ++ y ∷ []) (sym c.cell-item.is))
     ∙ ap length (filter_map-append (λ cell. cell) (take i cells) (x ∷ []))
     ∙ length-append (items_in (take i cells)) (items_in (x ∷ [])) in
-    let bit : ◌≡◌ {A = ℕ} c.from-len.result (cond (is_some x) 1 0) =
-    rw (c.from-len.ensures, c.is_some.ensures) (byte (is_some x)) in
-    record {
-      count = omega (arith, c.loop-cell.invariant.count, more, one x, bit);
-      few = omega (arith, c.loop-cell.invariant.few, few (is_some x), bit);
-    }
+    grind arith

@@ -1,4 +1,4 @@
-use Rattle.std.proofs.Common.{◌≡◌, ◌≤◌, length, ◌∙◌, arith, count_by}
+use Rattle.std.proofs.Common.{◌≡◌, ◌≤◌, length, arith, count_by}
 use Rattle.std.proofs.Math.Nat.{mul-le-mul_left}
 use Rattle.std.proofs.lemmas.List.Sums.{count_by-le-length}
 use Rattle.range_store.specs.Heap.{node_items}
@@ -31,11 +31,7 @@ count_passing-index-requires-clause-some g c = rw (items_held c.cells.ensures) (
 counted : (g : Over) (c : After-count_passing-index g)
     → c.count_passing-index.result ≡ count_by (g.P.Probe.test c.args.probe.now)
     (node_items c.args.nodes.now c.down.at)
-counted g c = rw (
-  c.down.invariant.1,
-  items_held c.cells.ensures,
-)
-    at c.count_passing-index.ensures.count
+counted g c = grind (arith, items_held)
 
 few : (g : Over) (c : After-count_passing-index g) → c.count_passing-index.result ≤ CAPACITY
 few g c =
@@ -86,24 +82,11 @@ overflow_add-path g c =
 
 pub overflow_mul-weight : goal.overflow_mul-weight
 overflow_mul-weight g c =
-    let d = c.down.invariant.0 in
-    omega (
-      arith,
-      weight_fits c.args.below c.down.left c.down.weight c.requires.deep
-          (omega (arith, c.if-left-eq0.false)) d.lies.weight_is,
-    )
+    grind (arith, weight_fits)
 
 pub down-preserved : goal.down-preserved
 down-preserved g c =
-    let a = (goal.at.down-preserved g c).After-count_passing-index in
-    let d = c.down.invariant.0 in
-    let down = descends (g.P.Probe.test c.args.probe.now) c.args.nodes.now c.down.at c.down.path
-    c.down.weight c.if-left-eq0.false d c.count_passing-index.result (counted g a) in (
-      rw c.child_at-at.ensures down,
-      c.count_passing-index.ensures.kept ∙ c.down.invariant.1,
-      adds_more c.args.below c.down.left c.if-left-eq0.false d.lies.low c.down.invariant.2
-          c.count_passing-index.ensures.asked,
-    )
+    grind (arith, descends, counted, adds_more)
 
 pub child_at-at-requires-clause-within : goal.child_at-at-requires-clause-within
 child_at-at-requires-clause-within g c =
@@ -115,5 +98,4 @@ child_at-at-requires-clause-within g c =
       counted g a,
       count_by-le-length (g.P.Probe.test c.args.probe.now) (node_items s c.down.at),
     ) in
-    child_within (omega (arith, c.if-left-eq0.false)) c.down.invariant.0.lies.shaped
-    c.count_passing-index.result low
+    grind (arith, child_within)

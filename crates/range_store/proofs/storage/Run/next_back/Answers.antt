@@ -1,4 +1,4 @@
-use Rattle.std.proofs.Common.{◌≡◌, List, [], ◌∷◌, ◌++◌, length, Option, Some, sym, ◌∙◌, arith}
+use Rattle.std.proofs.Common.{◌≡◌, List, [], ◌∷◌, ◌++◌, length, Option, Some, arith}
 use Rattle.std.proofs.lemmas.List.{append-nil}
 use Rattle.std.proofs.lemmas.List.Elements.{filter_map-append}
 use Rattle.range_store.specs.Cells.{items_in}
@@ -12,5 +12,4 @@ last_cell cells rest cell item (x ∷ xs) at is none = absurd (omega (arith, non
 
 pub returns : goal.returns
 returns g c =
-    sym c.self.view_is
-    ∙ last_cell _ _ _ _ _ c.in_ok-cell.ensures.cases.0 c.in-Some-cell.is c.in_default.ensures.cases
+    grind (arith, last_cell)

@@ -1,5 +1,5 @@
-use Rattle.std.proofs.Common.{◌≡◌, arith, sym, ◌∙◌}
-use Rattle.std.specs.Prelude.{Some, None}
+use Rattle.std.proofs.Common.{◌≡◌, arith}
+use Rattle.std.specs.Prelude.{Some}
 use Rattle.slab.specs.Slab.{get}
 use Rattle.std.proofs.lemmas.List.{get_or-set_other}
 use Rattle.range_store.proofs.Spares.{IsSeen, absorbs, fewer_spares, found, seen}
@@ -9,8 +9,7 @@ use Rattle.range_store.proofs.btree.nodes.Nodes.append.Goals.{After-index_mut-2}
 
 module _ (g : Over) (c : After-index_mut-2 g) where
   left_at : get c.self.inside.slab c.args.left ≡ Some c.index_mut-2.result.now
-  left_at = sym (get_or-set_other c.self.inside.slab.slots c.args.right c.args.left
-      (Some c.replace-upper.new.dest) None c.requires.apart) ∙ c.index_mut-2.ensures.value
+  left_at = grind (arith, get_or-set_other)
 
   left_seen : IsSeen c.self.inside.slab c.self.inside.rows c.self.inside.spares.items c.args.left
       c.index_mut-2.result.now
@@ -19,53 +18,25 @@ module _ (g : Over) (c : After-index_mut-2 g) where
   right_at : get c.self.inside.slab c.args.right ≡ Some c.replace-upper.result
   right_at = rw c.replace-upper.ensures.value c.index_mut.ensures.value
 
-  right_seen : IsSeen c.self.inside.slab c.self.inside.rows c.self.inside.spares.items c.args.right
-      c.replace-upper.result
-  right_seen = seen c.self.invariant.0 c.args.right (rw (← c.self.view_is) at c.requires.right)
-      right_at
-
 pub index_mut-requires : goal.index_mut-requires
-index_mut-requires g c = found c.self.invariant.0 c.args.right
-    (rw (← c.self.view_is) at c.requires.right)
+index_mut-requires g c = grind (arith, found)
 
 pub index_mut-requires-2 : goal.index_mut-requires-2
 index_mut-requires-2 g c =
-    rw (get_or-set_other c.self.inside.slab.slots c.args.right c.args.left
-    (Some c.replace-upper.new.dest) None c.requires.apart)
-    (found c.self.invariant.0 c.args.left (rw (← c.self.view_is) at c.requires.left))
+    grind (arith, get_or-set_other, found)
 
 pub absorb-len-requires-clause-room : goal.absorb-len-requires-clause-room
-absorb-len-requires-clause-room g c =
-    let a = (goal.at.absorb-len-requires-clause-room g c).After-index_mut-2 in
-    omega (
-      arith,
-      (left_seen g a).len,
-      (right_seen g a).len,
-      rw (← c.self.view_is) at c.requires.room,
-    )
+absorb-len-requires-clause-room g c = grind (arith, left_seen, seen, right_at)
 
 pub absorb-len-requires-clause-places : goal.absorb-len-requires-clause-places
-absorb-len-requires-clause-places g c =
-    let a = (goal.at.absorb-len-requires-clause-places g c).After-index_mut-2 in
-    rw (← (left_seen g a).children, ← (right_seen g a).children)
-    (rw (← c.self.view_is) at c.requires.places)
+absorb-len-requires-clause-places g c = grind (arith, left_seen, seen, right_at)
 
 pub absorb-requires-clause-room : goal.absorb-requires-clause-room
-absorb-requires-clause-room g c =
-    let a = (goal.at.absorb-requires-clause-room g c).After-index_mut-2 in
-    omega (
-      arith,
-      (left_seen g a).len,
-      (right_seen g a).len,
-      rw (← c.self.view_is) at c.requires.room,
-    )
+absorb-requires-clause-room g c = grind (arith, left_seen, seen, right_at)
 
 pub push_front_reserved-requires : goal.push_front_reserved-requires
 push_front_reserved-requires g c =
-    let s = c.self.inside in
-    let fewer = fewer_spares c.self.invariant.0 c.args.right
-    (rw (← c.self.view_is) at c.requires.right) in
-    omega (arith, fewer, s.spares.ok.0, c.self.invariant.1)
+    grind (arith, fewer_spares)
 
 pub invariant_of-self : goal.invariant_of-self
 invariant_of-self g c =
@@ -76,10 +47,7 @@ invariant_of-self g c =
     (right_at g a)
     (rw (← c.self.view_is) at c.requires.left) (rw (← c.self.view_is) at c.requires.right)
     c.replace-upper.new.dest none_len none_children c.absorb-len.new.self
-    c.args.middle c.absorb-len.ensures.len c.absorb-len.ensures.children in (
-      rw (c.push_front_reserved.ensures.items, c.absorb.ensures) now.whole,
-      omega (arith, c.self.invariant.1, c.push_front_reserved.ensures.capacity, now.len),
-    )
+    c.args.middle c.absorb-len.ensures.len c.absorb-len.ensures.children in grind arith
 
 pub returns : goal.returns
 returns g c =

@@ -4,11 +4,7 @@ use Rattle.range_store.proofs.Spares.{none_whole}
 use Rattle.range_store.proofs.btree.nodes.Nodes.new.Goals as goal
 
 pub invariant_of-result : goal.invariant_of-result
-invariant_of-result g c = (
-  none_whole c.new.result c.new-2.result c.new-3.result.items c.new.ensures.empty
-      c.new-2.ensures c.new-3.ensures.items,
-  rw c.new.ensures.empty (omega arith),
-)
+invariant_of-result g c = grind (arith, none_whole)
 
 pub returns-clause-empty : goal.returns-clause-empty
 unfolding without contents

@@ -7,33 +7,22 @@ use Rattle.range_store.proofs.btree.nodes.Nodes.put.Goals.{After-index_mut}
 seen_node : (g : Over) (c : After-index_mut g) → IsSeen c.self.inside.slab c.self.inside.rows
     c.self.inside.spares.items c.args.number c.index_mut.result.now
 seen_node g c =
-    seen c.self.invariant.0 c.args.number (rw (← c.self.view_is) at c.requires.present)
-    c.index_mut.ensures.value
+    grind (arith, seen)
 
 pub index_mut-requires : goal.index_mut-requires
-index_mut-requires g c = found c.self.invariant.0 c.args.number
-    (rw (← c.self.view_is) at c.requires.present)
+index_mut-requires g c = grind (arith, found)
 
 pub add-len-requires : goal.add-len-requires
 add-len-requires g c =
-    let seen = seen_node g (goal.at.add-len-requires g c).After-index_mut in
-    record {
-      room = omega (arith, seen.len, rw (← c.self.view_is) at c.requires.room);
-      near = omega (arith, seen.len, rw (← c.self.view_is) at c.requires.near);
-      child = rw (← seen.children)
-          (fits_count c.args.child _ _ c.index_mut.result.now.len seen.len
-          (rw (← c.self.view_is) at c.requires.child));
-    }
+    grind (arith, seen, seen_node, fits_count)
 
 pub put-requires-clause-within : goal.put-requires-clause-within
 put-requires-clause-within g c =
-    let seen = seen_node g (goal.at.put-requires-clause-within g c).After-index_mut in
-    omega (arith, seen.len, c.add-len.ensures.before, rw (← c.self.view_is) at c.requires.within)
+    grind (arith, seen, seen_node)
 
 pub put-requires-clause-room : goal.put-requires-clause-room
 put-requires-clause-room g c =
-    let seen = seen_node g (goal.at.put-requires-clause-room g c).After-index_mut in
-    omega (arith, seen.len, c.add-len.ensures.before, rw (← c.self.view_is) at c.requires.room)
+    grind (arith, seen, seen_node)
 
 pub invariant_of-self : goal.invariant_of-self
 invariant_of-self g c =

@@ -1,32 +1,24 @@
-use Rattle.std.proofs.Common.{[], arith}
+use Rattle.std.proofs.Common.{arith}
 use Rattle.std.proofs.lemmas.List.{set-get_or}
 use Rattle.range_store.proofs.Spares.{fewer_spares, found, freed}
 use Rattle.range_store.proofs.btree.nodes.Nodes.remove_node.Goals as goal
 
 pub index_mut-requires : goal.index_mut-requires
-index_mut-requires g c = found c.self.invariant.0 c.args.number
-    (rw (← c.self.view_is) at c.requires.present)
+index_mut-requires g c = grind (arith, found)
 
 pub push_front_reserved-requires : goal.push_front_reserved-requires
 push_front_reserved-requires g c =
-    let fewer = fewer_spares c.self.invariant.0 c.args.number
-    (rw (← c.self.view_is) at c.requires.present) in
-    omega (arith, fewer, c.self.inside.spares.ok.0, c.self.invariant.1)
+    grind (arith, fewer_spares)
 
 pub invariant_of-self : goal.invariant_of-self
 invariant_of-self g c =
     let freed = freed c.self.invariant.0 c.args.number c.index_mut.ensures.value
     (rw (← c.self.view_is) at c.requires.present) (rw (← c.self.view_is) at c.requires.empty)
-    c.new.result c.new.ensures.len c.new.ensures.children in (
-      rw c.push_front_reserved.ensures.items
-          (rw (set-get_or c.self.inside.rows c.args.number []) at freed.whole),
-      omega (arith, c.self.invariant.1, c.push_front_reserved.ensures.capacity, freed.len),
-    )
+    c.new.result c.new.ensures.len c.new.ensures.children in grind (arith, set-get_or, freed)
 
 pub returns : goal.returns
 returns g c =
     let freed = freed c.self.invariant.0 c.args.number c.index_mut.ensures.value
     (rw (← c.self.view_is) at c.requires.present) (rw (← c.self.view_is) at c.requires.empty)
     c.new.result c.new.ensures.len c.new.ensures.children in
-    rw (← c.self.view_is, c.push_front_reserved.ensures.items)
-    (rw (set-get_or c.self.inside.rows c.args.number []) at freed.nodes)
+    grind (arith, set-get_or, freed)

@@ -1,4 +1,4 @@
-use Rattle.std.proofs.Common.{◌≡◌, ◌≤◌, ◌+◌, length, length-drop, take, drop, arith, sym, ◌∙◌}
+use Rattle.std.proofs.Common.{◌≡◌, ◌+◌, length, length-drop, take, drop, arith, sym, ◌∙◌}
 use Rattle.std.specs.List.{insert}
 use Rattle.std.proofs.lemmas.List.{length-take-le}
 use Rattle.std.proofs.lemmas.List.Edits.{length-insert}
@@ -12,13 +12,7 @@ use Rattle.range_store.proofs.btree.nodes.Nodes.split.Goals.{After-divide-upper}
 long : (g : Over) (c : After-divide-upper g)
     → length (insert (row_of c.self.inside.rows c.args.number) c.args.index c.args.item) ≡ 12
 long g c =
-    let row = row_of c.self.inside.rows c.args.number in
-    let items = items_seen c.self.invariant.0 c.args.number
-    (rw (← c.self.view_is) at c.requires.present) in
-    let full = rw items at (rw (← c.self.view_is) at c.requires.full) in
-    let within : c.args.index ≤ length row = rw items at
-    (rw (← c.self.view_is) at c.requires.within) in
-    omega (arith, full, length-insert row c.args.index c.args.item within)
+    grind (arith, items_seen, length-insert)
 
 first_half : (g : Over) (c : After-divide-upper g) → Leaves c.self.inside.slab c.self.inside.rows
     c.self.inside.spares.items c.args.number c.divide-upper.new.self
@@ -38,15 +32,11 @@ next_spare-right-requires g c =
     omega (arith, spares_left c.self.invariant.0 1 (rw (← c.self.view_is) at c.requires.room))
 
 pub index_mut-requires : goal.index_mut-requires
-index_mut-requires g c = found c.self.invariant.0 c.args.number
-    (rw (← c.self.view_is) at c.requires.present)
+index_mut-requires g c = grind (arith, found)
 
 pub divide-upper-requires-clause-child : goal.divide-upper-requires-clause-child
 divide-upper-requires-clause-child g c =
-    let seen = seen c.self.invariant.0 c.args.number (rw (← c.self.view_is) at c.requires.present)
-    c.index_mut.ensures.value in
-    rw (← seen.children) (fits_count c.args.child _ _ 11
-    (sym (rw (← c.self.view_is) at c.requires.full)) (rw (← c.self.view_is) at c.requires.child))
+    grind (arith, seen, fits_count)
 
 pub index_mut-requires-2 : goal.index_mut-requires-2
 index_mut-requires-2 g c =
@@ -60,8 +50,7 @@ divide-middle-requires-clause-apart g c =
 
 pub divide-middle-requires-clause-full : goal.divide-middle-requires-clause-full
 divide-middle-requires-clause-full g c =
-    rw (← items_seen c.self.invariant.0 c.args.number (rw (← c.self.view_is) at c.requires.present))
-    (rw (← c.self.view_is) at c.requires.full)
+    grind (arith, items_seen)
 
 pub divide-middle-requires-clause-empty : goal.divide-middle-requires-clause-empty
 divide-middle-requires-clause-empty g c = bare_row c.self.invariant.0
@@ -75,10 +64,7 @@ invariant_of-self g c =
     let second = filled first.whole c.next_spare-right.result c.index_mut-2.ensures.value
     c.divide-upper.result (drop 7 all)
     (omega (arith, c.divide-upper.ensures.right_len, length-drop 7 all, long g a))
-    c.divide-upper.ensures.right c.next_spare-right.ensures.items in (
-      rw c.divide-middle.ensures.rows second.whole,
-      omega arith,
-    )
+    c.divide-upper.ensures.right c.next_spare-right.ensures.items in grind arith
 
 pub returns : goal.returns
 returns g c =

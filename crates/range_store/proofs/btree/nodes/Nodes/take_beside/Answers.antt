@@ -1,23 +1,18 @@
-use Rattle.std.proofs.Common.{length, get_or, arith, sym, ap, ◌∙◌}
+use Rattle.std.proofs.Common.{arith}
 use Rattle.std.specs.Prelude.{slice_get}
 use Rattle.range_store.proofs.Spares.{found, items_seen, seen, taken_out}
 use Rattle.range_store.proofs.btree.nodes.Nodes.take_beside.Goals as goal
 
 pub index_mut-requires : goal.index_mut-requires
-index_mut-requires g c = found c.self.invariant.0 c.args.number
-    (rw (← c.self.view_is) at c.requires.present)
+index_mut-requires g c = grind (arith, found)
 
 pub take-requires-clause-len : goal.take-requires-clause-len
 take-requires-clause-len g c =
-    (rw (← c.self.view_is) at c.item_count-len.ensures)
-    ∙ ap length (items_seen c.self.invariant.0 c.args.number
-    (rw (← c.self.view_is) at c.requires.present))
+    grind (arith, items_seen)
 
 pub take-child-requires : goal.take-child-requires
 take-child-requires g c =
-    let present = rw (← c.self.view_is) at c.requires.present in
-    let seen = seen c.self.invariant.0 c.args.number present c.index_mut.ensures.value in
-    omega (arith, seen.len, rw (← c.self.view_is) at c.requires.within)
+    grind (arith, seen)
 
 pub invariant_of-self : goal.invariant_of-self
 invariant_of-self g c =
@@ -34,10 +29,4 @@ returns g c =
     let taken = taken_out c.self.invariant.0 c.args.number c.index_mut.ensures.value
     present c.take-child.new.self c.args.index (rw (← c.self.view_is) at c.requires.within)
     c.take-child.ensures.len c.take-child.ensures.children in
-    rw (← c.self.view_is) (record {
-      item = c.take.ensures.item
-          ∙ ap (λ xs. get_or xs c.args.index c.take.result) (sym seen.items);
-      child = c.take-child.ensures.child
-          ∙ ap (λ ks. slice_get ks c.args.place) (sym seen.children);
-      rest = rw (seen.children, c.take.ensures.rest) taken.nodes;
-    })
+    grind (arith, seen, slice_get)

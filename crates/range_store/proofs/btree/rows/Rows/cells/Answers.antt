@@ -1,19 +1,15 @@
-use Rattle.std.proofs.Common.{◌≡◌, ◌≤◌, ◌+◌, ◌-◌, ◌*◌, length, rules, arith, ap}
+use Rattle.std.proofs.Common.{◌≡◌, ◌+◌, ◌-◌, ◌*◌, length, arith, ap}
 use Rattle.range_store.specs.declared.btree.nodes.TheConstants.{CAPACITY}
 use Rattle.range_store.proofs.Rows.{length-rows, room, row_held}
 use Rattle.range_store.proofs.btree.rows.Rows.cells.Goals as goal
 
 pub overflow_mul-start : goal.overflow_mul-start
 overflow_mul-start g c =
-    let less = rw (← c.self.view_is, length-rows) at c.requires.number in
-    let some = rw (← c.self.view_is) at c.requires.some in
-    omega (arith, room c.self.invariant.0 c.args.number less some, c.self.inside.cells.ok)
+    grind (arith, length-rows, room)
 
 pub overflow_add-result : goal.overflow_add-result
 overflow_add-result g c =
-    let less = rw (← c.self.view_is, length-rows) at c.requires.number in
-    let some = rw (← c.self.view_is) at c.requires.some in
-    omega (arith, room c.self.invariant.0 c.args.number less some, c.self.inside.cells.ok)
+    grind (arith, length-rows, room)
 
 pub offset_bounds-cells-start : goal.offset_bounds-cells-start
 offset_bounds-cells-start g c =
@@ -27,9 +23,7 @@ slice_bounds-result-end g c =
     let less = rw (← c.self.view_is, length-rows) at c.requires.number in
     let room = room c.self.invariant.0 c.args.number less (rw (← c.self.view_is) at c.requires.some)
     in
-    let end : CAPACITY * c.args.number + CAPACITY ≤ length c.as_slice-cells.result.now =
-    omega (arith, room, ap length c.as_slice-cells.ensures.value) in
-    search rules
+    grind (arith, room)
 
 pub returns : goal.returns
 returns g c =

@@ -1,4 +1,4 @@
-use Rattle.std.proofs.Common.{arith, refl, sym, ◌∙◌}
+use Rattle.std.proofs.Common.{arith, refl, ◌∙◌}
 use Rattle.std.proofs.lemmas.Option.{same_Some}
 use Rattle.range_store.specs.Rows.{row_of, rows_in}
 use Rattle.range_store.proofs.Cells.{standing}
@@ -7,17 +7,14 @@ use Rattle.range_store.proofs.btree.rows.Rows.item_mut.Goals as goal
 
 pub overflow_mul-number : goal.overflow_mul-number
 overflow_mul-number g c =
-    let less = rw (← c.self.view_is, length-rows) at c.requires.number in
-    let within = rw (← c.self.view_is) at c.requires.within in
-    omega (arith, room c.self.invariant.0 c.args.number less within, c.self.inside.cells.ok)
+    grind (arith, length-rows, room)
 
 pub overflow_add-number : goal.overflow_add-number
 overflow_add-number g c =
     let less = rw (← c.self.view_is, length-rows) at c.requires.number in
     let within = rw (← c.self.view_is) at c.requires.within in
     let held = row_held c.self.invariant.0 c.args.number less within in
-    let room = room c.self.invariant.0 c.args.number less within in
-    omega (arith, room, held.fits, within, c.self.inside.cells.ok)
+    grind (arith, room)
 
 pub index_mut-requires : goal.index_mut-requires
 index_mut-requires g c =
@@ -38,9 +35,7 @@ filled-requires g c =
 
 pub invariant_of-self-lent : goal.invariant_of-self-lent
 invariant_of-self-lent g c w =
-    let less = rw (← c.self.view_is, length-rows) at c.requires.number in
-    let within = rw (← c.self.view_is) at c.requires.within in
-    ((cell_written c.self.invariant.0 less within w).rows, c.self.invariant.1)
+    grind (arith, length-rows, cell_written)
 
 pub returns : goal.returns
 returns g c =
@@ -49,11 +44,8 @@ returns g c =
     let stands = standing (row_of (rows_in c.self.inside.many c.self.inside.cells.items)
     c.args.number) c.args.index within in
     let read = c.index_mut.ensures.value
-    ∙ cell_in c.self.invariant.0 c.args.number less within stands _ in (
-      (refl, λ w. rw (← c.self.view_is) (cell_written c.self.invariant.0 less within w).is),
-      record {
-        writes_back = tt;
-        value = rw (← c.self.view_is) (same_Some c.filled.result.now stands.item
-            (sym c.filled.ensures.value ∙ read) ∙ sym (stands.item_is c.filled.result.now));
-      },
+    ∙ cell_in c.self.invariant.0 c.args.number less within stands _ in grind (
+      arith,
+      cell_written,
+      same_Some,
     )

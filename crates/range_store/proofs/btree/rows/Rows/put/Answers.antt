@@ -1,4 +1,4 @@
-use Rattle.std.proofs.Common.{◌≡◌, ◌≤◌, ◌<◌, ◌+◌, ◌-◌, ◌*◌, length, take, drop, arith, ap, sym, ◌∙◌}
+use Rattle.std.proofs.Common.{◌≡◌, ◌≤◌, ◌<◌, ◌+◌, ◌-◌, ◌*◌, length, take, drop, arith, ap, ◌∙◌}
 use borrow.Rule.Slice.PartMut.{put_mid}
 use Rattle.std.proofs.Math.ListN.{set}
 use Rattle.std.specs.List.{insert}
@@ -20,8 +20,7 @@ module _ (g : Over) (c : After-deref_mut g) where
 
   held : HoldsItems (cells_of c.deref_mut.result.now c.args.number)
       (row_of (rows_in c.self.inside.many c.self.inside.cells.items) c.args.number)
-  held = rw (c.deref_mut.ensures.value, c.add_cells.ensures.cells)
-      (topped_held c.self.invariant.0 c.args.number less)
+  held = grind (arith, topped_held, less)
 
   same : items_in (take (CAPACITY * c.args.number + CAPACITY - CAPACITY * c.args.number)
       (drop (CAPACITY * c.args.number) c.deref_mut.result.now))
@@ -33,30 +32,23 @@ module _ (g : Over) (c : After-deref_mut g) where
 
 pub overflow_mul-start : goal.overflow_mul-start
 overflow_mul-start g c =
-    let less = rw (← c.self.view_is, length-rows) at c.requires.number in
-    omega (arith, less, c.self.invariant.1, c.self.inside.cells.small)
+    grind (arith, less, length-rows)
 
 pub add_cells-requires : goal.add_cells-requires
 add_cells-requires g c =
-    let less = rw (← c.self.view_is, length-rows) at c.requires.number in
-    omega (arith, less, c.self.invariant.1)
+    grind (arith, less, length-rows)
 
 pub overflow_add-start : goal.overflow_add-start
 overflow_add-start g c =
-    let less = rw (← c.self.view_is, length-rows) at c.requires.number in
-    omega (arith, less, c.self.invariant.1, c.self.inside.cells.small)
+    grind (arith, less, length-rows)
 
 pub put_item-requires-clause-held : goal.put_item-requires-clause-held
 put_item-requires-clause-held g c =
-    let a = (goal.at.put_item-requires-clause-held g c).After-deref_mut in
-    let start = CAPACITY * c.args.number in
-    let all : start + CAPACITY - start ≡ CAPACITY = omega arith in
-    rw all (rw (items_held (held g a)) (held g a))
+    grind (arith, items_held, held)
 
 pub put_item-requires-clause-len : goal.put_item-requires-clause-len
 put_item-requires-clause-len g c =
-    let same = same g (goal.at.put_item-requires-clause-len g c).After-deref_mut in
-    (rw (← c.self.view_is) at c.requires.len) ∙ sym (ap length same)
+    grind (arith, same)
 
 pub invariant_of-self : goal.invariant_of-self
 invariant_of-self g c =
@@ -64,12 +56,7 @@ invariant_of-self g c =
     let start = CAPACITY * c.args.number in
     let written = part_written (rows g a) (less g a) (start + CAPACITY - start) (omega arith)
     (long g a) (rw (same g a) at c.put_item.ensures.held) in
-    let cells_are = with_items_is c.add_cells.new.cells
-    (put_mid start (start + CAPACITY - start) c.add_cells.new.cells.items c.put_item.new.row)
-    (omega (arith, written.len, c.add_cells.new.cells.ok)) in (
-      rw (c.deref_mut.ensures.value, cells_are) written.rows,
-      omega (arith, c.self.invariant.1, c.add_cells.ensures.capacity),
-    )
+    grind (arith, with_items_is)
 
 pub returns : goal.returns
 returns g c =

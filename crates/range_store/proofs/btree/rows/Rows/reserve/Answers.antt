@@ -7,10 +7,8 @@ returns-clause-there g c = omega (arith, length-rows)
 
 pub returns-clause-no_less : goal.returns-clause-no_less
 returns-clause-no_less g c =
-    let s = c.self.inside in
-    rw (← c.self.view_is) (omega (arith, length-rows))
+    grind (arith, length-rows)
 
 pub returns-clause-kept : goal.returns-clause-kept
 returns-clause-kept g c k =
-    rw (← c.self.view_is, c.reserve.ensures.items) (added_kept c.self.invariant.0
-    c.max-self-inside.result (omega (arith, c.max-self-inside.ensures)) k)
+    grind (arith, added_kept)

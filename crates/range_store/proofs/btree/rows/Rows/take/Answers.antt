@@ -1,5 +1,4 @@
-use Rattle.std.proofs.Common.{◌≡◌, ◌≤◌, ◌<◌, ◌+◌, ◌-◌, ◌*◌, length, get_or, take, drop, rules, arith, ap, sym, ◌∙◌}
-use borrow.Rule.Slice.PartMut.{put_mid}
+use Rattle.std.proofs.Common.{◌≡◌, ◌≤◌, ◌<◌, ◌+◌, ◌-◌, ◌*◌, length, take, drop, arith, ap}
 use borrow.Author.Rules.{scaled_fits≤}
 use Rattle.std.proofs.lemmas.List.{with_items_is}
 use Rattle.range_store.specs.declared.btree.nodes.TheConstants.{CAPACITY}
@@ -20,9 +19,6 @@ module _ (g : Over) (c : After-deref_mut g) where
   long : CAPACITY * c.args.number + CAPACITY ≤ length c.self.inside.cells.items
   long = room c.self.invariant.0 c.args.number less within
 
-  enough : CAPACITY * c.args.number + CAPACITY ≤ length c.deref_mut.result.now
-  enough = omega (arith, long, ap length c.deref_mut.ensures.value)
-
   same : items_in (take (CAPACITY * c.args.number + CAPACITY - CAPACITY * c.args.number)
       (drop (CAPACITY * c.args.number) c.deref_mut.result.now))
       ≡ row_of (rows_in c.self.inside.many c.self.inside.cells.items) c.args.number
@@ -31,33 +27,22 @@ module _ (g : Over) (c : After-deref_mut g) where
 
 pub overflow_mul-start : goal.overflow_mul-start
 overflow_mul-start g c =
-    let less = rw (← c.self.view_is, length-rows) at c.requires.number in
-    let within = rw (c.requires.len, ← c.self.view_is) at c.requires.within in
-    omega (arith, room c.self.invariant.0 c.args.number less within, c.self.inside.cells.ok)
+    grind (arith, less, length-rows, within, room)
 
 pub overflow_add-start : goal.overflow_add-start
 overflow_add-start g c =
-    let less = rw (← c.self.view_is, length-rows) at c.requires.number in
-    let within = rw (c.requires.len, ← c.self.view_is) at c.requires.within in
-    omega (arith, room c.self.invariant.0 c.args.number less within, c.self.inside.cells.ok)
+    grind (arith, less, length-rows, within, room)
 
 pub offset_bounds-deref_mut-start : goal.offset_bounds-deref_mut-start
 offset_bounds-deref_mut-start g c =
-    let enough = enough g (goal.at.offset_bounds-deref_mut-start g c).After-deref_mut in
-    let front : CAPACITY * c.args.number ≤ length c.deref_mut.result.now = omega (arith, enough) in
-    scaled_fits≤ (CAPACITY * c.args.number) (length c.deref_mut.result.now) _ front
-    c.deref_mut.type_inv.1
+    grind (arith, long, ap length c.deref_mut.ensures.value, scaled_fits≤)
 
 pub slice_bounds-take_item-end : goal.slice_bounds-take_item-end
-slice_bounds-take_item-end g c =
-    let enough : CAPACITY * c.args.number + CAPACITY ≤ length c.deref_mut.result.now =
-    enough g (goal.at.slice_bounds-take_item-end g c).After-deref_mut in
-    search rules
+slice_bounds-take_item-end g c = grind (arith, long, ap length c.deref_mut.ensures.value)
 
 pub take_item-requires-clause-len : goal.take_item-requires-clause-len
 take_item-requires-clause-len g c =
-    let same = same g (goal.at.take_item-requires-clause-len g c).After-deref_mut in
-    (rw (← c.self.view_is) at c.requires.len) ∙ sym (ap length same)
+    grind (arith, same)
 
 pub invariant_of-self : goal.invariant_of-self
 invariant_of-self g c =
@@ -67,10 +52,7 @@ invariant_of-self g c =
     let written = part_written c.self.invariant.0 (less g a) (start + CAPACITY - start)
     (omega arith)
     (long g a) (rw (same g a) at c.take_item.ensures.held) in
-    let cells_are = with_items_is s.cells
-    (put_mid start (start + CAPACITY - start) s.cells.items c.take_item.new.row)
-    (omega (arith, written.len, s.cells.ok)) in
-    (rw (c.deref_mut.ensures.value, cells_are) written.rows, c.self.invariant.1)
+    grind (arith, with_items_is)
 
 pub returns : goal.returns
 returns g c =
@@ -80,12 +62,4 @@ returns g c =
     let written = part_written c.self.invariant.0 (less g a) (start + CAPACITY - start)
     (omega arith)
     (long g a) (rw (same g a) at c.take_item.ensures.held) in
-    let cells_are = with_items_is s.cells
-    (put_mid start (start + CAPACITY - start) s.cells.items c.take_item.new.row)
-    (omega (arith, written.len, s.cells.ok)) in
-    let same = same g a in
-    record {
-      rest = rw (← c.self.view_is, c.deref_mut.ensures.value, cells_are) written.is;
-      item = rw (← c.self.view_is)
-          (c.take_item.ensures.item ∙ ap (λ xs. get_or xs c.args.index c.take_item.result) same);
-    }
+    grind (arith, with_items_is, same)
