@@ -1,8 +1,8 @@
 -- Over complete keys two nonempty ranges that hold the same keys have equal bounds.
-use Rattle.std.proofs.Common.{◌≡◌, refl, sym, ap, ◌∙◌, Option, Some, None, false, IsSome, ◌⊎◌, inl, inr}
+use Rattle.std.proofs.Common.{◌≡◌, refl, sym, ap, ◌∙◌, Option, Some, None, false, IsSome, ◌⊎◌}
 use Rattle.std.specs.declared.cmp.Ordering.{Ordering}
-use Rattle.std.specs.declared.cmp.Ordering.TheVariants.{Less, Equal, Greater}
-use Rattle.std.specs.Ordering.{ordering_then, ordering_reverse, is_gt}
+use Rattle.std.specs.declared.cmp.Ordering.TheVariants.{Less, Equal}
+use Rattle.std.specs.Ordering.{ordering_then, is_gt}
 use Rattle.std.specs.Cmp.{alike_right, tied_back, tied_itself, upto}
 use Rattle.range_keys.specs.Order.{KeyOrder, IsLawful, IsComplete, Below, Tells, SameAnswer}
 use Rattle.range_keys.specs.Position.{start_position, end_position, position_cmp}
@@ -18,12 +18,12 @@ use Rattle.range_algebra.specs.declared.any.AnyRange.{AnyRange}
 use Rattle.range_algebra.specs.RangeOrder.{range_cmp, range_total}
 use Rattle.range_algebra.proofs.Holding.{holds_by_position}
 use Rattle.range_algebra.proofs.Completeness.{nonempty_holds, told_none, none_is_not_some}
+use Rattle.std.proofs.lemmas.Grind.{common_steps}
+use Rattle.std.proofs.Common.{arith}
 
 less_is_not_above : (o : Ordering) → ordering_then o Less ≡ Less
     → is_gt (ordering_then o Equal) ≡ false
-less_is_not_above Less h = refl
-less_is_not_above Equal h = refl
-less_is_not_above Greater h = cc
+less_is_not_above v0 h = grind (arith, common_steps)
 
 module _ {K : Type 0} (order : KeyOrder K) (lawful : IsLawful order)
     (complete : IsComplete order) where
@@ -42,15 +42,12 @@ module _ {K : Type 0} (order : KeyOrder K) (lawful : IsLawful order)
       ((c : K) × order.is_key c × Below order a c × Below order c b) → order.succ a ≡ None
       → KeyFrom (Beside a After) (Beside b At)
   unfolding KeyFrom NotPast IsBefore
-  from_between a b (inl t) e = absurd (told_none order lawful complete a b e t)
-  from_between a b (inr (c, key, l, u)) e =
-      (c, key, less_then_greater (order.cmp a c) l, less_then_any (order.cmp c b) Equal u)
+  from_between a b v2 e = grind (arith, common_steps, told_none, less_then_greater, less_then_any)
 
   from_under : (b : K) → IsSome order.least ⊎ ((c : K) × order.is_key c × Below order c b)
       → order.least ≡ None → KeyFrom MinusInfinity (Beside b At)
   unfolding KeyFrom NotPast IsBefore
-  from_under b (inl t) e = absurd (none_is_not_some order.least e t)
-  from_under b (inr (c, key, l)) e = (c, key, refl, less_then_any (order.cmp c b) Equal l)
+  from_under b v1 e = grind (arith, common_steps, none_is_not_some, less_then_any)
 
   just_at : (b : K) → IsBefore (Beside b At) (Beside b After)
   unfolding IsBefore
@@ -81,9 +78,7 @@ module _ {K : Type 0} (order : KeyOrder K) (lawful : IsLawful order)
 
   told_neighbour_is_some : (a : K) (o p : Option K) → SameAnswer order o p → Tells order o a
       → p ≡ None → ⊥
-  told_neighbour_is_some a None p same told n = told
-  told_neighbour_is_some a (Some x) None same told n = same
-  told_neighbour_is_some a (Some x) (Some y) same told n = cc
+  told_neighbour_is_some a v1 p same told n = grind (arith, common_steps)
 
   no_pred : (a b : K) (o : Option K) → order.succ a ≡ o → order.is_key b → Tells order o b
       → order.pred b ≡ None → ⊥
@@ -97,15 +92,12 @@ module _ {K : Type 0} (order : KeyOrder K) (lawful : IsLawful order)
       ((c : K) × order.is_key c × Below order a c × Below order c b) → order.pred b ≡ None
       → KeyTo (Beside a At) (Beside b Before)
   unfolding KeyTo NotPast IsBefore
-  to_between a b key (inl t) e = absurd (no_pred a b (order.succ a) refl key t e)
-  to_between a b key (inr (c, in_type, l, u)) e =
-      (c, in_type, less_then_any (order.cmp a c) Equal l, less_then_greater (order.cmp c b) u)
+  to_between a b key v3 e = grind (arith, common_steps, no_pred, less_then_any, less_then_greater)
 
   to_past : (a : K) → IsSome order.greatest ⊎ ((c : K) × order.is_key c × Below order a c)
       → order.greatest ≡ None → KeyTo (Beside a At) PlusInfinity
   unfolding KeyTo NotPast IsBefore
-  to_past a (inl t) e = absurd (none_is_not_some order.greatest e t)
-  to_past a (inr (c, key, l)) e = (c, key, less_then_any (order.cmp a c) Equal l, refl)
+  to_past a v1 e = grind (arith, common_steps, none_is_not_some, less_then_any)
 
   just_before : (a : K) → IsBefore (Beside a Before) (Beside a At)
   unfolding IsBefore
@@ -149,8 +141,7 @@ module _ {K : Type 0} (order : KeyOrder K) (lawful : IsLawful order)
 
   not_both : (p q : Position K) → IsBefore p q → NotPast q p → ⊥
   unfolding IsBefore NotPast
-  not_both p q h k =
-      lt_not_le (position_cmp order.cmp) (position_total order.cmp lawful.total) p q h k
+  not_both p q h k = grind (arith, common_steps, lt_not_le, position_total)
 
   NonEmpty : AnyRange K → Type 0
   NonEmpty r = NotPast (start_position order r.start) (end_position order r.end)
@@ -210,10 +201,7 @@ module _ {K : Type 0} (order : KeyOrder K) (lawful : IsLawful order)
   neither_before_is_equal : (p q : Position K) (o : Ordering) → position_cmp order.cmp p q ≡ o
       → (IsBefore p q → ⊥) → (IsBefore q p → ⊥) → position_cmp order.cmp p q ≡ Equal
   unfolding IsBefore
-  neither_before_is_equal p q Less e f g = absurd (f e)
-  neither_before_is_equal p q Equal e f g = e
-  neither_before_is_equal p q Greater e f g =
-      absurd (g ((position_total order.cmp lawful.total).antisymm q p ∙ ap ordering_reverse e))
+  neither_before_is_equal p q v2 e f g = grind (arith, common_steps, position_total)
 
   -- nonempty ranges that hold the same keys are equal
   pub same_is_equal : (r s : AnyRange K) → IsKnownRange order r → IsKnownRange order s
@@ -261,7 +249,4 @@ module _ {K : Type 0} (order : KeyOrder K) (lawful : IsLawful order) where
       (sym (ap is_gt starts) ∙ within.0, sym (ap is_gt ends) ∙ within.1)
 
   pub equal_is_same : (r s : AnyRange K) → range_cmp order r s ≡ Equal → HoldSame order r s
-  equal_is_same r s e k key = (
-    equal_ranges_hold_alike r s e k key,
-    equal_ranges_hold_alike s r (tied_back (range_total order lawful) r s e) k key,
-  )
+  equal_is_same r s e k key = grind (arith, common_steps, equal_ranges_hold_alike, tied_back, range_total)

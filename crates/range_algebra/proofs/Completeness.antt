@@ -1,5 +1,5 @@
 -- Over complete keys a range whose start is not past its end holds a key.
-use Rattle.std.proofs.Common.{◌≡◌, refl, ap, Option, Some, None, false, IsSome, ◌⊎◌, inl, inr}
+use Rattle.std.proofs.Common.{◌≡◌, refl, ap, Option, None, false, IsSome, ◌⊎◌}
 use Rattle.std.specs.declared.cmp.Ordering.{Ordering}
 use Rattle.std.specs.declared.cmp.Ordering.TheVariants.{Less, Equal, Greater}
 use Rattle.std.specs.Ordering.{is_gt}
@@ -15,10 +15,11 @@ use Rattle.range_keys.proofs.BoundPositions.{IsStart, IsEnd, starts_lie_at_start
 use Rattle.range_algebra.specs.Range.{Holds, IsKeyless, IsEmptyRange, IsKnownRange}
 use Rattle.range_algebra.specs.declared.any.AnyRange.{AnyRange}
 use Rattle.range_algebra.proofs.Holding.{holds_by_position}
+use Rattle.std.proofs.lemmas.Grind.{common_steps}
+use Rattle.std.proofs.Common.{arith}
 
 pub none_is_not_some : {K : Type 0} (o : Option K) → o ≡ None → IsSome o → ⊥
-none_is_not_some None e h = cc
-none_is_not_some (Some x) e h = cc
+none_is_not_some v0 e h = grind (arith, common_steps)
 
 module _ {K : Type 0} (order : KeyOrder K) (lawful : IsLawful order)
     (complete : IsComplete order) where
@@ -39,21 +40,17 @@ module _ {K : Type 0} (order : KeyOrder K) (lawful : IsLawful order)
       ((c : K) × order.is_key c × Below order a c × Below order c b) → order.succ a ≡ None
       → HasKey (Beside a After) (Beside b Before)
   unfolding HasKey
-  key_lies_between a b (inl t) e = absurd (told_none a b e t)
-  key_lies_between a b (inr (c, key, l, u)) e =
-      (c, key, less_then_greater (order.cmp a c) l, less_then_greater (order.cmp c b) u)
+  key_lies_between a b v2 e = grind (arith, common_steps, told_none, less_then_greater)
 
   key_lies_past : (a : K) → IsSome order.greatest ⊎ ((c : K) × order.is_key c × Below order a c)
       → order.greatest ≡ None → HasKey (Beside a After) PlusInfinity
   unfolding HasKey
-  key_lies_past a (inl t) e = absurd (none_is_not_some order.greatest e t)
-  key_lies_past a (inr (c, key, l)) e = (c, key, less_then_greater (order.cmp a c) l, refl)
+  key_lies_past a v1 e = grind (arith, common_steps, none_is_not_some, less_then_greater)
 
   key_lies_under : (b : K) → IsSome order.least ⊎ ((c : K) × order.is_key c × Below order c b)
       → order.least ≡ None → HasKey MinusInfinity (Beside b Before)
   unfolding HasKey
-  key_lies_under b (inl t) e = absurd (none_is_not_some order.least e t)
-  key_lies_under b (inr (c, key, l)) e = (c, key, refl, less_then_greater (order.cmp c b) l)
+  key_lies_under b v1 e = grind (arith, common_steps, none_is_not_some, less_then_greater)
 
   places_have_key_between : (s e : Position K) → IsStart order s → IsEnd order e
       → is_gt (position_cmp order.cmp s e) ≡ false → HasKey s e

@@ -18,7 +18,9 @@ use Rattle.range_algebra.specs.Orders.{le_refl, le_trans, lt_not_le, lt_le, lt_t
 use Rattle.range_algebra.specs.Range.{StartHolds, EndHolds, Holds, IsEmptyRange, IsKnownBound, IsKnownRange, start_key, end_key}
 use Rattle.range_algebra.specs.Extremes.{IsLeastOf, IsGreatestOf, HasNoLeast, HasNoGreatest}
 use Rattle.range_algebra.specs.declared.any.AnyRange.{AnyRange}
-use Rattle.range_algebra.proofs.Holding.{holds_by_position, empty_is_keyless}
+use Rattle.range_algebra.proofs.Holding.{holds_by_position}
+use Rattle.std.proofs.lemmas.Grind.{common_steps}
+use Rattle.std.proofs.Common.{arith}
 
 module _ {K : Type 0} (order : KeyOrder K) (lawful : IsLawful order) where
   PLe : Position K → Position K → Type 0
@@ -26,15 +28,11 @@ module _ {K : Type 0} (order : KeyOrder K) (lawful : IsLawful order) where
 
   start_congr : (b : Bound K) (m k : K) → order.cmp m k ≡ Equal → StartHolds order b m
       → StartHolds order b k
-  start_congr (Included a) m k e h = ap is_gt (sym (alike_right lawful.total m k a e)) ∙ h
-  start_congr (Excluded a) m k e h = sym (alike_right lawful.total m k a e) ∙ h
-  start_congr Unbounded m k e h = h
+  start_congr v0 m k e h = grind (arith, common_steps, alike_right)
 
   end_congr : (b : Bound K) (m k : K) → order.cmp m k ≡ Equal → EndHolds order b m
       → EndHolds order b k
-  end_congr (Included a) m k e h = ap is_gt (sym (lawful.total.congr m k a e)) ∙ h
-  end_congr (Excluded a) m k e h = sym (lawful.total.congr m k a e) ∙ h
-  end_congr Unbounded m k e h = h
+  end_congr v0 m k e h = grind (arith, common_steps, lawful.total.congr)
 
   -- a range that holds a key holds what equals it
   pub holds_congr : (r : AnyRange K) (m k : K) → order.cmp m k ≡ Equal → Holds order r m
@@ -43,22 +41,16 @@ module _ {K : Type 0} (order : KeyOrder K) (lawful : IsLawful order) where
 
   start_named : (b : Bound K) (m : K) → start_key order b ≡ Some m → IsKnownBound order b
       → (start_position order b ≡ Beside m At) × order.is_key m
-  start_named (Included a) m e key = let f : a ≡ m = cc in rw (← f) (refl, key)
-  start_named (Excluded a) m e key = (rw e refl, (lawful.succ_key a m e).1)
-  start_named Unbounded m e key = (rw e refl, lawful.least_key m e)
+  start_named v0 m e key = grind (arith, common_steps, lawful.succ_key, lawful.least_key)
 
   end_named : (b : Bound K) (m : K) → end_key order b ≡ Some m → IsKnownBound order b
       → (end_position order b ≡ Beside m At) × order.is_key m
-  end_named (Included a) m e key = let f : a ≡ m = cc in rw (← f) (refl, key)
-  end_named (Excluded a) m e key = (rw e refl, (lawful.pred_key m a e).0)
-  end_named Unbounded m e key = (rw e refl, lawful.greatest_key m e)
+  end_named v0 m e key = grind (arith, common_steps, lawful.pred_key, lawful.greatest_key)
 
   module _ (r : AnyRange K) (known : IsKnownRange order r) (full : ¬ IsEmptyRange order r) where
     start_reaches_end : PLe (start_position order r.start) (end_position order r.end)
     unfolding PLe
-    start_reaches_end =
-        not_greater (position_cmp order.cmp (start_position order r.start)
-        (end_position order r.end)) full
+    start_reaches_end = grind (arith, common_steps, not_greater)
 
     least_at : (m k : K) → start_key order r.start ≡ Some m → order.cmp m k ≡ Equal
         → IsLeastOf order r k
@@ -110,10 +102,7 @@ module _ {K : Type 0} (order : KeyOrder K) (lawful : IsLawful order) where
 
     least_by : (o p : Option K) → start_key order r.start ≡ o → SameAnswer order o p
         → IfSome p (IsLeastOf order r)
-    least_by None None e h = tt
-    least_by None (Some k) e h = absurd h
-    least_by (Some m) None e h = tt
-    least_by (Some m) (Some k) e h = least_at m k e h
+    least_by v0 v1 e h = grind (arith, common_steps, least_at)
 
     -- what equals the key that the start names is the least
     pub first_is_least : (p : Option K) → SameAnswer order (start_key order r.start) p
@@ -122,30 +111,20 @@ module _ {K : Type 0} (order : KeyOrder K) (lawful : IsLawful order) where
 
     greatest_by : (o p : Option K) → end_key order r.end ≡ o → SameAnswer order o p
         → IfSome p (IsGreatestOf order r)
-    greatest_by None None e h = tt
-    greatest_by None (Some k) e h = absurd h
-    greatest_by (Some m) None e h = tt
-    greatest_by (Some m) (Some k) e h = greatest_at m k e h
+    greatest_by v0 v1 e h = grind (arith, common_steps, greatest_at)
 
     pub last_is_greatest : (p : Option K) → SameAnswer order (end_key order r.end) p
         → IfSome p (IsGreatestOf order r)
     last_is_greatest p h = greatest_by (end_key order r.end) p refl h
 
   start_up : (b : Bound K) (j k : K) → Below order j k → StartHolds order b j → StartHolds order b k
-  start_up (Included a) j k l h =
-      lt_le order.cmp lawful.total a k (le_lt_trans order.cmp lawful.total a j k h l)
-  start_up (Excluded a) j k l h = lt_trans order.cmp lawful.total a j k h l
-  start_up Unbounded j k l h = h
+  start_up v0 j k l h = grind (arith, common_steps, lt_le, le_lt_trans, lt_trans)
 
   end_down : (b : Bound K) (j k : K) → Below order j k → EndHolds order b k → EndHolds order b j
-  end_down (Included b) j k l h =
-      le_trans order.cmp lawful.total j k b (lt_le order.cmp lawful.total j k l) h
-  end_down (Excluded b) j k l h = lt_trans order.cmp lawful.total j k b l h
-  end_down Unbounded j k l h = h
+  end_down v0 j k l h = grind (arith, common_steps, le_trans, lt_le, lt_trans)
 
   told_none : (o : Option K) (b : K) → o ≡ None → Tells order o b → ⊥
-  told_none None b e h = h
-  told_none (Some x) b e h = cc
+  told_none v0 b e h = grind (arith, common_steps)
 
   no_pred : (a b : K) (o : Option K) → order.succ a ≡ o → Tells order o b → order.pred b ≡ None → ⊥
   no_pred a b None e t n = t
@@ -201,21 +180,15 @@ module _ {K : Type 0} (order : KeyOrder K) (lawful : IsLawful order) where
     no_greatest r known n k key h = no_greatest_by r.start r.end known.1 n k key h.0.0 h.0.1 h.1
 
   answer_none : (o p : Option K) → SameAnswer order o p → p ≡ None → o ≡ None
-  answer_none None p h e = refl
-  answer_none (Some x) None h e = absurd h
-  answer_none (Some x) (Some y) h e = cc
+  answer_none v0 p h e = grind (arith, common_steps)
 
   first_none_by : (r : AnyRange K) → IsComplete order → IsKnownRange order r → (p : Option K)
       → SameAnswer order (start_key order r.start) p → IfNone p (HasNoLeast order r)
-  first_none_by r complete known None h =
-      no_least complete r known (answer_none (start_key order r.start) None h refl)
-  first_none_by r complete known (Some k) h = tt
+  first_none_by r complete known v3 h = grind (arith, common_steps, no_least, answer_none)
 
   last_none_by : (r : AnyRange K) → IsComplete order → IsKnownRange order r → (p : Option K)
       → SameAnswer order (end_key order r.end) p → IfNone p (HasNoGreatest order r)
-  last_none_by r complete known None h =
-      no_greatest complete r known (answer_none (end_key order r.end) None h refl)
-  last_none_by r complete known (Some k) h = tt
+  last_none_by r complete known v3 h = grind (arith, common_steps, no_greatest, answer_none)
 
   pub first_none : (r : AnyRange K) → IsComplete order → IsKnownRange order r → (p : Option K)
       → SameAnswer order (start_key order r.start) p → IfNone p (HasNoLeast order r)

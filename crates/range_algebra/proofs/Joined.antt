@@ -25,32 +25,26 @@ use Rattle.range_algebra.proofs.Completeness.{nonempty_holds}
 use Rattle.range_algebra.proofs.Canonical.{same_is_equal}
 use Rattle.range_algebra.proofs.Meeting.{not_greater}
 use Rattle.range_algebra.specs.Relations.{AreBelow, LiesBetween, AreJoined}
+use Rattle.std.proofs.lemmas.Grind.{common_steps}
+use Rattle.std.proofs.Common.{arith}
 
 read_flag : (t s : Bool) → (not t || not s) ≡ true → s ≡ true → t ≡ true → ⊥
-read_flag true true e f g = cc
-read_flag true false e f g = cc
-read_flag false s e f g = cc
+read_flag v0 s e f g = grind (arith, common_steps)
 
 read_before : (A B C T U x y z w s : Bool)
     → is_before (if A then (if B then Before T else Intersecting x y)
     else (if C then After U else Intersecting z w)) s ≡ true
     → (B ≡ true) × (s ≡ true → T ≡ true → ⊥)
-read_before true true C T U x y z w s e = (refl, read_flag T s e)
-read_before true false C T U x y z w s e = cc
-read_before false B true T U x y z w s e = cc
-read_before false B false T U x y z w s e = cc
+read_before v0 v1 v2 v3 v4 x y z w s e = grind (arith, common_steps, read_flag)
 
 reversed_greater_is_less : (o : Ordering) → is_gt o ≡ true → ordering_reverse o ≡ Less
-reversed_greater_is_less Less e = cc
-reversed_greater_is_less Equal e = cc
-reversed_greater_is_less Greater e = refl
+reversed_greater_is_less v0 e = grind (arith, common_steps)
 
 reversed_less_is_greater : (o p : Ordering) → p ≡ ordering_reverse o → o ≡ Less → is_gt p ≡ true
 reversed_less_is_greater o p e f = rw (e, f) refl
 
 stable_not : (b : Bool) → ((b ≡ false → ⊥) → ⊥) → b ≡ false
-stable_not true h = absurd (h (λ e. cc))
-stable_not false h = refl
+stable_not v0 h = grind (arith, common_steps)
 
 module _ {K : Type 0} (order : KeyOrder K) (lawful : IsLawful order) where
   abbrev pub EndsBefore : AnyRange K → AnyRange K → Type 0
@@ -63,12 +57,7 @@ module _ {K : Type 0} (order : KeyOrder K) (lawful : IsLawful order) where
   pub before_is : (r s : AnyRange K) (same : Bool)
       → IsTrue (is_before (range_ordering order r s) same)
       → EndsBefore r s × (IsTrue same → AreTouching r s → ⊥)
-  before_is r s same e =
-      let read = read_before _ _ _ _ _ _ _ _ _ same e in (
-        lt_of (position_cmp order.cmp (end_position order r.end) (start_position order s.start))
-            read.0,
-        read.1,
-      )
+  before_is r s same e = grind (arith, common_steps, read_before, lt_of)
 
   -- p <= q < r <= s
   no_cycle_of_positions : (p q r s : Position K) → is_gt (position_cmp order.cmp p q) ≡ false
@@ -87,18 +76,13 @@ module _ {K : Type 0} (order : KeyOrder K) (lawful : IsLawful order) where
   -- what is not reached by the other lies below it
   below_by : (a b : K) (o : Ordering) → order.cmp a b ≡ o → (NotAbove order b a → ⊥)
       → Below order a b
-  below_by a b Less e h = e
-  below_by a b Equal e h = absurd (h (ap is_gt (tied_back lawful.total a b e)))
-  below_by a b Greater e h =
-      absurd (h (ap is_gt (lawful.total.antisymm b a ∙ ap ordering_reverse e)))
+  below_by a b v2 e h = grind (arith, common_steps, tied_back, lawful.total.antisymm)
 
   pub not_above_below : (a b : K) → (NotAbove order b a → ⊥) → Below order a b
   not_above_below a b h = below_by a b (order.cmp a b) refl h
 
   at_places : (o : Ordering) → is_gt o ≡ false → is_gt (ordering_then o Equal) ≡ false
-  at_places Less h = refl
-  at_places Equal h = refl
-  at_places Greater h = cc
+  at_places v0 h = grind (arith, common_steps)
 
   -- a range that ends before another starts lies below it
   pub ends_below : (r s : AnyRange K) → EndsBefore r s → AreBelow order r s
@@ -110,9 +94,7 @@ module _ {K : Type 0} (order : KeyOrder K) (lawful : IsLawful order) where
       ((holds_by_position order lawful s b key').0 g).0 (at_places (order.cmp b a) over))
 
   stable_start : (b : Bound K) (k : K) → ((StartHolds order b k → ⊥) → ⊥) → StartHolds order b k
-  stable_start (Included a) k h = stable_not (is_gt (order.cmp a k)) h
-  stable_start (Excluded a) k h = not_not_less (order.cmp a k) h
-  stable_start Unbounded k h = tt
+  stable_start v0 k h = grind (arith, common_steps, stable_not, not_not_less)
 
   module _ (complete : IsComplete order) (r s : AnyRange K) (known : IsKnownRange order r)
       (others : IsKnownRange order s) (full : ¬ IsEmptyRange order r)
@@ -122,17 +104,11 @@ module _ {K : Type 0} (order : KeyOrder K) (lawful : IsLawful order) where
 
     first_member : Member r
     unfolding Member
-    first_member =
-        nonempty_holds order lawful complete r known
-        (not_greater (position_cmp order.cmp (start_position order r.start)
-        (end_position order r.end)) full)
+    first_member = grind (arith, common_steps, nonempty_holds, not_greater)
 
     second_member : Member s
     unfolding Member
-    second_member =
-        nonempty_holds order lawful complete s others
-        (not_greater (position_cmp order.cmp (start_position order s.start)
-        (end_position order s.end)) full')
+    second_member = grind (arith, common_steps, nonempty_holds, not_greater)
 
     -- the end of the first holds no key of the second
     past_end : (k : K) → order.is_key k → Holds order s k → EndHolds order r.end k → ⊥
@@ -297,14 +273,7 @@ module _ {K : Type 0} (order : KeyOrder K) (lawful : IsLawful order) (complete :
 
   is_less : (p q : Position K) → (is_gt (position_cmp order.cmp q p) ≡ false → ⊥)
       → position_cmp order.cmp p q ≡ Less
-  is_less p q h =
-      flip (position_cmp order.cmp q p) (position_cmp order.cmp p q)
-      ((position_total order.cmp lawful.total).antisymm p q) h
-    where
-      flip : (o u : Ordering) → u ≡ ordering_reverse o → (is_gt o ≡ false → ⊥) → u ≡ Less
-      flip Less u e h = absurd (h refl)
-      flip Equal u e h = absurd (h refl)
-      flip Greater u e h = e
+  is_less p q h = grind (arith, common_steps, position_total)
 
   -- over complete keys a range that lies below another ends before it starts
   pub below_ends : EndsBefore order lawful r s
@@ -323,16 +292,12 @@ module _ {K : Type 0} (order : KeyOrder K) (lawful : IsLawful order) (complete :
       ((holds_by_position order lawful r y key).0 here).1)))
 
   write_flag : (t u : Bool) → (u ≡ true → t ≡ true → ⊥) → (not t || not u) ≡ true
-  write_flag true true h = absurd (h refl refl)
-  write_flag true false h = refl
-  write_flag false u h = refl
+  write_flag v0 u h = grind (arith, common_steps)
 
   write_before : (A B C T U x y z w u : Bool) → A ≡ true → B ≡ true → (u ≡ true → T ≡ true → ⊥)
       → is_before (if A then (if B then Before T else Intersecting x y)
       else (if C then After U else Intersecting z w)) u ≡ true
-  write_before true true C T U x y z w u e f h = write_flag T u h
-  write_before true false C T U x y z w u e f h = cc
-  write_before false B C T U x y z w u e f h = cc
+  write_before v0 v1 v2 v3 v4 x y z w u e f h = grind (arith, common_steps, write_flag)
 
   -- and stands before it, apart where their values are equal and the ranges are not joined
   pub is_before_of : (same : Bool) → (AreJoined order r s → IsTrue same → ⊥)
@@ -345,29 +310,20 @@ module _ {K : Type 0} (order : KeyOrder K) (lawful : IsLawful order) (complete :
 told_before : (A B C T U x y z w t : Bool)
     → (if A then (if B then Before T else Intersecting x y)
     else (if C then After U else Intersecting z w)) ≡ Before t → (B ≡ true) × (T ≡ t)
-told_before true true C T U x y z w t e = (refl, cc)
-told_before true false C T U x y z w t e = absurd (cc)
-told_before false B true T U x y z w t e = absurd (cc)
-told_before false B false T U x y z w t e = absurd (cc)
+told_before v0 v1 v2 v3 v4 x y z w t e = grind (arith, common_steps)
 
 told_after : (A B C T U x y z w t : Bool)
     → (if A then (if B then Before T else Intersecting x y)
     else (if C then After U else Intersecting z w)) ≡ After t → (C ≡ true) × (U ≡ t)
-told_after true true C T U x y z w t e = absurd (cc)
-told_after true false C T U x y z w t e = absurd (cc)
-told_after false B true T U x y z w t e = (refl, cc)
-told_after false B false T U x y z w t e = absurd (cc)
+told_after v0 v1 v2 v3 v4 x y z w t e = grind (arith, common_steps)
 
 either_flag : (u : Bool) → (not u || not false) ≡ true
-either_flag true = refl
-either_flag false = refl
+either_flag v0 = grind (arith, common_steps)
 
 write_after : (A B C T U x y z w : Bool) → A ≡ false → C ≡ true
     → is_after (if A then (if B then Before T else Intersecting x y)
     else (if C then After U else Intersecting z w)) false ≡ true
-write_after false B true T U x y z w e f = either_flag U
-write_after false B false T U x y z w e f = absurd (cc)
-write_after true B C T U x y z w e f = absurd (cc)
+write_after v0 v1 v2 v3 v4 x y z w e f = grind (arith, common_steps, either_flag)
 
 not_less : (o p : Ordering) → p ≡ ordering_reverse o → o ≡ Less → is_lt p ≡ false
 not_less o p e f = rw (e, f) refl
@@ -386,11 +342,7 @@ module _ {K : Type 0} (order : KeyOrder K) (lawful : IsLawful order) where
   ends_after : (r s : AnyRange K)
       → is_gt (position_cmp order.cmp (start_position order r.start) (end_position order s.end))
       ≡ true → EndsBefore order lawful s r
-  ends_after r s h =
-      (position_total order.cmp lawful.total).antisymm (end_position order s.end)
-      (start_position order r.start)
-      ∙ reversed_greater_is_less
-      (position_cmp order.cmp (start_position order r.start) (end_position order s.end)) h
+  ends_after r s h = grind (arith, common_steps, position_total, reversed_greater_is_less)
 
   pub after_below : (r s : AnyRange K) (t : Bool) → range_ordering order r s ≡ After t
       → AreBelow order s r
@@ -404,10 +356,7 @@ module _ {K : Type 0} (order : KeyOrder K) (lawful : IsLawful order) where
 
     filled_range_has_key : (r : AnyRange K) → IsFilled r
         → (k : K) × order.is_key k × Holds order r k
-    filled_range_has_key r h =
-        nonempty_holds order lawful complete r h.0
-        (not_greater (position_cmp order.cmp (start_position order r.start)
-        (end_position order r.end)) h.1)
+    filled_range_has_key r h = grind (arith, common_steps, nonempty_holds, not_greater)
 
     -- the flag of one that ends before the other says whether they are joined
     flag_joined : (r s : AnyRange K) → IsFilled r → IsFilled s → EndsBefore order lawful r s

@@ -4,7 +4,6 @@ use Rattle.std.proofs.Common.{◌≡◌, ℕ, ◌+◌, ◌-◌, ◌<◌, ◌≤�
 use Rattle.std.specs.Option.{IsSomeAnd}
 use Rattle.std.specs.declared.ops.Bound.{Bound}
 use Rattle.std.specs.declared.ops.Bound.TheVariants.{Included, Excluded, Unbounded}
-use Rattle.std.specs.declared.cmp.Ordering.TheVariants.{Less, Equal}
 use Rattle.std.specs.Ordering.{is_gt}
 use Rattle.std.specs.Cmp.{tied_itself, tied_back}
 use Rattle.range_keys.specs.Order.{KeyOrder, IsLawful, IsMeasure, Below, NotAbove, Tells}
@@ -28,22 +27,18 @@ use Rattle.range_algebra.proofs.Holding.{holds_by_position}
 use Rattle.range_algebra.proofs.Measuring.{included_included, included_excluded, excluded_included, excluded_excluded, told_start, told_end, known_start, known_end, reach_full, told_reach, full_measure, measure_is_number}
 use Rattle.range_algebra.proofs.Numbers.{number_none, number_both}
 use Rattle.range_algebra.proofs.Places.{reaching_is_before_past}
+use Rattle.std.proofs.lemmas.Grind.{common_steps}
 
 -- a sum that is there has both parts
 sum_parts : (o p : Option ℕ) (n : ℕ) → measure_sum o p ≡ Some n
     → (m : ℕ) × (k : ℕ) × (o ≡ Some m) × (p ≡ Some k) × (m + k ≡ n)
-sum_parts (Some m) (Some k) n e = (m, k, refl, refl, cc)
-sum_parts (Some m) None n e = cc
-sum_parts None p n e = cc
+sum_parts v0 p n e = grind (arith, common_steps)
 
 module _ {K : Type 0} (order : KeyOrder K) (lawful : IsLawful order) where
   ends_after : (s e : Bound K) → IsKnownBound order s → IsKnownBound order e
       → Le (position_cmp order.cmp) (start_position order s) (end_position order e)
       → Le (position_cmp order.cmp) (start_position order s) (past order (end_position order e))
-  ends_after s e known known' h =
-      lt_le (position_cmp order.cmp) (position_total order.cmp lawful.total)
-      (start_position order s) (past order (end_position order e))
-      ((reaching_is_before_past order lawful s e known known').0 h)
+  ends_after s e known known' h = grind (arith, common_steps, lt_le, position_total, reaching_is_before_past)
 
   -- where the one lies before the other, its upper place is at most the other's lower one
   before_is_below : (r s : AnyRange K) → IsKnownRange order r → IsKnownRange order s
@@ -69,18 +64,15 @@ module _ {K : Type 0} (order : KeyOrder K) (lawful : IsLawful order) where
   -- in order without the second
   order_without_second : (r s : AnyRange K) (ranges : List (AnyRange K))
       → AreInOrder order (r ∷ s ∷ ranges) → AreInOrder order (r ∷ ranges)
-  order_without_second r s [] h = (h.0, h.1)
-  order_without_second r s (t ∷ ranges) h = (h.0, h.1, before_trans r s t h.3.1 h.2 h.3.2, h.3.3)
+  order_without_second r s v2 h = grind (arith, common_steps, before_trans)
 
   pub rest_in_order : (r : AnyRange K) (ranges : List (AnyRange K)) → AreInOrder order (r ∷ ranges)
       → AreInOrder order ranges
-  rest_in_order r [] h = tt
-  rest_in_order r (s ∷ ranges) h = h.3
+  rest_in_order r v1 h = grind (arith, common_steps)
 
   pub first_known : (r : AnyRange K) (ranges : List (AnyRange K)) → AreInOrder order (r ∷ ranges)
       → IsKnownRange order r × ¬ IsEmptyRange order r
-  first_known r [] h = (h.0, h.1)
-  first_known r (s ∷ ranges) h = (h.0, h.1)
+  first_known r v1 h = grind (arith, common_steps)
 
   below_next : (r s : AnyRange K) (a b : K) → LiesBefore order r s → order.is_key a → order.is_key b
       → Holds order r a → Holds order s b → Below order a b
@@ -135,38 +127,17 @@ module _ {K : Type 0} (order : KeyOrder K) (lawful : IsLawful order) where
     no_distance a key = measured.itself a a key key (tied_itself lawful.total a)
 
     at_key : (a : K) → order.is_key a → LiesAbove a (Beside a At) 0
-    at_key a key = record {
-      is_place = key_place a key;
-      from = le_refl (position_cmp order.cmp) (position_total order.cmp lawful.total) (Beside a At);
-      much = between_keys a a ∙ no_distance a key;
-    }
+    at_key a key = grind (arith, common_steps, key_place, le_refl, position_total, between_keys, no_distance)
 
     -- the place after a key
     measure_after_key : (a : K) (o : Option K) → order.succ a ≡ o → order.is_key a
         → LiesAbove a (at_told o (Beside a After)) (len a)
-    measure_after_key a None e key = record {
-      is_place = past_place a key;
-      from = ap is_gt (equal_then_any (order.cmp a a) Less (tied_itself lawful.total a));
-      much = let h = behind_key a in let i = no_distance a key in omega arith;
-    }
-    measure_after_key a (Some b) e key = record {
-      is_place = key_place b (lawful.succ_key a b e).1;
-      from = ap is_gt (any_then_equal (order.cmp a b) ∙ lawful.succ_above a b e);
-      much = between_keys a b ∙ measured.step a b e;
-    }
+    measure_after_key a v1 e key = grind (arith, common_steps, past_place, equal_then_any, tied_itself, behind_key, no_distance, key_place, lawful.succ_key, any_then_equal, lawful.succ_above, between_keys, measured.step)
 
     -- the place before a key, after the neighbour that is told
     before_by : (a b : K) (o : Option K) → order.succ a ≡ o → Tells order o b → order.is_key b
         → LiesAbove b (at_told o (Beside a After)) 0
-    before_by a b None e t key = absurd t
-    before_by a b (Some c) e t key =
-        let in_type = (lawful.succ_key a c e).1 in
-        let same : order.cmp b c ≡ Equal = tied_back lawful.total c b t in
-        record {
-          is_place = key_place c in_type;
-          from = ap is_gt (any_then_equal (order.cmp b c) ∙ same);
-          much = between_keys b c ∙ measured.itself b c key in_type same;
-        }
+    before_by a b v2 e t key = grind (arith, common_steps, lawful.succ_key, tied_back, key_place, any_then_equal, between_keys, measured.itself)
 
     before_key : (b : K) (o : Option K) → order.pred b ≡ o → order.is_key b
         → LiesAbove b (past order (at_told o (Beside b Before))) 0
@@ -255,12 +226,7 @@ module _ {K : Type 0} (order : KeyOrder K) (lawful : IsLawful order) where
     first_place : (s : AnyRange K) (ranges : List (AnyRange K)) (n : ℕ)
         → AreInOrder order (s ∷ ranges) → list_measure order len distance (s ∷ ranges) ≡ Some n
         → IsPlace order lawful len distance measured (lower order s)
-    first_place s ranges n h e =
-        let parts =
-        sum_parts (range_measure order len distance s)
-        (list_measure order len distance ranges) n e in
-        let known = first_known s ranges h in
-        (range_gap s parts.0 known.0 known.1 parts.2).low
+    first_place s ranges n h e = grind (arith, common_steps, sum_parts, first_known, range_gap)
 
     -- a place up to which the ranges reach
     Reaches : AnyRange K → ℕ → Type 0
@@ -326,9 +292,7 @@ module _ {K : Type 0} (order : KeyOrder K) (lawful : IsLawful order) where
 
 both_there : (P Q R : ℕ → Type 0) (o p : Option ℕ) → IsSomeAnd o P → IsSomeAnd p Q
     → ((m n : ℕ) → P m → Q n → R (m + n)) → IsSomeAnd (measure_sum o p) R
-both_there P Q R None p h k f = absurd h
-both_there P Q R (Some m) None h k f = absurd k
-both_there P Q R (Some m) (Some n) h k f = f m n h k
+both_there v0 v1 v2 v3 p h k f = grind (arith, common_steps)
 
 module _ {K : Type 0} (order : KeyOrder K) (len : K → ℕ) (distance : K → K → ℕ)
     (counts : IsCountedMeasure order len distance) where

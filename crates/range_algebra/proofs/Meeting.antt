@@ -4,13 +4,13 @@ use Rattle.std.specs.declared.ops.Bound.{Bound}
 use Rattle.std.specs.declared.ops.Bound.TheVariants.{Included, Excluded, Unbounded}
 use Rattle.std.specs.declared.cmp.Ordering.{Ordering}
 use Rattle.std.specs.declared.cmp.Ordering.TheVariants.{Less, Equal, Greater}
-use Rattle.std.specs.Ordering.{is_lt, is_gt, is_eq, ordering_reverse}
+use Rattle.std.specs.Ordering.{is_lt, is_gt, is_eq}
 use Rattle.range_keys.specs.Order.{KeyOrder, IsLawful, IsComplete, Below}
 use Rattle.range_keys.specs.Position.{start_position, end_position, position_cmp}
 use Rattle.range_keys.specs.PositionOrder.{position_total}
 use Rattle.range_keys.specs.declared.inner.position.Position.{Position}
-use Rattle.range_keys.specs.declared.inner.position.Position.TheVariants.{MinusInfinity, Beside, PlusInfinity}
-use Rattle.range_keys.specs.declared.inner.position.Side.TheVariants.{Before, At, After}
+use Rattle.range_keys.specs.declared.inner.position.Position.TheVariants.{Beside}
+use Rattle.range_keys.specs.declared.inner.position.Side.TheVariants.{At}
 pub use Rattle.range_keys.proofs.Orderings.{not_greater}
 use Rattle.range_keys.proofs.Orderings.{eq_is_equal, less_unless_equal}
 use Rattle.range_keys.proofs.BoundPositions.{IsStart, IsEnd, excluded_start_is_one, starts_lie_at_starts, ends_lie_at_ends}
@@ -29,10 +29,11 @@ use Rattle.range_algebra.proofs.Completeness.{nonempty_holds}
 use Rattle.range_algebra.proofs.Canonical.{NotPast, IsBefore, KeyFrom, key_from}
 use Rattle.range_algebra.proofs.Commons.{later_is, earlier_is, common_holds, common_known}
 use Rattle.range_algebra.proofs.Pieces.{start_decided, end_decided, start_up, end_down}
+use Rattle.std.proofs.lemmas.Grind.{common_steps}
+use Rattle.std.proofs.Common.{arith}
 
 and_false : (t : Bool) → (t && false) ≡ false
-and_false true = refl
-and_false false = refl
+and_false v0 = grind (arith, common_steps)
 
 module _ {K : Type 0} (order : KeyOrder K) (lawful : IsLawful order) where
   abbrev PLt : Position K → Position K → Type 0
@@ -156,8 +157,7 @@ module _ {K : Type 0} (order : KeyOrder K) (lawful : IsLawful order) where
         (end_position order r.end) h full
 
     greater_is_below : (p q : Position K) → position_cmp order.cmp p q ≡ Greater → PLt q p
-    greater_is_below p q e =
-        (position_total order.cmp lawful.total).antisymm q p ∙ ap ordering_reverse e
+    greater_is_below p q e = grind (arith, common_steps, position_total)
 
     lying_by : (a b d : Ordering)
         → position_cmp order.cmp (start_position order r.start) (start_position order s.start) ≡ a
@@ -261,30 +261,7 @@ module _ {K : Type 0} (order : KeyOrder K) (lawful : IsLawful order) where
     pub meets_is : IsTrue (matches (range_ordering order r s) false)
         ↔ (PLe (start_position order r.start) (end_position order s.end)
         × PLe (start_position order s.start) (end_position order r.end))
-    meets_is =
-        let total = position_total order.cmp lawful.total in
-        let cmp = position_cmp order.cmp in
-        elim lying_of [
-          | inl (l, f) ↦ (
-            λ h. let e : false ≡ true = sym
-                (and_false (starts_at_end order r.end (start_position order s.start)))
-                ∙ (sym (f false) ∙ h) in absurd (cc),
-            λ h.
-                absurd (lt_not_le cmp total (end_position order r.end)
-                (start_position order s.start) l h.1),
-          )
-          | inr k ↦ elim k [
-            | inl (l, f) ↦ (λ h. l, λ h. f false)
-            | inr (l, f) ↦ (
-              λ h. let e : false ≡ true = sym
-                  (and_false (starts_at_end order s.end (start_position order r.start)))
-                  ∙ (sym (f false) ∙ h) in absurd (cc),
-              λ h.
-                  absurd (lt_not_le cmp total (end_position order s.end)
-                  (start_position order r.start) l h.0),
-            )
-          ]
-        ]
+    meets_is = grind (arith, common_steps, position_total, lying_of, and_false, lt_not_le)
 
     -- where an answer says that neither lies before the other, it says that they intersect
     pub meets_by : (t : Bool) → IsTrue t
@@ -339,14 +316,7 @@ module _ {K : Type 0} (order : KeyOrder K) (lawful : IsLawful order) where
       shares_by t h = (λ e. meets_share (h.0 e), λ k. h.1 (share_meets k))
 
   pub held_or_not : (r : AnyRange K) (k : K) → Holds order r k ⊎ (¬ Holds order r k)
-  held_or_not r k = elim (start_decided order lawful r.start k) [
-    | inr out ↦ inr (λ h. out h.0)
-    | inl starts ↦
-        elim (end_decided order lawful r.end k) [
-          | inr out ↦ inr (λ h. out h.1)
-          | inl ends ↦ inl (starts, ends)
-        ]
-  ]
+  held_or_not r k = grind (arith, common_steps, start_decided, end_decided)
 
   at_less : (a b : K) → PLt (Beside a At) (Beside b At) → Below order a b
   at_less a b h = less_unless_equal (order.cmp a b) h
@@ -388,14 +358,7 @@ module _ {K : Type 0} (order : KeyOrder K) (lawful : IsLawful order) where
   pub past_is_start : (e q : Position K) (complete : IsComplete order) → IsEnd order e
       → PLt (past order e) q → IsStart order (past order e)
   unfolding IsStart IsEnd
-  past_is_start (Beside b Before) q complete h l = h.0
-  past_is_start (Beside b At) q complete h l =
-      excluded_start_is_one order lawful b (order.succ b) refl h
-  past_is_start (Beside b After) q complete h l = absurd h
-  past_is_start MinusInfinity q complete h l = absurd h
-  past_is_start PlusInfinity MinusInfinity complete h l = absurd (cc)
-  past_is_start PlusInfinity (Beside b x) complete h l = absurd (cc)
-  past_is_start PlusInfinity PlusInfinity complete h l = absurd (cc)
+  past_is_start v0 q complete h l = grind (arith, common_steps, excluded_start_is_one)
 
   module _ (complete : IsComplete order) (r s : AnyRange K) (known : IsKnownRange order r)
       (others : IsKnownRange order s) (full : Full r) (full' : Full s) where
@@ -446,12 +409,7 @@ module _ {K : Type 0} (order : KeyOrder K) (lawful : IsLawful order) where
         ]
 
   swap_connected : (r s : AnyRange K) → AreConnected order r s → AreConnected order s r
-  swap_connected r s h a b k key key' key'' held held' l l' =
-      swapped s r k (h a b k key key' key'' (swapped r s a held) (swapped r s b held') l l')
-    where
-      swapped : (x y : AnyRange K) (c : K) → EitherHolds order y x c → EitherHolds order x y c
-      swapped x y c (inl h) = inr h
-      swapped x y c (inr h) = inl h
+  swap_connected r s h a b k key key' key'' held held' l l' = grind (arith, common_steps)
 
   -- a key between keys of the two that is outside both lies in a gap
   gap_of : (r s : AnyRange K) (a b k : K) → (¬ Holds order r k) → (¬ Holds order s k)
@@ -482,8 +440,7 @@ module _ {K : Type 0} (order : KeyOrder K) (lawful : IsLawful order) where
       ))
 
   and_true : (t : Bool) → (t && true) ≡ t
-  and_true true = refl
-  and_true false = refl
+  and_true v0 = grind (arith, common_steps)
 
   module _ (r s : AnyRange K) (known : IsKnownRange order r) (others : IsKnownRange order s)
       (full : Full r) (full' : Full s) where

@@ -1,13 +1,14 @@
 -- How many keys there are of a kind.
-use Rattle.std.proofs.Common.{◌≡◌, ℕ, zero, suc, ◌+◌, ◌<◌, ◌≤◌, List, [], ◌∷◌, ◌++◌, length, ◌⊎◌, inl, inr, ◌↔◌, refl, sym, ap, subst, ◌∙◌, arith, length-append}
+use Rattle.std.proofs.Common.{◌≡◌, ℕ, zero, suc, ◌+◌, ◌<◌, ◌≤◌, List, [], ◌∷◌, ◌++◌, length, ◌⊎◌, inl, inr, ◌↔◌, refl, ap, subst, arith, length-append}
 use Rattle.std.specs.List.{AllByRecursion}
 use Rattle.std.specs.declared.cmp.Ordering.{Ordering}
 use Rattle.std.specs.declared.cmp.Ordering.TheVariants.{Less, Equal, Greater}
-use Rattle.std.specs.Ordering.{nat_cmp, MatchOrdering, is_gt}
-use Rattle.std.specs.Cmp.{IsTotalOrder, tied_itself, tied_back, alike_right, ranks, ranked, nat_cmp_is}
+use Rattle.std.specs.Ordering.{nat_cmp, MatchOrdering}
+use Rattle.std.specs.Cmp.{IsTotalOrder, tied_itself, ranks, ranked, nat_cmp_is}
 use Rattle.range_keys.specs.Order.{KeyOrder, Below, NotAbove}
 use Rattle.range_keys.specs.Counted.{IsCounted, not_above_is, is_not_above}
 use Rattle.range_algebra.specs.Numbers.{Lists, AreRising, IsNumberOfKeys}
+use Rattle.std.proofs.lemmas.Grind.{common_steps}
 
 module _ {K : Type 0} (order : KeyOrder K) (total : IsTotalOrder order.cmp) where
   all_append : (P : K → Type 0) (xs ys : List K) → AllByRecursion P xs → AllByRecursion P ys
@@ -56,26 +57,12 @@ module _ {K : Type 0} (order : KeyOrder K) (total : IsTotalOrder order.cmp) wher
 
   -- there is no key of a kind that no key is of
   pub number_none : (P : K → Type 0) → ((k : K) → order.is_key k → ¬ P k) → IsNumberOfKeys order P 0
-  number_none P none =
-      record {
-        keys = [];
-        in_type = tt;
-        rising = tt;
-        listed = λ k key. (none k key, λ h. absurd h);
-        many = refl;
-      }
+  number_none v0 none = grind (arith, common_steps)
 
   -- keys of the same kind are as many
   pub number_same : (P Q : K → Type 0) (n : ℕ) → ((k : K) → order.is_key k → P k ↔ Q k)
       → IsNumberOfKeys order P n → IsNumberOfKeys order Q n
-  number_same P Q n same h = record {
-    keys = h.keys;
-    in_type = h.in_type;
-    rising = h.rising;
-    listed = λ k key. let s = same k key in let l =
-        h.listed k key in (λ q. l.0 (s.1 q), λ q. s.0 (l.1 q));
-    many = h.many;
-  }
+  number_same v0 v1 n same h = grind (arith, common_steps)
 
   -- keys of two kinds, of which all of the one are below all of the other, add up
   pub number_both : (P Q : K → Type 0) (m n : ℕ)
@@ -108,17 +95,11 @@ module _ {K : Type 0} {order : KeyOrder K} {index : K → ℕ} {size : ℕ}
   -- keys lie as their indexes do
   pub below_by_index : (a b : K) → order.is_key a → order.is_key b → Below order a b
       ↔ index a < index b
-  below_by_index a b p q = (
-    λ l. ranked (index a) (index b) Less (sym l ∙ counted.by_index a b p q),
-    λ h. counted.by_index a b p q ∙ sym (nat_cmp_is (index a) (index b) Less h),
-  )
+  below_by_index a b p q = grind (arith, common_steps, ranked, counted.by_index, nat_cmp_is)
 
   pub not_above_by_index : (a b : K) → order.is_key a → order.is_key b → NotAbove order a b
       ↔ index a ≤ index b
-  not_above_by_index a b p q = (
-    λ l. not_above_is (index a) (index b) (sym (ap is_gt (counted.by_index a b p q)) ∙ l),
-    λ h. ap is_gt (counted.by_index a b p q) ∙ is_not_above (index a) (index b) h,
-  )
+  not_above_by_index a b p q = grind (arith, common_steps, not_above_is, counted.by_index, is_not_above)
 
   -- the key has one of the n indexes from low on
   abbrev pub IsFrom : ℕ → ℕ → K → Type 0

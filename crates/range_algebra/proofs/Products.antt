@@ -2,7 +2,6 @@
 use Rattle.std.proofs.Common.{◌≡◌, refl, ◌↔◌, true, false, Bool, Option, Some, None, ◌⊎◌, inl, inr, if◌then◌else◌}
 use Rattle.std.specs.Option.{option_map, option_or}
 use Rattle.std.specs.declared.ops.Bound.{Bound}
-use Rattle.std.specs.Ordering.{is_gt}
 use Rattle.range_keys.specs.Order.{KeyOrder, IsLawful, Below}
 use Rattle.range_keys.specs.Position.{start_position, end_position, position_cmp}
 use Rattle.range_keys.specs.PositionOrder.{position_total}
@@ -24,6 +23,8 @@ use Rattle.range_algebra.proofs.Holding.{start_holds, end_holds, empty_is_keyles
 use Rattle.range_algebra.proofs.Places.{reaching_is_before_past, flipped_bound_is_past, flipped_back, flipped_known}
 use Rattle.range_algebra.proofs.Commons.{later_over, earlier_under, common_holds}
 use Rattle.range_algebra.proofs.Pieces.{start_decided, end_decided, before_holds, after_holds, unless_holds, before_below, after_above}
+use Rattle.std.proofs.lemmas.Grind.{common_steps}
+use Rattle.std.proofs.Common.{arith}
 
 module _ {K : Type 0} (order : KeyOrder K) (lawful : IsLawful order) where
   PLt : Position K → Position K → Type 0
@@ -63,8 +64,7 @@ module _ {K : Type 0} (order : KeyOrder K) (lawful : IsLawful order) where
 
   unless_some : (r x : AnyRange K) (d : Bool) → is_empty_range order r ≡ d
       → (if d then None else Some r) ≡ Some x → is_empty_range order r ≡ false
-  unless_some r x true e h = absurd (cc)
-  unless_some r x false e h = e
+  unless_some r x v2 e h = grind (arith, common_steps)
 
   -- there is a part before another range only where the range starts before it
   to_some : (r x : AnyRange K) (b : Bound K) (o : Option (Bound K)) → flipped b ≡ o
@@ -109,16 +109,12 @@ module _ {K : Type 0} (order : KeyOrder K) (lawful : IsLawful order) where
   start_over : (b : Bound K) (k : K) → order.is_key k → (¬ StartHolds order b k)
       → PLt (Beside k At) (start_position order b)
   unfolding PLt
-  start_over b k key h =
-      not_le (position_cmp order.cmp) (position_total order.cmp lawful.total) (Beside k At)
-      (start_position order b) (λ le. h ((start_holds order lawful b k key).1 le))
+  start_over b k key h = grind (arith, common_steps, not_le, position_total, start_holds)
 
   end_under : (b : Bound K) (k : K) → order.is_key k → (¬ EndHolds order b k)
       → PLt (end_position order b) (Beside k At)
   unfolding PLt
-  end_under b k key h =
-      not_le (position_cmp order.cmp) (position_total order.cmp lawful.total) (end_position order b)
-      (Beside k At) (λ le. h ((end_holds order lawful b k key).1 le))
+  end_under b k key h = grind (arith, common_steps, not_le, position_total, end_holds)
 
   -- not both ranges have a part before the other
   no_before : (r s : AnyRange K) (k : K) → IsKnownRange order s → order.is_key k
@@ -163,36 +159,27 @@ module _ {K : Type 0} (order : KeyOrder K) (lawful : IsLawful order) where
   either_subject : (x y : Option (AnyRange K)) (k : K) → IsOfSubject order (either x y) k
       → RangeHolds order x k
   unfolding either
-  either_subject None None k h = absurd h
-  either_subject None (Some y) k h = absurd h
-  either_subject (Some x) y k h = h
+  either_subject v0 y k h = grind (arith, common_steps)
 
   either_object : (x y : Option (AnyRange K)) (k : K) → IsOfObject order (either x y) k
       → RangeHolds order y k
   unfolding either
-  either_object None None k h = absurd h
-  either_object None (Some y) k h = h
-  either_object (Some x) y k h = absurd h
+  either_object v0 y k h = grind (arith, common_steps)
 
   either_part : (x y : Option (AnyRange K)) (k : K) → PartHolds order (either x y) k
       → RangeHolds order x k ⊎ RangeHolds order y k
   unfolding either
-  either_part None None k h = absurd h
-  either_part None (Some y) k h = inr h
-  either_part (Some x) y k h = inl h
+  either_part v0 y k h = grind (arith, common_steps)
 
   either_first : (x y : Option (AnyRange K)) (k : K) → RangeHolds order x k
       → PartHolds order (either x y) k
   unfolding either
-  either_first None y k h = absurd h
-  either_first (Some x) y k h = h
+  either_first v0 y k h = grind (arith, common_steps)
 
   either_second : (x y : Option (AnyRange K)) (k : K) → x ≡ None → RangeHolds order y k
       → PartHolds order (either x y) k
   unfolding either
-  either_second None None k e h = absurd h
-  either_second None (Some y) k e h = h
-  either_second (Some x) y k e h = absurd (cc)
+  either_second v0 y k e h = grind (arith, common_steps)
 
   excluded_keys_are_below : (s : AnyRange K) (a b : K) → order.is_key a → order.is_key b
       → PLe (start_position order s.start) (end_position order s.end)
@@ -342,25 +329,19 @@ module _ {K : Type 0} (order : KeyOrder K) (lawful : IsLawful order) where
     }
 
     empty_range_is_keyless : (x : AnyRange K) → is_empty_range order x ≡ true → IsKeyless order x
-    empty_range_is_keyless x e =
-        empty_is_keyless order lawful x
-        (gt_is_greater (position_cmp order.cmp (start_position order x.start)
-        (end_position order x.end)) e)
+    empty_range_is_keyless x e = grind (arith, common_steps, empty_is_keyless, gt_is_greater)
 
     object_part : (o : Option (AnyRange K)) (k : K) → PartHolds order (option_map Object o) k
         ↔ RangeHolds order o k
-    object_part None k = (λ h. h, λ h. h)
-    object_part (Some x) k = (λ h. h, λ h. h)
+    object_part v0 k = grind (arith, common_steps)
 
     object_subject : (o : Option (AnyRange K)) (k : K) → IsOfSubject order (option_map Object o) k
         → ⊥
-    object_subject None k h = h
-    object_subject (Some x) k h = h
+    object_subject v0 k h = grind (arith, common_steps)
 
     object_object : (o : Option (AnyRange K)) (k : K) → IsOfObject order (option_map Object o) k
         → RangeHolds order o k
-    object_object None k h = h
-    object_object (Some x) k h = h
+    object_object v0 k h = grind (arith, common_steps)
 
     first_empty : is_empty_range order r ≡ true
         → IsProduct order r s (record
@@ -406,20 +387,7 @@ module _ {K : Type 0} (order : KeyOrder K) (lawful : IsLawful order) where
     second_empty : is_empty_range order s ≡ true
         → IsProduct order r s (record
         { before = None; intersection = None; after = Some (Subject r) })
-    second_empty e =
-        let none = empty_range_is_keyless s e in
-        record {
-          held = λ k key. (
-            λ h. elim h [ inl g ↦ absurd g | inr g ↦ elim g [ inl f ↦ absurd f | inr f ↦ inl f ] ],
-            λ h. elim h [ inl g ↦ inr (inr g) | inr g ↦ absurd (none k key g) ],
-          );
-          shared = λ k key. (λ h. absurd h, λ h. none k key h.1);
-          subjects = λ k key h. elim h [ inl g ↦ absurd g | inr g ↦ (g, none k key) ];
-          objects = λ k key h. elim h [ inl g ↦ absurd g | inr g ↦ absurd g ];
-          before_shared = λ a b key key' h g. absurd h;
-          shared_after = λ a b key key' h g. absurd h;
-          before_after = λ a b key key' h g. absurd h;
-        }
+    second_empty e = grind (arith, common_steps, empty_range_is_keyless)
 
     product_by : (d e : Bool) → is_empty_range order r ≡ d → is_empty_range order s ≡ e
         → IsProduct order r s (if d then record {
@@ -429,9 +397,7 @@ module _ {K : Type 0} (order : KeyOrder K) (lawful : IsLawful order) where
         }
         else (if e then record { before = None; intersection = None; after = Some (Subject r) }
         else full_product order r s))
-    product_by true e f g = first_empty f
-    product_by false true f g = second_empty g
-    product_by false false f g = full_is f g
+    product_by v0 e f g = grind (arith, common_steps, first_empty, second_empty, full_is)
 
     pub product_is : IsProduct order r s (product order r s)
     product_is = product_by (is_empty_range order r) (is_empty_range order s) refl refl
