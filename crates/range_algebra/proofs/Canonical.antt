@@ -3,27 +3,25 @@ use Rattle.std.proofs.Common.{◌≡◌, refl, sym, ap, ◌∙◌, Option, Some,
 use Rattle.std.specs.declared.cmp.Ordering.{Ordering}
 use Rattle.std.specs.declared.cmp.Ordering.TheVariants.{Less, Equal}
 use Rattle.std.specs.Ordering.{ordering_then, is_gt}
-use Rattle.std.specs.Cmp.{alike_right, tied_back, tied_itself, upto}
+use Rattle.std.specs.Cmp.{alike_right, tied_itself, upto}
 use Rattle.range_keys.specs.Order.{KeyOrder, IsLawful, IsComplete, Below, Tells, SameAnswer}
 use Rattle.range_keys.specs.Position.{start_position, end_position, position_cmp}
 use Rattle.range_keys.specs.PositionOrder.{position_total}
 use Rattle.range_keys.specs.declared.inner.position.Position.{Position}
 use Rattle.range_keys.specs.declared.inner.position.Position.TheVariants.{MinusInfinity, Beside, PlusInfinity}
 use Rattle.range_keys.specs.declared.inner.position.Side.TheVariants.{Before, At, After}
-use Rattle.range_keys.proofs.Orderings.{both_equal, equal_then_any, less_then_any, less_unless_equal, not_greater, less_unless_greater, less_then_greater}
+use Rattle.range_keys.proofs.Orderings.{both_equal, equal_then_any, less_unless_equal, not_greater, less_unless_greater, less_then_greater}
 use Rattle.range_keys.proofs.BoundPositions.{IsStart, IsEnd, starts_lie_at_starts, ends_lie_at_ends}
-use Rattle.range_algebra.specs.Orders.{lt_not_le}
 use Rattle.range_algebra.specs.Range.{Holds, HoldSame, IsEmptyRange, IsKnownRange}
 use Rattle.range_algebra.specs.declared.any.AnyRange.{AnyRange}
 use Rattle.range_algebra.specs.RangeOrder.{range_cmp, range_total}
 use Rattle.range_algebra.proofs.Holding.{holds_by_position}
-use Rattle.range_algebra.proofs.Completeness.{nonempty_holds, told_none, none_is_not_some}
-use Rattle.std.proofs.lemmas.Grind.{common_steps}
+use Rattle.range_algebra.proofs.Completeness.{nonempty_holds}
 use Rattle.std.proofs.Common.{arith}
 
 less_is_not_above : (o : Ordering) → ordering_then o Less ≡ Less
     → is_gt (ordering_then o Equal) ≡ false
-less_is_not_above v0 h = grind (arith, common_steps)
+less_is_not_above v0 h = grind arith
 
 module _ {K : Type 0} (order : KeyOrder K) (lawful : IsLawful order)
     (complete : IsComplete order) where
@@ -42,12 +40,12 @@ module _ {K : Type 0} (order : KeyOrder K) (lawful : IsLawful order)
       ((c : K) × order.is_key c × Below order a c × Below order c b) → order.succ a ≡ None
       → KeyFrom (Beside a After) (Beside b At)
   unfolding KeyFrom NotPast IsBefore
-  from_between a b v2 e = grind (arith, common_steps, told_none, less_then_greater, less_then_any)
+  from_between a b v2 e = grind arith
 
   from_under : (b : K) → IsSome order.least ⊎ ((c : K) × order.is_key c × Below order c b)
       → order.least ≡ None → KeyFrom MinusInfinity (Beside b At)
   unfolding KeyFrom NotPast IsBefore
-  from_under b v1 e = grind (arith, common_steps, none_is_not_some, less_then_any)
+  from_under b v1 e = grind arith
 
   just_at : (b : K) → IsBefore (Beside b At) (Beside b After)
   unfolding IsBefore
@@ -78,7 +76,7 @@ module _ {K : Type 0} (order : KeyOrder K) (lawful : IsLawful order)
 
   told_neighbour_is_some : (a : K) (o p : Option K) → SameAnswer order o p → Tells order o a
       → p ≡ None → ⊥
-  told_neighbour_is_some a v1 p same told n = grind (arith, common_steps)
+  told_neighbour_is_some a v1 p same told n = grind arith
 
   no_pred : (a b : K) (o : Option K) → order.succ a ≡ o → order.is_key b → Tells order o b
       → order.pred b ≡ None → ⊥
@@ -92,12 +90,12 @@ module _ {K : Type 0} (order : KeyOrder K) (lawful : IsLawful order)
       ((c : K) × order.is_key c × Below order a c × Below order c b) → order.pred b ≡ None
       → KeyTo (Beside a At) (Beside b Before)
   unfolding KeyTo NotPast IsBefore
-  to_between a b key v3 e = grind (arith, common_steps, no_pred, less_then_any, less_then_greater)
+  to_between a b key v3 e = grind (arith, no_pred)
 
   to_past : (a : K) → IsSome order.greatest ⊎ ((c : K) × order.is_key c × Below order a c)
       → order.greatest ≡ None → KeyTo (Beside a At) PlusInfinity
   unfolding KeyTo NotPast IsBefore
-  to_past a v1 e = grind (arith, common_steps, none_is_not_some, less_then_any)
+  to_past a v1 e = grind arith
 
   just_before : (a : K) → IsBefore (Beside a Before) (Beside a At)
   unfolding IsBefore
@@ -141,7 +139,7 @@ module _ {K : Type 0} (order : KeyOrder K) (lawful : IsLawful order)
 
   not_both : (p q : Position K) → IsBefore p q → NotPast q p → ⊥
   unfolding IsBefore NotPast
-  not_both p q h k = grind (arith, common_steps, lt_not_le, position_total)
+  not_both p q h k = grind arith
 
   NonEmpty : AnyRange K → Type 0
   NonEmpty r = NotPast (start_position order r.start) (end_position order r.end)
@@ -201,7 +199,7 @@ module _ {K : Type 0} (order : KeyOrder K) (lawful : IsLawful order)
   neither_before_is_equal : (p q : Position K) (o : Ordering) → position_cmp order.cmp p q ≡ o
       → (IsBefore p q → ⊥) → (IsBefore q p → ⊥) → position_cmp order.cmp p q ≡ Equal
   unfolding IsBefore
-  neither_before_is_equal p q v2 e f g = grind (arith, common_steps, position_total)
+  neither_before_is_equal p q v2 e f g = grind arith
 
   -- nonempty ranges that hold the same keys are equal
   pub same_is_equal : (r s : AnyRange K) → IsKnownRange order r → IsKnownRange order s
@@ -249,4 +247,4 @@ module _ {K : Type 0} (order : KeyOrder K) (lawful : IsLawful order) where
       (sym (ap is_gt starts) ∙ within.0, sym (ap is_gt ends) ∙ within.1)
 
   pub equal_is_same : (r s : AnyRange K) → range_cmp order r s ≡ Equal → HoldSame order r s
-  equal_is_same r s e k key = grind (arith, common_steps, equal_ranges_hold_alike, tied_back, range_total)
+  equal_is_same r s e k key = grind (arith, equal_ranges_hold_alike, range_total)

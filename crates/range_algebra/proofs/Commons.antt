@@ -13,11 +13,10 @@ use Rattle.range_keys.specs.declared.inner.position.Position.TheVariants.{Beside
 use Rattle.range_keys.specs.declared.inner.position.Side.TheVariants.{At}
 use Rattle.range_algebra.specs.declared.any.AnyRange.{AnyRange}
 use Rattle.range_algebra.specs.Intervals.{Le}
-use Rattle.range_algebra.specs.Orders.{le_refl, lt_le, eq_le, eq_ge, le_trans}
+use Rattle.range_algebra.specs.Orders.{le_refl, lt_le, eq_ge, le_trans}
 use Rattle.range_algebra.specs.Range.{StartHolds, EndHolds, Holds, IsKnownBound, IsKnownRange}
 use Rattle.range_algebra.specs.Combined.{later_start, earlier_end, earlier_start, later_end, common}
 use Rattle.range_algebra.proofs.Holding.{start_holds, end_holds}
-use Rattle.std.proofs.lemmas.Grind.{common_steps}
 use Rattle.std.proofs.Common.{arith}
 
 module _ {L : Type 0} (cmp : L → L → Ordering) (total : IsTotalOrder cmp) where
@@ -33,7 +32,7 @@ module _ {K : Type 0} (order : KeyOrder K) (lawful : IsLawful order) where
     later_by : (o : Ordering) → places (start_position order a) (start_position order b) ≡ o
         → Le places (start_position order a) (start_position order (if is_lt o then b else a))
         × Le places (start_position order b) (start_position order (if is_lt o then b else a))
-    later_by v0 e = grind (arith, common_steps, position_total, lt_le, le_refl, eq_ge, gt_le)
+    later_by v0 e = grind (arith, position_total)
 
     -- both starts are at most the later
     pub later_over : Le places (start_position order a)
@@ -44,7 +43,7 @@ module _ {K : Type 0} (order : KeyOrder K) (lawful : IsLawful order) where
     earlier_by : (o : Ordering) → places (end_position order a) (end_position order b) ≡ o
         → Le places (end_position order (if is_gt o then b else a)) (end_position order a)
         × Le places (end_position order (if is_gt o then b else a)) (end_position order b)
-    earlier_by v0 e = grind (arith, common_steps, position_total, le_refl, lt_le, eq_le, gt_le)
+    earlier_by v0 e = grind arith
 
     -- the earlier is at most both ends
     pub earlier_under : Le places (end_position order (earlier_end order a b))
@@ -54,13 +53,13 @@ module _ {K : Type 0} (order : KeyOrder K) (lawful : IsLawful order) where
 
     -- the later start, and the earlier end, are one of the two
     later_is_by : (P : Bound K → Type 0) (o : Ordering) → P a → P b → P (if is_lt o then b else a)
-    later_is_by v0 v1 h k = grind (arith, common_steps)
+    later_is_by v0 v1 h k = grind arith
 
     pub later_is : (P : Bound K → Type 0) → P a → P b → P (later_start order a b)
     later_is P h k = later_is_by P (places (start_position order a) (start_position order b)) h k
 
     earlier_is_by : (P : Bound K → Type 0) (o : Ordering) → P a → P b → P (if is_gt o then b else a)
-    earlier_is_by v0 v1 h k = grind (arith, common_steps)
+    earlier_is_by v0 v1 h k = grind arith
 
     pub earlier_is : (P : Bound K → Type 0) → P a → P b → P (earlier_end order a b)
     earlier_is P h k = earlier_is_by P (places (end_position order a) (end_position order b)) h k
@@ -97,17 +96,17 @@ module _ {K : Type 0} (order : KeyOrder K) (lawful : IsLawful order) where
     last_by : (o : Ordering) → places (end_position order a) (end_position order b) ≡ o
         → Le places (end_position order a) (end_position order (if is_gt o then a else b))
         × Le places (end_position order b) (end_position order (if is_gt o then a else b))
-    last_by v0 e = grind (arith, common_steps, position_total, lt_le, le_refl, eq_le, gt_le)
+    last_by v0 e = grind arith
 
     pub last_over : Le places (end_position order a) (end_position order (later_end order a b))
         × Le places (end_position order b) (end_position order (later_end order a b))
     last_over = last_by (places (end_position order a) (end_position order b)) refl
 
     first_is_by : (P : Bound K → Type 0) (o : Ordering) → P (if is_lt o then a else b) → P a ⊎ P b
-    first_is_by v0 v1 h = grind (arith, common_steps)
+    first_is_by v0 v1 h = grind arith
 
     last_is_by : (P : Bound K → Type 0) (o : Ordering) → P (if is_gt o then a else b) → P a ⊎ P b
-    last_is_by v0 v1 h = grind (arith, common_steps)
+    last_is_by v0 v1 h = grind arith
 
   -- a key that a start holds is held by an earlier one
   pub start_below : (a b : Bound K) (k : K) → order.is_key k
@@ -177,7 +176,7 @@ module _ {K : Type 0} (order : KeyOrder K) (lawful : IsLawful order) where
   -- the common part holds the keys of both
   pub common_holds : (r s : AnyRange K) (k : K) → order.is_key k → Holds order (common order r s) k
       ↔ (Holds order r k × Holds order s k)
-  common_holds r s k key = grind (arith, common_steps, start_both, end_both)
+  common_holds r s k key = grind (arith, start_both, end_both)
 
   pub common_known : (r s : AnyRange K) → IsKnownRange order r → IsKnownRange order s
       → IsKnownRange order (common order r s)

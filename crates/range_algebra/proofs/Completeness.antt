@@ -10,16 +10,15 @@ use Rattle.range_keys.specs.declared.inner.position.Position.{Position}
 use Rattle.range_keys.specs.declared.inner.position.Position.TheVariants.{MinusInfinity, Beside, PlusInfinity}
 use Rattle.range_keys.specs.declared.inner.position.Side.TheVariants.{Before, At, After}
 use Rattle.range_keys.specs.PositionOrder.{position_total}
-use Rattle.range_keys.proofs.Orderings.{less_then_greater, not_greater_unless_greater}
+use Rattle.range_keys.proofs.Orderings.{not_greater_unless_greater}
 use Rattle.range_keys.proofs.BoundPositions.{IsStart, IsEnd, starts_lie_at_starts, ends_lie_at_ends}
 use Rattle.range_algebra.specs.Range.{Holds, IsKeyless, IsEmptyRange, IsKnownRange}
 use Rattle.range_algebra.specs.declared.any.AnyRange.{AnyRange}
 use Rattle.range_algebra.proofs.Holding.{holds_by_position}
-use Rattle.std.proofs.lemmas.Grind.{common_steps}
 use Rattle.std.proofs.Common.{arith}
 
 pub none_is_not_some : {K : Type 0} (o : Option K) → o ≡ None → IsSome o → ⊥
-none_is_not_some v0 e h = grind (arith, common_steps)
+none_is_not_some v0 e h = grind arith
 
 module _ {K : Type 0} (order : KeyOrder K) (lawful : IsLawful order)
     (complete : IsComplete order) where
@@ -40,17 +39,17 @@ module _ {K : Type 0} (order : KeyOrder K) (lawful : IsLawful order)
       ((c : K) × order.is_key c × Below order a c × Below order c b) → order.succ a ≡ None
       → HasKey (Beside a After) (Beside b Before)
   unfolding HasKey
-  key_lies_between a b v2 e = grind (arith, common_steps, told_none, less_then_greater)
+  key_lies_between a b v2 e = grind arith
 
   key_lies_past : (a : K) → IsSome order.greatest ⊎ ((c : K) × order.is_key c × Below order a c)
       → order.greatest ≡ None → HasKey (Beside a After) PlusInfinity
   unfolding HasKey
-  key_lies_past a v1 e = grind (arith, common_steps, none_is_not_some, less_then_greater)
+  key_lies_past a v1 e = grind arith
 
   key_lies_under : (b : K) → IsSome order.least ⊎ ((c : K) × order.is_key c × Below order c b)
       → order.least ≡ None → HasKey MinusInfinity (Beside b Before)
   unfolding HasKey
-  key_lies_under b v1 e = grind (arith, common_steps, none_is_not_some, less_then_greater)
+  key_lies_under b v1 e = grind arith
 
   places_have_key_between : (s e : Position K) → IsStart order s → IsEnd order e
       → is_gt (position_cmp order.cmp s e) ≡ false → HasKey s e

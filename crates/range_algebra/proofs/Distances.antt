@@ -9,12 +9,10 @@ use Rattle.range_keys.specs.declared.inner.position.Position.{Position}
 use Rattle.range_keys.specs.declared.inner.position.Position.TheVariants.{MinusInfinity, Beside, PlusInfinity}
 use Rattle.range_keys.specs.declared.inner.position.Side.{Side}
 use Rattle.range_keys.specs.declared.inner.position.Side.TheVariants.{Before, At, After}
-use Rattle.range_keys.proofs.Orderings.{less_or_equal, not_greater_unless_equal, not_greater_unless_greater}
 use Rattle.range_algebra.specs.Intervals.{Le}
-use Rattle.std.proofs.lemmas.Grind.{common_steps}
 
 not_greater_less : (o : Ordering) → is_gt (ordering_then o Less) ≡ false → is_gt o ≡ false
-not_greater_less v0 h = grind (arith, common_steps)
+not_greater_less v0 h = grind arith
 
 module _ {K : Type 0} (order : KeyOrder K) (lawful : IsLawful order) (len : K → ℕ)
     (distance : K → K → ℕ) (measured : IsMeasure order len distance) where
@@ -43,30 +41,30 @@ module _ {K : Type 0} (order : KeyOrder K) (lawful : IsLawful order) (len : K �
 
   apart_by : (a b : K) → order.is_key a → order.is_key b
       → (order.cmp a b ≡ Less) ⊎ (order.cmp a b ≡ Equal) → len a ≤ distance a b + len b
-  apart_by a b p q v4 = grind (arith, common_steps, measured.at_least, measured.len_congr)
+  apart_by a b p q v4 = grind arith
 
   -- what is taken off was there
   distance_covers_places : (a b : K) (s t : Side) → IsPlace (Beside a s) → IsPlace (Beside b t)
       → Le (position_cmp order.cmp) (Beside a s) (Beside b t)
       → NotAbove order a b × (passed a s ≤ distance a b + passed b t)
   unfolding IsPlace passed
-  distance_covers_places a b v2 t p q h = grind (arith, common_steps, not_greater_unless_equal, not_greater_less, not_greater_unless_greater, measured.at_least, apart_by, less_or_equal)
+  distance_covers_places a b v2 t p q h = grind arith
 
   key_of : (a : K) (s : Side) → IsPlace (Beside a s) → order.is_key a
   unfolding IsPlace
-  key_of a v1 p = grind (arith, common_steps)
+  key_of a v1 p = grind arith
 
   passed_is_within_key : (b : K) (t : Side) → passed b t ≤ len b
   unfolding passed
-  passed_is_within_key b v1 = grind (arith, common_steps)
+  passed_is_within_key b v1 = grind arith
 
   pub gap_adds : (p q r : Position K) → IsPlace p → IsPlace q → IsPlace r
       → Le (position_cmp order.cmp) p q → Le (position_cmp order.cmp) q r
       → gap p q + gap q r ≡ gap p r
   unfolding gap IsPlace
-  gap_adds v0 q r i j k h l = grind (arith, common_steps, distance_covers_places, measured.adds, key_of)
+  gap_adds v0 q r i j k h l = grind arith
 
   pub gap_fits : (p q : Position K) → IsPlace p → IsPlace q → Le (position_cmp order.cmp) p q
       → gap p q < 2 ^ 128
   unfolding gap IsPlace
-  gap_fits v0 q i j h = grind (arith, common_steps, measured.fits, key_of, distance_covers_places, passed_is_within_key)
+  gap_fits v0 q i j h = grind arith

@@ -11,15 +11,14 @@ use Rattle.range_keys.specs.PositionOrder.{position_total}
 use Rattle.range_keys.specs.declared.inner.position.Position.{Position}
 use Rattle.range_keys.specs.declared.inner.position.Position.TheVariants.{Beside}
 use Rattle.range_keys.specs.declared.inner.position.Side.TheVariants.{At}
-use Rattle.range_keys.proofs.Orderings.{not_greater, not_greater_unless_equal}
+use Rattle.range_keys.proofs.Orderings.{not_greater_unless_equal}
 use Rattle.range_algebra.proofs.Completeness.{none_is_not_some}
 use Rattle.range_algebra.specs.Intervals.{Le}
-use Rattle.range_algebra.specs.Orders.{le_refl, le_trans, lt_not_le, lt_le, lt_trans, le_lt_trans}
+use Rattle.range_algebra.specs.Orders.{le_refl, lt_not_le}
 use Rattle.range_algebra.specs.Range.{StartHolds, EndHolds, Holds, IsEmptyRange, IsKnownBound, IsKnownRange, start_key, end_key}
 use Rattle.range_algebra.specs.Extremes.{IsLeastOf, IsGreatestOf, HasNoLeast, HasNoGreatest}
 use Rattle.range_algebra.specs.declared.any.AnyRange.{AnyRange}
 use Rattle.range_algebra.proofs.Holding.{holds_by_position}
-use Rattle.std.proofs.lemmas.Grind.{common_steps}
 use Rattle.std.proofs.Common.{arith}
 
 module _ {K : Type 0} (order : KeyOrder K) (lawful : IsLawful order) where
@@ -28,11 +27,11 @@ module _ {K : Type 0} (order : KeyOrder K) (lawful : IsLawful order) where
 
   start_congr : (b : Bound K) (m k : K) → order.cmp m k ≡ Equal → StartHolds order b m
       → StartHolds order b k
-  start_congr v0 m k e h = grind (arith, common_steps, alike_right)
+  start_congr v0 m k e h = grind arith
 
   end_congr : (b : Bound K) (m k : K) → order.cmp m k ≡ Equal → EndHolds order b m
       → EndHolds order b k
-  end_congr v0 m k e h = grind (arith, common_steps, lawful.total.congr)
+  end_congr v0 m k e h = grind arith
 
   -- a range that holds a key holds what equals it
   pub holds_congr : (r : AnyRange K) (m k : K) → order.cmp m k ≡ Equal → Holds order r m
@@ -41,16 +40,16 @@ module _ {K : Type 0} (order : KeyOrder K) (lawful : IsLawful order) where
 
   start_named : (b : Bound K) (m : K) → start_key order b ≡ Some m → IsKnownBound order b
       → (start_position order b ≡ Beside m At) × order.is_key m
-  start_named v0 m e key = grind (arith, common_steps, lawful.succ_key, lawful.least_key)
+  start_named v0 m e key = grind arith
 
   end_named : (b : Bound K) (m : K) → end_key order b ≡ Some m → IsKnownBound order b
       → (end_position order b ≡ Beside m At) × order.is_key m
-  end_named v0 m e key = grind (arith, common_steps, lawful.pred_key, lawful.greatest_key)
+  end_named v0 m e key = grind arith
 
   module _ (r : AnyRange K) (known : IsKnownRange order r) (full : ¬ IsEmptyRange order r) where
     start_reaches_end : PLe (start_position order r.start) (end_position order r.end)
     unfolding PLe
-    start_reaches_end = grind (arith, common_steps, not_greater)
+    start_reaches_end = grind arith
 
     least_at : (m k : K) → start_key order r.start ≡ Some m → order.cmp m k ≡ Equal
         → IsLeastOf order r k
@@ -102,7 +101,7 @@ module _ {K : Type 0} (order : KeyOrder K) (lawful : IsLawful order) where
 
     least_by : (o p : Option K) → start_key order r.start ≡ o → SameAnswer order o p
         → IfSome p (IsLeastOf order r)
-    least_by v0 v1 e h = grind (arith, common_steps, least_at)
+    least_by v0 v1 e h = grind (arith, least_at)
 
     -- what equals the key that the start names is the least
     pub first_is_least : (p : Option K) → SameAnswer order (start_key order r.start) p
@@ -111,20 +110,20 @@ module _ {K : Type 0} (order : KeyOrder K) (lawful : IsLawful order) where
 
     greatest_by : (o p : Option K) → end_key order r.end ≡ o → SameAnswer order o p
         → IfSome p (IsGreatestOf order r)
-    greatest_by v0 v1 e h = grind (arith, common_steps, greatest_at)
+    greatest_by v0 v1 e h = grind (arith, greatest_at)
 
     pub last_is_greatest : (p : Option K) → SameAnswer order (end_key order r.end) p
         → IfSome p (IsGreatestOf order r)
     last_is_greatest p h = greatest_by (end_key order r.end) p refl h
 
   start_up : (b : Bound K) (j k : K) → Below order j k → StartHolds order b j → StartHolds order b k
-  start_up v0 j k l h = grind (arith, common_steps, lt_le, le_lt_trans, lt_trans)
+  start_up v0 j k l h = grind arith
 
   end_down : (b : Bound K) (j k : K) → Below order j k → EndHolds order b k → EndHolds order b j
-  end_down v0 j k l h = grind (arith, common_steps, le_trans, lt_le, lt_trans)
+  end_down v0 j k l h = grind arith
 
   told_none : (o : Option K) (b : K) → o ≡ None → Tells order o b → ⊥
-  told_none v0 b e h = grind (arith, common_steps)
+  told_none v0 b e h = grind arith
 
   no_pred : (a b : K) (o : Option K) → order.succ a ≡ o → Tells order o b → order.pred b ≡ None → ⊥
   no_pred a b None e t n = t
@@ -180,15 +179,15 @@ module _ {K : Type 0} (order : KeyOrder K) (lawful : IsLawful order) where
     no_greatest r known n k key h = no_greatest_by r.start r.end known.1 n k key h.0.0 h.0.1 h.1
 
   answer_none : (o p : Option K) → SameAnswer order o p → p ≡ None → o ≡ None
-  answer_none v0 p h e = grind (arith, common_steps)
+  answer_none v0 p h e = grind arith
 
   first_none_by : (r : AnyRange K) → IsComplete order → IsKnownRange order r → (p : Option K)
       → SameAnswer order (start_key order r.start) p → IfNone p (HasNoLeast order r)
-  first_none_by r complete known v3 h = grind (arith, common_steps, no_least, answer_none)
+  first_none_by r complete known v3 h = grind (arith, no_least)
 
   last_none_by : (r : AnyRange K) → IsComplete order → IsKnownRange order r → (p : Option K)
       → SameAnswer order (end_key order r.end) p → IfNone p (HasNoGreatest order r)
-  last_none_by r complete known v3 h = grind (arith, common_steps, no_greatest, answer_none)
+  last_none_by r complete known v3 h = grind (arith, no_greatest)
 
   pub first_none : (r : AnyRange K) → IsComplete order → IsKnownRange order r → (p : Option K)
       → SameAnswer order (start_key order r.start) p → IfNone p (HasNoLeast order r)

@@ -5,23 +5,20 @@ use Rattle.std.specs.declared.ops.Bound.TheVariants.{Excluded}
 use Rattle.std.specs.declared.cmp.Ordering.{Ordering}
 use Rattle.std.specs.Ordering.{is_gt, is_le}
 use Rattle.std.specs.Range.Bound.{is_from_start, is_up_to_end, bounds_contain}
-use Rattle.std.specs.Cmp.{alike_right, upto}
+use Rattle.std.specs.Cmp.{upto}
 use Rattle.range_keys.specs.Order.{KeyOrder, IsLawful, Below, NotAbove, Tells}
 use Rattle.range_keys.specs.Position.{start_position, end_position, position_cmp, at_told}
 use Rattle.range_keys.specs.PositionOrder.{position_total}
 use Rattle.range_algebra.specs.Range.{StartHolds, EndHolds, Holds, IsKeyless, IsEmptyRange, LiesWithin}
 use Rattle.range_keys.specs.declared.inner.position.Position.TheVariants.{MinusInfinity, Beside, PlusInfinity}
 use Rattle.range_keys.specs.declared.inner.position.Side.TheVariants.{Before, At, After}
-use Rattle.range_keys.proofs.Orderings.{any_then_equal, not_greater_unless_greater, lt_is_less}
-use Rattle.range_algebra.specs.Orders.{lt_not_le}
 use Rattle.range_algebra.specs.declared.any.AnyRange.{AnyRange}
-use Rattle.std.proofs.lemmas.Grind.{common_steps}
 use Rattle.std.proofs.Common.{arith}
 
 module _ {K : Type 0} (order : KeyOrder K) (lawful : IsLawful order) where
   below_up_by : (a b c : K) (o : Ordering) → order.cmp b c ≡ o → Below order a b → is_gt o ≡ false
       → Below order a c
-  below_up_by a b c v3 e l h = grind (arith, common_steps, lawful.total.trans, alike_right)
+  below_up_by a b c v3 e l h = grind arith
 
   -- a < b and b <= c
   pub below_up : (a b c : K) → Below order a b → NotAbove order b c → Below order a c
@@ -29,7 +26,7 @@ module _ {K : Type 0} (order : KeyOrder K) (lawful : IsLawful order) where
 
   up_below_by : (a b c : K) (o : Ordering) → order.cmp a b ≡ o → is_gt o ≡ false → Below order b c
       → Below order a c
-  up_below_by a b c v3 e h l = grind (arith, common_steps, lawful.total.trans, lawful.total.congr)
+  up_below_by a b c v3 e h l = grind arith
 
   -- a <= b and b < c
   pub up_below : (a b c : K) → NotAbove order a b → Below order b c → Below order a c
@@ -38,25 +35,25 @@ module _ {K : Type 0} (order : KeyOrder K) (lawful : IsLawful order) where
   start_told : (a k : K) (o : Option K) → order.succ a ≡ o → order.is_key k
       → StartHolds order (Excluded a) k
       ↔ is_gt (position_cmp order.cmp (at_told o (Beside a After)) (Beside k At)) ≡ false
-  start_told a k v2 e key = grind (arith, common_steps, not_greater_unless_greater, any_then_equal, lawful.none_between, below_up, lawful.succ_above)
+  start_told a k v2 e key = grind arith
 
   least_told : (k : K) (o : Option K) → order.least ≡ o → order.is_key k
       → is_gt (position_cmp order.cmp (at_told o MinusInfinity) (Beside k At)) ≡ false
-  least_told k v1 e key = grind (arith, common_steps, any_then_equal, lawful.least_bound)
+  least_told k v1 e key = grind arith
 
   pub start_holds : (b : Bound K) (k : K) → order.is_key k → StartHolds order b k
       ↔ is_gt (position_cmp order.cmp (start_position order b) (Beside k At)) ≡ false
-  start_holds v0 k key = grind (arith, common_steps, any_then_equal, start_told, least_told)
+  start_holds v0 k key = grind arith
 
   pred_below_by : (a b : K) (o : Option K) → order.succ a ≡ o → Tells order o b → Below order a b
-  pred_below_by a b v2 e h = grind (arith, common_steps, alike_right, lawful.succ_above)
+  pred_below_by a b v2 e h = grind arith
 
   pub pred_below : (a b : K) → order.pred b ≡ Some a → Below order a b
   pred_below a b e = pred_below_by a b (order.succ a) refl (lawful.pred_succ a b e)
 
   not_after_by : (a b k : K) (o : Option K) → order.succ a ≡ o → Tells order o b → order.is_key k
       → Below order k b → (r : Ordering) → order.cmp k a ≡ r → is_gt r ≡ false
-  not_after_by a b k o e t key h v8 f = grind (arith, common_steps, lawful.total.antisymm, lawful.none_between, lawful.total.congr, lt_not_le)
+  not_after_by a b k o e t key h v8 f = grind arith
 
   -- no key lies between a told neighbour and the key that it is told for
   pub not_after : (a b k : K) → order.pred b ≡ Some a → order.is_key k → Below order k b
@@ -67,20 +64,20 @@ module _ {K : Type 0} (order : KeyOrder K) (lawful : IsLawful order) where
   end_told : (b k : K) (o : Option K) → order.pred b ≡ o → order.is_key k
       → EndHolds order (Excluded b) k
       ↔ is_gt (position_cmp order.cmp (Beside k At) (at_told o (Beside b Before))) ≡ false
-  end_told b k v2 e key = grind (arith, common_steps, not_greater_unless_greater, any_then_equal, not_after, up_below, pred_below)
+  end_told b k v2 e key = grind (arith, not_after, pred_below)
 
   greatest_told : (k : K) (o : Option K) → order.greatest ≡ o → order.is_key k
       → is_gt (position_cmp order.cmp (Beside k At) (at_told o PlusInfinity)) ≡ false
-  greatest_told k v1 e key = grind (arith, common_steps, any_then_equal, lawful.greatest_bound)
+  greatest_told k v1 e key = grind arith
 
   pub end_holds : (b : Bound K) (k : K) → order.is_key k → EndHolds order b k
       ↔ is_gt (position_cmp order.cmp (Beside k At) (end_position order b)) ≡ false
-  end_holds v0 k key = grind (arith, common_steps, any_then_equal, end_told, greatest_told)
+  end_holds v0 k key = grind (arith, end_told)
 
   -- the position of a held key lies from the start to the end
   pub holds_by_position : (r : AnyRange K) (k : K) → order.is_key k → Holds order r k
       ↔ LiesWithin order r k
-  holds_by_position r k key = grind (arith, common_steps, start_holds, end_holds)
+  holds_by_position r k key = grind (arith, end_holds)
 
   pub empty_is_keyless : (r : AnyRange K) → IsEmptyRange order r → IsKeyless order r
   empty_is_keyless r e k key h =
@@ -95,17 +92,17 @@ module _ {K : Type 0} (order : KeyOrder K) (lawful : IsLawful order) where
 module _ {K : Type 0} (order : KeyOrder K) (partial_cmp : K → K → Option Ordering)
     (agrees : (a b : K) → partial_cmp a b ≡ Some (order.cmp a b)) where
   le_is : (o : Ordering) → is_le o ≡ true ↔ is_gt o ≡ false
-  le_is v0 = grind (arith, common_steps)
+  le_is v0 = grind arith
 
   from_start : (b : Bound K) (k : K) → is_from_start partial_cmp b k ≡ true ↔ StartHolds order b k
-  from_start v0 k = grind (arith, common_steps, le_is, lt_is_less)
+  from_start v0 k = grind arith
 
   up_to_end : (b : Bound K) (k : K) → is_up_to_end partial_cmp b k ≡ true ↔ EndHolds order b k
-  up_to_end v0 k = grind (arith, common_steps, le_is, lt_is_less)
+  up_to_end v0 k = grind arith
 
   both_true : (a b : Bool) → (a && b) ≡ true ↔ (a ≡ true) × (b ≡ true)
-  both_true v0 b = grind (arith, common_steps)
+  both_true v0 b = grind arith
 
   pub contains_is_held : (r : AnyRange K) (k : K)
       → bounds_contain partial_cmp r.start r.end k ≡ true ↔ Holds order r k
-  contains_is_held r k = grind (arith, common_steps, both_true, from_start, up_to_end)
+  contains_is_held r k = grind arith

@@ -6,14 +6,14 @@ use Rattle.std.specs.declared.ops.Bound.TheVariants.{Included, Excluded, Unbound
 use Rattle.std.specs.declared.cmp.Ordering.{Ordering}
 use Rattle.std.specs.declared.cmp.Ordering.TheVariants.{Less, Equal, Greater}
 use Rattle.std.specs.Ordering.{is_gt, is_lt, is_eq, ordering_reverse, ordering_then}
-use Rattle.std.specs.Cmp.{upto, tied_back, Equal-is}
+use Rattle.std.specs.Cmp.{upto, Equal-is}
 use Rattle.range_keys.specs.Order.{KeyOrder, IsLawful, IsComplete, Below, NotAbove}
 use Rattle.range_keys.specs.Position.{start_position, end_position, position_cmp}
 use Rattle.range_keys.specs.PositionOrder.{position_total}
 use Rattle.range_keys.specs.declared.inner.position.Position.{Position}
 use Rattle.range_keys.specs.declared.inner.position.Position.TheVariants.{Beside}
 use Rattle.range_keys.specs.declared.inner.position.Side.TheVariants.{At}
-use Rattle.range_keys.proofs.Orderings.{both_equal, not_not_less}
+use Rattle.range_keys.proofs.Orderings.{both_equal}
 use Rattle.range_algebra.specs.Orders.{le_refl, lt_not_le, lt_of}
 use Rattle.range_algebra.proofs.Pieces.{start_up, end_down}
 use Rattle.range_algebra.specs.Range.{StartHolds, EndHolds, Holds, IsKnownBound, IsKnownRange, IsEmptyRange}
@@ -23,28 +23,27 @@ use Rattle.range_algebra.specs.Compared.{range_ordering, is_before, is_after, fl
 use Rattle.range_algebra.proofs.Holding.{start_holds, holds_by_position, empty_is_keyless}
 use Rattle.range_algebra.proofs.Completeness.{nonempty_holds}
 use Rattle.range_algebra.proofs.Canonical.{same_is_equal}
-use Rattle.range_algebra.proofs.Meeting.{not_greater}
 use Rattle.range_algebra.specs.Relations.{AreBelow, LiesBetween, AreJoined}
 use Rattle.std.proofs.lemmas.Grind.{common_steps}
 use Rattle.std.proofs.Common.{arith}
 
 read_flag : (t s : Bool) → (not t || not s) ≡ true → s ≡ true → t ≡ true → ⊥
-read_flag v0 s e f g = grind (arith, common_steps)
+read_flag v0 s e f g = grind arith
 
 read_before : (A B C T U x y z w s : Bool)
     → is_before (if A then (if B then Before T else Intersecting x y)
     else (if C then After U else Intersecting z w)) s ≡ true
     → (B ≡ true) × (s ≡ true → T ≡ true → ⊥)
-read_before v0 v1 v2 v3 v4 x y z w s e = grind (arith, common_steps, read_flag)
+read_before v0 v1 v2 v3 v4 x y z w s e = grind arith
 
 reversed_greater_is_less : (o : Ordering) → is_gt o ≡ true → ordering_reverse o ≡ Less
-reversed_greater_is_less v0 e = grind (arith, common_steps)
+reversed_greater_is_less v0 e = grind arith
 
 reversed_less_is_greater : (o p : Ordering) → p ≡ ordering_reverse o → o ≡ Less → is_gt p ≡ true
 reversed_less_is_greater o p e f = rw (e, f) refl
 
 stable_not : (b : Bool) → ((b ≡ false → ⊥) → ⊥) → b ≡ false
-stable_not v0 h = grind (arith, common_steps)
+stable_not v0 h = grind arith
 
 module _ {K : Type 0} (order : KeyOrder K) (lawful : IsLawful order) where
   abbrev pub EndsBefore : AnyRange K → AnyRange K → Type 0
@@ -57,7 +56,7 @@ module _ {K : Type 0} (order : KeyOrder K) (lawful : IsLawful order) where
   pub before_is : (r s : AnyRange K) (same : Bool)
       → IsTrue (is_before (range_ordering order r s) same)
       → EndsBefore r s × (IsTrue same → AreTouching r s → ⊥)
-  before_is r s same e = grind (arith, common_steps, read_before, lt_of)
+  before_is r s same e = grind (arith, read_before)
 
   -- p <= q < r <= s
   no_cycle_of_positions : (p q r s : Position K) → is_gt (position_cmp order.cmp p q) ≡ false
@@ -76,13 +75,13 @@ module _ {K : Type 0} (order : KeyOrder K) (lawful : IsLawful order) where
   -- what is not reached by the other lies below it
   below_by : (a b : K) (o : Ordering) → order.cmp a b ≡ o → (NotAbove order b a → ⊥)
       → Below order a b
-  below_by a b v2 e h = grind (arith, common_steps, tied_back, lawful.total.antisymm)
+  below_by a b v2 e h = grind arith
 
   pub not_above_below : (a b : K) → (NotAbove order b a → ⊥) → Below order a b
   not_above_below a b h = below_by a b (order.cmp a b) refl h
 
   at_places : (o : Ordering) → is_gt o ≡ false → is_gt (ordering_then o Equal) ≡ false
-  at_places v0 h = grind (arith, common_steps)
+  at_places v0 h = grind arith
 
   -- a range that ends before another starts lies below it
   pub ends_below : (r s : AnyRange K) → EndsBefore r s → AreBelow order r s
@@ -94,7 +93,7 @@ module _ {K : Type 0} (order : KeyOrder K) (lawful : IsLawful order) where
       ((holds_by_position order lawful s b key').0 g).0 (at_places (order.cmp b a) over))
 
   stable_start : (b : Bound K) (k : K) → ((StartHolds order b k → ⊥) → ⊥) → StartHolds order b k
-  stable_start v0 k h = grind (arith, common_steps, stable_not, not_not_less)
+  stable_start v0 k h = grind arith
 
   module _ (complete : IsComplete order) (r s : AnyRange K) (known : IsKnownRange order r)
       (others : IsKnownRange order s) (full : ¬ IsEmptyRange order r)
@@ -104,11 +103,11 @@ module _ {K : Type 0} (order : KeyOrder K) (lawful : IsLawful order) where
 
     first_member : Member r
     unfolding Member
-    first_member = grind (arith, common_steps, nonempty_holds, not_greater)
+    first_member = grind (arith, nonempty_holds)
 
     second_member : Member s
     unfolding Member
-    second_member = grind (arith, common_steps, nonempty_holds, not_greater)
+    second_member = grind (arith, common_steps, nonempty_holds)
 
     -- the end of the first holds no key of the second
     past_end : (k : K) → order.is_key k → Holds order s k → EndHolds order r.end k → ⊥
@@ -273,7 +272,7 @@ module _ {K : Type 0} (order : KeyOrder K) (lawful : IsLawful order) (complete :
 
   is_less : (p q : Position K) → (is_gt (position_cmp order.cmp q p) ≡ false → ⊥)
       → position_cmp order.cmp p q ≡ Less
-  is_less p q h = grind (arith, common_steps, position_total)
+  is_less p q h = grind (arith, common_steps)
 
   -- over complete keys a range that lies below another ends before it starts
   pub below_ends : EndsBefore order lawful r s
@@ -292,12 +291,12 @@ module _ {K : Type 0} (order : KeyOrder K) (lawful : IsLawful order) (complete :
       ((holds_by_position order lawful r y key).0 here).1)))
 
   write_flag : (t u : Bool) → (u ≡ true → t ≡ true → ⊥) → (not t || not u) ≡ true
-  write_flag v0 u h = grind (arith, common_steps)
+  write_flag v0 u h = grind arith
 
   write_before : (A B C T U x y z w u : Bool) → A ≡ true → B ≡ true → (u ≡ true → T ≡ true → ⊥)
       → is_before (if A then (if B then Before T else Intersecting x y)
       else (if C then After U else Intersecting z w)) u ≡ true
-  write_before v0 v1 v2 v3 v4 x y z w u e f h = grind (arith, common_steps, write_flag)
+  write_before v0 v1 v2 v3 v4 x y z w u e f h = grind arith
 
   -- and stands before it, apart where their values are equal and the ranges are not joined
   pub is_before_of : (same : Bool) → (AreJoined order r s → IsTrue same → ⊥)
@@ -310,20 +309,20 @@ module _ {K : Type 0} (order : KeyOrder K) (lawful : IsLawful order) (complete :
 told_before : (A B C T U x y z w t : Bool)
     → (if A then (if B then Before T else Intersecting x y)
     else (if C then After U else Intersecting z w)) ≡ Before t → (B ≡ true) × (T ≡ t)
-told_before v0 v1 v2 v3 v4 x y z w t e = grind (arith, common_steps)
+told_before v0 v1 v2 v3 v4 x y z w t e = grind arith
 
 told_after : (A B C T U x y z w t : Bool)
     → (if A then (if B then Before T else Intersecting x y)
     else (if C then After U else Intersecting z w)) ≡ After t → (C ≡ true) × (U ≡ t)
-told_after v0 v1 v2 v3 v4 x y z w t e = grind (arith, common_steps)
+told_after v0 v1 v2 v3 v4 x y z w t e = grind arith
 
 either_flag : (u : Bool) → (not u || not false) ≡ true
-either_flag v0 = grind (arith, common_steps)
+either_flag v0 = grind arith
 
 write_after : (A B C T U x y z w : Bool) → A ≡ false → C ≡ true
     → is_after (if A then (if B then Before T else Intersecting x y)
     else (if C then After U else Intersecting z w)) false ≡ true
-write_after v0 v1 v2 v3 v4 x y z w e f = grind (arith, common_steps, either_flag)
+write_after v0 v1 v2 v3 v4 x y z w e f = grind arith
 
 not_less : (o p : Ordering) → p ≡ ordering_reverse o → o ≡ Less → is_lt p ≡ false
 not_less o p e f = rw (e, f) refl
@@ -342,7 +341,7 @@ module _ {K : Type 0} (order : KeyOrder K) (lawful : IsLawful order) where
   ends_after : (r s : AnyRange K)
       → is_gt (position_cmp order.cmp (start_position order r.start) (end_position order s.end))
       ≡ true → EndsBefore order lawful s r
-  ends_after r s h = grind (arith, common_steps, position_total, reversed_greater_is_less)
+  ends_after r s h = grind arith
 
   pub after_below : (r s : AnyRange K) (t : Bool) → range_ordering order r s ≡ After t
       → AreBelow order s r
@@ -356,7 +355,7 @@ module _ {K : Type 0} (order : KeyOrder K) (lawful : IsLawful order) where
 
     filled_range_has_key : (r : AnyRange K) → IsFilled r
         → (k : K) × order.is_key k × Holds order r k
-    filled_range_has_key r h = grind (arith, common_steps, nonempty_holds, not_greater)
+    filled_range_has_key r h = grind (arith, nonempty_holds)
 
     -- the flag of one that ends before the other says whether they are joined
     flag_joined : (r s : AnyRange K) → IsFilled r → IsFilled s → EndsBefore order lawful r s

@@ -5,7 +5,7 @@ use Rattle.std.specs.Option.{IsSomeAnd}
 use Rattle.std.specs.declared.ops.Bound.{Bound}
 use Rattle.std.specs.declared.ops.Bound.TheVariants.{Included, Excluded, Unbounded}
 use Rattle.std.specs.Ordering.{is_gt}
-use Rattle.std.specs.Cmp.{tied_itself, tied_back}
+use Rattle.std.specs.Cmp.{tied_itself}
 use Rattle.range_keys.specs.Order.{KeyOrder, IsLawful, IsMeasure, Below, NotAbove, Tells}
 use Rattle.range_keys.specs.Counted.{IsCountedMeasure, counted_lawful}
 use Rattle.range_keys.specs.Position.{start_position, end_position, position_cmp, at_told}
@@ -13,11 +13,11 @@ use Rattle.range_keys.specs.PositionOrder.{position_total}
 use Rattle.range_keys.specs.declared.inner.position.Position.{Position}
 use Rattle.range_keys.specs.declared.inner.position.Position.TheVariants.{Beside}
 use Rattle.range_keys.specs.declared.inner.position.Side.TheVariants.{Before, At, After}
-use Rattle.range_keys.proofs.Orderings.{any_then_equal, equal_then_any}
+use Rattle.range_keys.proofs.Orderings.{any_then_equal}
 use Rattle.range_algebra.specs.declared.any.AnyRange.{AnyRange}
 use Rattle.range_algebra.specs.Cuts.{past, lower, upper}
 use Rattle.range_algebra.specs.Intervals.{Le, Any}
-use Rattle.range_algebra.specs.Orders.{le_refl, lt_le, le_trans, lt_not_le, not_lt, lt_le_trans, le_lt_trans, lt_trans}
+use Rattle.range_algebra.specs.Orders.{le_trans, lt_not_le, not_lt, lt_le_trans, le_lt_trans, lt_trans}
 use Rattle.range_algebra.specs.Range.{Holds, IsKnownBound, IsKnownRange, IsEmptyRange}
 use Rattle.range_algebra.specs.Relations.{LiesBefore}
 use Rattle.range_algebra.specs.Measures.{told_bound, measure_between, measure_sum, range_measure, list_measure, AreInOrder}
@@ -27,18 +27,17 @@ use Rattle.range_algebra.proofs.Holding.{holds_by_position}
 use Rattle.range_algebra.proofs.Measuring.{included_included, included_excluded, excluded_included, excluded_excluded, told_start, told_end, known_start, known_end, reach_full, told_reach, full_measure, measure_is_number}
 use Rattle.range_algebra.proofs.Numbers.{number_none, number_both}
 use Rattle.range_algebra.proofs.Places.{reaching_is_before_past}
-use Rattle.std.proofs.lemmas.Grind.{common_steps}
 
 -- a sum that is there has both parts
 sum_parts : (o p : Option ℕ) (n : ℕ) → measure_sum o p ≡ Some n
     → (m : ℕ) × (k : ℕ) × (o ≡ Some m) × (p ≡ Some k) × (m + k ≡ n)
-sum_parts v0 p n e = grind (arith, common_steps)
+sum_parts v0 p n e = grind arith
 
 module _ {K : Type 0} (order : KeyOrder K) (lawful : IsLawful order) where
   ends_after : (s e : Bound K) → IsKnownBound order s → IsKnownBound order e
       → Le (position_cmp order.cmp) (start_position order s) (end_position order e)
       → Le (position_cmp order.cmp) (start_position order s) (past order (end_position order e))
-  ends_after s e known known' h = grind (arith, common_steps, lt_le, position_total, reaching_is_before_past)
+  ends_after s e known known' h = grind (arith, reaching_is_before_past)
 
   -- where the one lies before the other, its upper place is at most the other's lower one
   before_is_below : (r s : AnyRange K) → IsKnownRange order r → IsKnownRange order s
@@ -64,15 +63,15 @@ module _ {K : Type 0} (order : KeyOrder K) (lawful : IsLawful order) where
   -- in order without the second
   order_without_second : (r s : AnyRange K) (ranges : List (AnyRange K))
       → AreInOrder order (r ∷ s ∷ ranges) → AreInOrder order (r ∷ ranges)
-  order_without_second r s v2 h = grind (arith, common_steps, before_trans)
+  order_without_second r s v2 h = grind (arith, before_trans)
 
   pub rest_in_order : (r : AnyRange K) (ranges : List (AnyRange K)) → AreInOrder order (r ∷ ranges)
       → AreInOrder order ranges
-  rest_in_order r v1 h = grind (arith, common_steps)
+  rest_in_order r v1 h = grind arith
 
   pub first_known : (r : AnyRange K) (ranges : List (AnyRange K)) → AreInOrder order (r ∷ ranges)
       → IsKnownRange order r × ¬ IsEmptyRange order r
-  first_known r v1 h = grind (arith, common_steps)
+  first_known r v1 h = grind arith
 
   below_next : (r s : AnyRange K) (a b : K) → LiesBefore order r s → order.is_key a → order.is_key b
       → Holds order r a → Holds order s b → Below order a b
@@ -127,17 +126,17 @@ module _ {K : Type 0} (order : KeyOrder K) (lawful : IsLawful order) where
     no_distance a key = measured.itself a a key key (tied_itself lawful.total a)
 
     at_key : (a : K) → order.is_key a → LiesAbove a (Beside a At) 0
-    at_key a key = grind (arith, common_steps, key_place, le_refl, position_total, between_keys, no_distance)
+    at_key a key = grind (arith, key_place, between_keys)
 
     -- the place after a key
     measure_after_key : (a : K) (o : Option K) → order.succ a ≡ o → order.is_key a
         → LiesAbove a (at_told o (Beside a After)) (len a)
-    measure_after_key a v1 e key = grind (arith, common_steps, past_place, equal_then_any, tied_itself, behind_key, no_distance, key_place, lawful.succ_key, any_then_equal, lawful.succ_above, between_keys, measured.step)
+    measure_after_key a v1 e key = grind (arith, past_place, behind_key, key_place, between_keys)
 
     -- the place before a key, after the neighbour that is told
     before_by : (a b : K) (o : Option K) → order.succ a ≡ o → Tells order o b → order.is_key b
         → LiesAbove b (at_told o (Beside a After)) 0
-    before_by a b v2 e t key = grind (arith, common_steps, lawful.succ_key, tied_back, key_place, any_then_equal, between_keys, measured.itself)
+    before_by a b v2 e t key = grind (arith, key_place, between_keys)
 
     before_key : (b : K) (o : Option K) → order.pred b ≡ o → order.is_key b
         → LiesAbove b (past order (at_told o (Beside b Before))) 0
@@ -226,7 +225,7 @@ module _ {K : Type 0} (order : KeyOrder K) (lawful : IsLawful order) where
     first_place : (s : AnyRange K) (ranges : List (AnyRange K)) (n : ℕ)
         → AreInOrder order (s ∷ ranges) → list_measure order len distance (s ∷ ranges) ≡ Some n
         → IsPlace order lawful len distance measured (lower order s)
-    first_place s ranges n h e = grind (arith, common_steps, sum_parts, first_known, range_gap)
+    first_place s ranges n h e = grind (arith, first_known, range_gap)
 
     -- a place up to which the ranges reach
     Reaches : AnyRange K → ℕ → Type 0
@@ -292,7 +291,7 @@ module _ {K : Type 0} (order : KeyOrder K) (lawful : IsLawful order) where
 
 both_there : (P Q R : ℕ → Type 0) (o p : Option ℕ) → IsSomeAnd o P → IsSomeAnd p Q
     → ((m n : ℕ) → P m → Q n → R (m + n)) → IsSomeAnd (measure_sum o p) R
-both_there v0 v1 v2 v3 p h k f = grind (arith, common_steps)
+both_there v0 v1 v2 v3 p h k f = grind arith
 
 module _ {K : Type 0} (order : KeyOrder K) (len : K → ℕ) (distance : K → K → ℕ)
     (counts : IsCountedMeasure order len distance) where

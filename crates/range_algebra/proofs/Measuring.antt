@@ -6,15 +6,14 @@ use Rattle.std.specs.declared.cmp.Ordering.{Ordering}
 use Rattle.std.specs.declared.cmp.Ordering.TheVariants.{Less, Equal, Greater}
 use Rattle.std.specs.Ordering.{is_gt}
 use Rattle.std.specs.Option.{IsSomeAnd}
-use Rattle.std.specs.Cmp.{tied_itself}
 use Rattle.range_keys.specs.Order.{KeyOrder, IsLawful, Below, NotAbove}
-use Rattle.range_keys.specs.Counted.{IsCounted, IsCountedMeasure, counted_lawful, counted_complete}
+use Rattle.range_keys.specs.Counted.{IsCounted, IsCountedMeasure, counted_lawful}
 use Rattle.range_keys.specs.Position.{start_position, end_position, position_cmp, at_told}
 use Rattle.range_keys.specs.PositionOrder.{position_total}
 use Rattle.range_keys.specs.declared.inner.position.Position.{Position}
 use Rattle.range_keys.specs.declared.inner.position.Position.TheVariants.{Beside}
 use Rattle.range_keys.specs.declared.inner.position.Side.TheVariants.{Before, At, After}
-use Rattle.range_keys.proofs.Orderings.{any_then_equal, equal_then_any, not_greater, less_unless_equal}
+use Rattle.range_keys.proofs.Orderings.{any_then_equal, less_unless_equal}
 use Rattle.range_algebra.specs.declared.any.AnyRange.{AnyRange}
 use Rattle.range_algebra.specs.Intervals.{Le, Lt}
 use Rattle.range_algebra.specs.Orders.{lt_le_trans, le_lt_trans, lt_trans}
@@ -22,8 +21,7 @@ use Rattle.range_algebra.specs.Range.{StartHolds, EndHolds, Holds, IsEmptyRange,
 use Rattle.range_algebra.specs.Measures.{told_bound, measure_between, range_measure}
 use Rattle.range_algebra.specs.Numbers.{IsNumberOfKeys}
 use Rattle.range_algebra.proofs.Holding.{pred_below, empty_is_keyless}
-use Rattle.range_algebra.proofs.Completeness.{nonempty_holds}
-use Rattle.range_algebra.proofs.Numbers.{IsFrom, below_by_index, not_above_by_index, number_none, number_same, number_from}
+use Rattle.range_algebra.proofs.Numbers.{IsFrom, number_none, number_same, number_from}
 use Rattle.std.proofs.lemmas.Grind.{common_steps}
 
 module _ {K : Type 0} (order : KeyOrder K) (lawful : IsLawful order) where
@@ -36,12 +34,12 @@ module _ {K : Type 0} (order : KeyOrder K) (lawful : IsLawful order) where
   start_after : (a : K) (o : Option K) → order.succ a ≡ o
       → PLt (Beside a At) (at_told o (Beside a After))
   unfolding PLt
-  start_after a v1 e = grind (arith, common_steps, equal_then_any, tied_itself, any_then_equal, lawful.succ_above)
+  start_after a v1 e = grind arith
 
   end_before : (b : K) (o : Option K) → order.pred b ≡ o
       → PLt (at_told o (Beside b Before)) (Beside b At)
   unfolding PLt
-  end_before b v1 e = grind (arith, common_steps, equal_then_any, tied_itself, any_then_equal, pred_below)
+  end_before b v1 e = grind (arith, pred_below)
 
   places_order_keys : (a b : K) → PLe (Beside a At) (Beside b At) → NotAbove order a b
   unfolding PLe
@@ -51,14 +49,14 @@ module _ {K : Type 0} (order : KeyOrder K) (lawful : IsLawful order) where
       → Le (position_cmp order.cmp) (start_position order s) (end_position order e)
       → PLe (start_position order s') (end_position order e')
   unfolding PLe
-  equal_bounds_reach s e s' e' p q h = grind (arith, common_steps)
+  equal_bounds_reach s e s' e' p q h = grind arith
 
   -- the keys of the two bounds of a nonempty range do not cross
   pub included_included : (s e : Bound K) (a b : K) → s ≡ Included a → e ≡ Included b
       → Le (position_cmp order.cmp) (start_position order s) (end_position order e)
       → NotAbove order a b
   unfolding PLe
-  included_included s e a b p q h = grind (arith, common_steps, places_order_keys, equal_bounds_reach)
+  included_included s e a b p q h = grind arith
 
   pub included_excluded : (s e : Bound K) (a b : K) → s ≡ Included a → e ≡ Excluded b
       → Le (position_cmp order.cmp) (start_position order s) (end_position order e)
@@ -76,7 +74,7 @@ module _ {K : Type 0} (order : KeyOrder K) (lawful : IsLawful order) where
       → Le (position_cmp order.cmp) (start_position order s) (end_position order e)
       → Below order a b
   unfolding PLe PLt
-  excluded_included s e a b p q h = grind (arith, common_steps, position_total, equal_bounds_reach, less_unless_equal, lt_le_trans, start_after)
+  excluded_included s e a b p q h = grind arith
 
   pub excluded_excluded : (s e : Bound K) (a b : K) → s ≡ Excluded a → e ≡ Excluded b
       → Le (position_cmp order.cmp) (start_position order s) (end_position order e)
@@ -98,7 +96,7 @@ module _ {K : Type 0} (order : KeyOrder K) (lawful : IsLawful order) where
   -- a told end stands where the unbounded bound does
   told_start_by : (o : Option K) → order.least ≡ o → (s : Bound K)
       → start_position order (told_bound o s) ≡ start_position order s
-  told_start_by o e v2 = grind (arith, common_steps)
+  told_start_by o e v2 = grind arith
 
   pub told_start : (s : Bound K)
       → start_position order (told_bound order.least s) ≡ start_position order s
@@ -106,7 +104,7 @@ module _ {K : Type 0} (order : KeyOrder K) (lawful : IsLawful order) where
 
   told_end_by : (o : Option K) → order.greatest ≡ o → (e : Bound K)
       → end_position order (told_bound o e) ≡ end_position order e
-  told_end_by o g v2 = grind (arith, common_steps)
+  told_end_by o g v2 = grind arith
 
   pub told_end : (e : Bound K)
       → end_position order (told_bound order.greatest e) ≡ end_position order e
@@ -114,7 +112,7 @@ module _ {K : Type 0} (order : KeyOrder K) (lawful : IsLawful order) where
 
   known_by : (o : Option K) → ((m : K) → o ≡ Some m → order.is_key m) → (b : Bound K)
       → IsKnownBound order b → IsKnownBound order (told_bound o b)
-  known_by o h v2 known = grind (arith, common_steps)
+  known_by o h v2 known = grind arith
 
   pub known_start : (s : Bound K) → IsKnownBound order s
       → IsKnownBound order (told_bound order.least s)
@@ -127,7 +125,7 @@ module _ {K : Type 0} (order : KeyOrder K) (lawful : IsLawful order) where
   pub reach_full : (r : AnyRange K) → ¬ IsEmptyRange order r
       → is_gt (position_cmp order.cmp (start_position order r.start) (end_position order r.end))
       ≡ false
-  reach_full r full = grind (arith, common_steps, not_greater)
+  reach_full r full = grind arith
 
   -- the start of a nonempty range is not past its end, after what is told is put in
   pub told_reach : (r : AnyRange K) → ¬ IsEmptyRange order r
@@ -138,7 +136,7 @@ module _ {K : Type 0} (order : KeyOrder K) (lawful : IsLawful order) where
   -- a bound that names a key of the type names one after what is told is put in
   pub told_known : (told : Option K) (b : Bound K) → ((m : K) → told ≡ Some m → order.is_key m)
       → IsKnownBound order b → IsKnownBound order (told_bound told b)
-  told_known told v1 keys known = grind (arith, common_steps)
+  told_known told v1 keys known = grind arith
 
   pub full_measure : (len : K → ℕ) (distance : K → K → ℕ) (r : AnyRange K) → ¬ IsEmptyRange order r
       → range_measure order len distance r
@@ -161,14 +159,14 @@ module _ {K : Type 0} {order : KeyOrder K} {index : K → ℕ} {size : ℕ}
 
   start_from : (s : Bound K) (k : K) → IsKnownBound order s → order.is_key k → StartHolds order s k
       ↔ low s ≤ index k
-  start_from v0 k known key = grind (arith, common_steps, not_above_by_index, below_by_index)
+  start_from v0 k known key = grind (arith, common_steps)
 
   end_up_to : (e : Bound K) (k : K) → IsKnownBound order e → order.is_key k → EndHolds order e k
       ↔ index k < high e
-  end_up_to v0 k known key = grind (arith, common_steps, not_above_by_index, below_by_index, counted.in_size)
+  end_up_to v0 k known key = grind (arith, common_steps)
 
   high_fits : (e : Bound K) → IsKnownBound order e → high e ≤ size
-  high_fits v0 known = grind (arith, common_steps, counted.in_size)
+  high_fits v0 known = grind arith
 
   -- a range that holds a key holds as many as lie from its first index to its last
   number_held : (r : AnyRange K) → IsKnownRange order r → low r.start < high r.end
@@ -196,27 +194,27 @@ module _ {K : Type 0} {order : KeyOrder K} {index : K → ℕ} {size : ℕ}
   nonempty_range_measures : (r : AnyRange K) → IsKnownRange order r
       → Le (position_cmp order.cmp) (start_position order r.start) (end_position order r.end)
       → low r.start < high r.end
-  nonempty_range_measures r known h = grind (arith, common_steps, nonempty_holds, counted_lawful, counted_complete, start_from, end_up_to)
+  nonempty_range_measures r known h = grind (arith, common_steps)
 
   low_told : (o : Option K) → o ≡ Some counted.first → (s : Bound K)
       → (low (told_bound o s) ≡ low s) × (told_bound o s ≡ Unbounded → ⊥)
-  low_told o e v2 = grind (arith, common_steps, counted.first_index)
+  low_told o e v2 = grind arith
 
   high_told : (o : Option K) → o ≡ Some counted.last → (e : Bound K)
       → (high (told_bound o e) ≡ high e) × (told_bound o e ≡ Unbounded → ⊥)
-  high_told o g v2 = grind (arith, common_steps, counted.last_index)
+  high_told o g v2 = grind arith
 
   module _ (len : K → ℕ) (distance : K → K → ℕ) (each_one : (a : K) → len a ≡ 1)
       (apart : (a b : K) → distance a b ≡ index b - index a) where
     -- the measure between bounds that name a key is the number of indexes between them
     counts_between : (s e : Bound K) → (s ≡ Unbounded → ⊥) → (e ≡ Unbounded → ⊥) → low s < high e
         → measure_between len distance s e ≡ Some (high e - low s)
-    counts_between v0 e f g l = grind (arith, common_steps)
+    counts_between v0 e f g l = grind arith
 
     counts_told : (s e : Bound K) → low s < high e
         → measure_between len distance (told_bound order.least s) (told_bound order.greatest e)
         ≡ Some (high e - low s)
-    counts_told s e l = grind (arith, common_steps, low_told, counted.first_told, high_told, counted.last_told, counts_between)
+    counts_told s e l = grind arith
 
 module _ {K : Type 0} (order : KeyOrder K) (len : K → ℕ) (distance : K → K → ℕ)
     (counts : IsCountedMeasure order len distance) where
@@ -241,4 +239,4 @@ module _ {K : Type 0} (order : KeyOrder K) (len : K → ℕ) (distance : K → K
   -- the measure of a range is the number of its keys
   pub measure_is_number : (r : AnyRange K) → IsKnownRange order r
       → IsSomeAnd (range_measure order len distance r) (IsNumberOfKeys order (Holds order r))
-  measure_is_number r known = grind (arith, common_steps, number_by)
+  measure_is_number r known = grind (arith, number_by)

@@ -28,12 +28,11 @@ use Rattle.range_algebra.proofs.Places.{reaching_is_before_past, key_reaches, fl
 use Rattle.range_algebra.proofs.Completeness.{nonempty_holds}
 use Rattle.range_algebra.proofs.Canonical.{NotPast, IsBefore, KeyFrom, key_from}
 use Rattle.range_algebra.proofs.Commons.{later_is, earlier_is, common_holds, common_known}
-use Rattle.range_algebra.proofs.Pieces.{start_decided, end_decided, start_up, end_down}
-use Rattle.std.proofs.lemmas.Grind.{common_steps}
+use Rattle.range_algebra.proofs.Pieces.{start_up, end_down}
 use Rattle.std.proofs.Common.{arith}
 
 and_false : (t : Bool) → (t && false) ≡ false
-and_false v0 = grind (arith, common_steps)
+and_false v0 = grind arith
 
 module _ {K : Type 0} (order : KeyOrder K) (lawful : IsLawful order) where
   abbrev PLt : Position K → Position K → Type 0
@@ -157,7 +156,7 @@ module _ {K : Type 0} (order : KeyOrder K) (lawful : IsLawful order) where
         (end_position order r.end) h full
 
     greater_is_below : (p q : Position K) → position_cmp order.cmp p q ≡ Greater → PLt q p
-    greater_is_below p q e = grind (arith, common_steps, position_total)
+    greater_is_below p q e = grind arith
 
     lying_by : (a b d : Ordering)
         → position_cmp order.cmp (start_position order r.start) (start_position order s.start) ≡ a
@@ -261,7 +260,7 @@ module _ {K : Type 0} (order : KeyOrder K) (lawful : IsLawful order) where
     pub meets_is : IsTrue (matches (range_ordering order r s) false)
         ↔ (PLe (start_position order r.start) (end_position order s.end)
         × PLe (start_position order s.start) (end_position order r.end))
-    meets_is = grind (arith, common_steps, position_total, lying_of, and_false, lt_not_le)
+    meets_is = grind (arith, position_total, lying_of, and_false)
 
     -- where an answer says that neither lies before the other, it says that they intersect
     pub meets_by : (t : Bool) → IsTrue t
@@ -316,7 +315,7 @@ module _ {K : Type 0} (order : KeyOrder K) (lawful : IsLawful order) where
       shares_by t h = (λ e. meets_share (h.0 e), λ k. h.1 (share_meets k))
 
   pub held_or_not : (r : AnyRange K) (k : K) → Holds order r k ⊎ (¬ Holds order r k)
-  held_or_not r k = grind (arith, common_steps, start_decided, end_decided)
+  held_or_not r k = grind arith
 
   at_less : (a b : K) → PLt (Beside a At) (Beside b At) → Below order a b
   at_less a b h = less_unless_equal (order.cmp a b) h
@@ -358,7 +357,7 @@ module _ {K : Type 0} (order : KeyOrder K) (lawful : IsLawful order) where
   pub past_is_start : (e q : Position K) (complete : IsComplete order) → IsEnd order e
       → PLt (past order e) q → IsStart order (past order e)
   unfolding IsStart IsEnd
-  past_is_start v0 q complete h l = grind (arith, common_steps, excluded_start_is_one)
+  past_is_start v0 q complete h l = grind (arith, excluded_start_is_one)
 
   module _ (complete : IsComplete order) (r s : AnyRange K) (known : IsKnownRange order r)
       (others : IsKnownRange order s) (full : Full r) (full' : Full s) where
@@ -409,7 +408,7 @@ module _ {K : Type 0} (order : KeyOrder K) (lawful : IsLawful order) where
         ]
 
   swap_connected : (r s : AnyRange K) → AreConnected order r s → AreConnected order s r
-  swap_connected r s h a b k key key' key'' held held' l l' = grind (arith, common_steps)
+  swap_connected r s h a b k key key' key'' held held' l l' = grind arith
 
   -- a key between keys of the two that is outside both lies in a gap
   gap_of : (r s : AnyRange K) (a b k : K) → (¬ Holds order r k) → (¬ Holds order s k)
@@ -440,7 +439,7 @@ module _ {K : Type 0} (order : KeyOrder K) (lawful : IsLawful order) where
       ))
 
   and_true : (t : Bool) → (t && true) ≡ t
-  and_true v0 = grind (arith, common_steps)
+  and_true v0 = grind arith
 
   module _ (r s : AnyRange K) (known : IsKnownRange order r) (others : IsKnownRange order s)
       (full : Full r) (full' : Full s) where

@@ -4,11 +4,10 @@ use Rattle.std.specs.List.{AllByRecursion}
 use Rattle.std.specs.declared.cmp.Ordering.{Ordering}
 use Rattle.std.specs.declared.cmp.Ordering.TheVariants.{Less, Equal, Greater}
 use Rattle.std.specs.Ordering.{nat_cmp, MatchOrdering}
-use Rattle.std.specs.Cmp.{IsTotalOrder, tied_itself, ranks, ranked, nat_cmp_is}
+use Rattle.std.specs.Cmp.{IsTotalOrder, tied_itself, ranks}
 use Rattle.range_keys.specs.Order.{KeyOrder, Below, NotAbove}
-use Rattle.range_keys.specs.Counted.{IsCounted, not_above_is, is_not_above}
+use Rattle.range_keys.specs.Counted.{IsCounted}
 use Rattle.range_algebra.specs.Numbers.{Lists, AreRising, IsNumberOfKeys}
-use Rattle.std.proofs.lemmas.Grind.{common_steps}
 
 module _ {K : Type 0} (order : KeyOrder K) (total : IsTotalOrder order.cmp) where
   all_append : (P : K → Type 0) (xs ys : List K) → AllByRecursion P xs → AllByRecursion P ys
@@ -57,12 +56,12 @@ module _ {K : Type 0} (order : KeyOrder K) (total : IsTotalOrder order.cmp) wher
 
   -- there is no key of a kind that no key is of
   pub number_none : (P : K → Type 0) → ((k : K) → order.is_key k → ¬ P k) → IsNumberOfKeys order P 0
-  number_none v0 none = grind (arith, common_steps)
+  number_none v0 none = grind arith
 
   -- keys of the same kind are as many
   pub number_same : (P Q : K → Type 0) (n : ℕ) → ((k : K) → order.is_key k → P k ↔ Q k)
       → IsNumberOfKeys order P n → IsNumberOfKeys order Q n
-  number_same v0 v1 n same h = grind (arith, common_steps)
+  number_same v0 v1 n same h = grind arith
 
   -- keys of two kinds, of which all of the one are below all of the other, add up
   pub number_both : (P Q : K → Type 0) (m n : ℕ)
@@ -95,11 +94,11 @@ module _ {K : Type 0} {order : KeyOrder K} {index : K → ℕ} {size : ℕ}
   -- keys lie as their indexes do
   pub below_by_index : (a b : K) → order.is_key a → order.is_key b → Below order a b
       ↔ index a < index b
-  below_by_index a b p q = grind (arith, common_steps, ranked, counted.by_index, nat_cmp_is)
+  below_by_index a b p q = grind arith
 
   pub not_above_by_index : (a b : K) → order.is_key a → order.is_key b → NotAbove order a b
       ↔ index a ≤ index b
-  not_above_by_index a b p q = grind (arith, common_steps, not_above_is, counted.by_index, is_not_above)
+  not_above_by_index a b p q = grind arith
 
   -- the key has one of the n indexes from low on
   abbrev pub IsFrom : ℕ → ℕ → K → Type 0

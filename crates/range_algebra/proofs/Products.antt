@@ -8,7 +8,7 @@ use Rattle.range_keys.specs.PositionOrder.{position_total}
 use Rattle.range_keys.specs.declared.inner.position.Position.{Position}
 use Rattle.range_keys.specs.declared.inner.position.Position.TheVariants.{Beside}
 use Rattle.range_keys.specs.declared.inner.position.Side.TheVariants.{At}
-use Rattle.range_keys.proofs.Orderings.{less_unless_equal, gt_is_greater}
+use Rattle.range_keys.proofs.Orderings.{less_unless_equal}
 use Rattle.range_algebra.specs.declared.any.AnyRange.{AnyRange}
 use Rattle.range_algebra.specs.declared.range.parts.ProductArg.{ProductArg}
 use Rattle.range_algebra.specs.declared.range.parts.ProductArg.TheVariants.{Subject, Object}
@@ -23,7 +23,6 @@ use Rattle.range_algebra.proofs.Holding.{start_holds, end_holds, empty_is_keyles
 use Rattle.range_algebra.proofs.Places.{reaching_is_before_past, flipped_bound_is_past, flipped_back, flipped_known}
 use Rattle.range_algebra.proofs.Commons.{later_over, earlier_under, common_holds}
 use Rattle.range_algebra.proofs.Pieces.{start_decided, end_decided, before_holds, after_holds, unless_holds, before_below, after_above}
-use Rattle.std.proofs.lemmas.Grind.{common_steps}
 use Rattle.std.proofs.Common.{arith}
 
 module _ {K : Type 0} (order : KeyOrder K) (lawful : IsLawful order) where
@@ -64,7 +63,7 @@ module _ {K : Type 0} (order : KeyOrder K) (lawful : IsLawful order) where
 
   unless_some : (r x : AnyRange K) (d : Bool) → is_empty_range order r ≡ d
       → (if d then None else Some r) ≡ Some x → is_empty_range order r ≡ false
-  unless_some r x v2 e h = grind (arith, common_steps)
+  unless_some r x v2 e h = grind arith
 
   -- there is a part before another range only where the range starts before it
   to_some : (r x : AnyRange K) (b : Bound K) (o : Option (Bound K)) → flipped b ≡ o
@@ -109,12 +108,12 @@ module _ {K : Type 0} (order : KeyOrder K) (lawful : IsLawful order) where
   start_over : (b : Bound K) (k : K) → order.is_key k → (¬ StartHolds order b k)
       → PLt (Beside k At) (start_position order b)
   unfolding PLt
-  start_over b k key h = grind (arith, common_steps, not_le, position_total, start_holds)
+  start_over b k key h = grind arith
 
   end_under : (b : Bound K) (k : K) → order.is_key k → (¬ EndHolds order b k)
       → PLt (end_position order b) (Beside k At)
   unfolding PLt
-  end_under b k key h = grind (arith, common_steps, not_le, position_total, end_holds)
+  end_under b k key h = grind (arith, end_holds)
 
   -- not both ranges have a part before the other
   no_before : (r s : AnyRange K) (k : K) → IsKnownRange order s → order.is_key k
@@ -159,27 +158,27 @@ module _ {K : Type 0} (order : KeyOrder K) (lawful : IsLawful order) where
   either_subject : (x y : Option (AnyRange K)) (k : K) → IsOfSubject order (either x y) k
       → RangeHolds order x k
   unfolding either
-  either_subject v0 y k h = grind (arith, common_steps)
+  either_subject v0 y k h = grind arith
 
   either_object : (x y : Option (AnyRange K)) (k : K) → IsOfObject order (either x y) k
       → RangeHolds order y k
   unfolding either
-  either_object v0 y k h = grind (arith, common_steps)
+  either_object v0 y k h = grind arith
 
   either_part : (x y : Option (AnyRange K)) (k : K) → PartHolds order (either x y) k
       → RangeHolds order x k ⊎ RangeHolds order y k
   unfolding either
-  either_part v0 y k h = grind (arith, common_steps)
+  either_part v0 y k h = grind arith
 
   either_first : (x y : Option (AnyRange K)) (k : K) → RangeHolds order x k
       → PartHolds order (either x y) k
   unfolding either
-  either_first v0 y k h = grind (arith, common_steps)
+  either_first v0 y k h = grind arith
 
   either_second : (x y : Option (AnyRange K)) (k : K) → x ≡ None → RangeHolds order y k
       → PartHolds order (either x y) k
   unfolding either
-  either_second v0 y k e h = grind (arith, common_steps)
+  either_second v0 y k e h = grind arith
 
   excluded_keys_are_below : (s : AnyRange K) (a b : K) → order.is_key a → order.is_key b
       → PLe (start_position order s.start) (end_position order s.end)
@@ -329,19 +328,19 @@ module _ {K : Type 0} (order : KeyOrder K) (lawful : IsLawful order) where
     }
 
     empty_range_is_keyless : (x : AnyRange K) → is_empty_range order x ≡ true → IsKeyless order x
-    empty_range_is_keyless x e = grind (arith, common_steps, empty_is_keyless, gt_is_greater)
+    empty_range_is_keyless x e = grind (arith, empty_is_keyless)
 
     object_part : (o : Option (AnyRange K)) (k : K) → PartHolds order (option_map Object o) k
         ↔ RangeHolds order o k
-    object_part v0 k = grind (arith, common_steps)
+    object_part v0 k = grind arith
 
     object_subject : (o : Option (AnyRange K)) (k : K) → IsOfSubject order (option_map Object o) k
         → ⊥
-    object_subject v0 k h = grind (arith, common_steps)
+    object_subject v0 k h = grind arith
 
     object_object : (o : Option (AnyRange K)) (k : K) → IsOfObject order (option_map Object o) k
         → RangeHolds order o k
-    object_object v0 k h = grind (arith, common_steps)
+    object_object v0 k h = grind arith
 
     first_empty : is_empty_range order r ≡ true
         → IsProduct order r s (record
@@ -387,7 +386,7 @@ module _ {K : Type 0} (order : KeyOrder K) (lawful : IsLawful order) where
     second_empty : is_empty_range order s ≡ true
         → IsProduct order r s (record
         { before = None; intersection = None; after = Some (Subject r) })
-    second_empty e = grind (arith, common_steps, empty_range_is_keyless)
+    second_empty e = grind (arith, empty_range_is_keyless)
 
     product_by : (d e : Bool) → is_empty_range order r ≡ d → is_empty_range order s ≡ e
         → IsProduct order r s (if d then record {
@@ -397,7 +396,7 @@ module _ {K : Type 0} (order : KeyOrder K) (lawful : IsLawful order) where
         }
         else (if e then record { before = None; intersection = None; after = Some (Subject r) }
         else full_product order r s))
-    product_by v0 e f g = grind (arith, common_steps, first_empty, second_empty, full_is)
+    product_by v0 e f g = grind (arith, first_empty, second_empty, full_is)
 
     pub product_is : IsProduct order r s (product order r s)
     product_is = product_by (is_empty_range order r) (is_empty_range order s) refl refl
