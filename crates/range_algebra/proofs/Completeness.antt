@@ -31,9 +31,6 @@ module _ {K : Type 0} (order : KeyOrder K) (lawful : IsLawful order)
   at_itself : (p : Position K) → is_gt (position_cmp order.cmp p p) ≡ false
   at_itself p = ap is_gt (tied_itself (position_total order.cmp lawful.total) p)
 
-  pub told_none : (a b : K) → order.succ a ≡ None → Tells order (order.succ a) b → ⊥
-  told_none a b e h = let h' : Tells order None b = rw e at h in h'
-
   key_lies_between : (a b : K)
       → Tells order (order.succ a) b ⊎
       ((c : K) × order.is_key c × Below order a c × Below order c b) → order.succ a ≡ None

@@ -178,9 +178,6 @@ module _ {K : Type 0} (order : KeyOrder K) (lawful : IsLawful order) where
         → HasNoGreatest order r
     no_greatest r known n k key h = no_greatest_by r.start r.end known.1 n k key h.0.0 h.0.1 h.1
 
-  answer_none : (o p : Option K) → SameAnswer order o p → p ≡ None → o ≡ None
-  answer_none v0 p h e = grind arith
-
   first_none_by : (r : AnyRange K) → IsComplete order → IsKnownRange order r → (p : Option K)
       → SameAnswer order (start_key order r.start) p → IfNone p (HasNoLeast order r)
   first_none_by r complete known v3 h = grind (arith, no_least)

@@ -1,6 +1,6 @@
 -- Over complete keys two nonempty ranges, the one before the other, touch exactly where no key lies
 -- between.
-use Rattle.std.proofs.Common.{◌≡◌, refl, sym, ap, subst, ◌∙◌, Bool, true, false, not, ◌||◌, if◌then◌else◌, IsTrue, ◌↔◌}
+use Rattle.std.proofs.Common.{◌≡◌, refl, sym, ap, subst, ◌∙◌, Bool, true, false, if◌then◌else◌, IsTrue, ◌↔◌}
 use Rattle.std.specs.declared.ops.Bound.{Bound}
 use Rattle.std.specs.declared.ops.Bound.TheVariants.{Included, Excluded, Unbounded}
 use Rattle.std.specs.declared.cmp.Ordering.{Ordering}
@@ -27,17 +27,11 @@ use Rattle.range_algebra.specs.Relations.{AreBelow, LiesBetween, AreJoined}
 use Rattle.std.proofs.lemmas.Grind.{common_steps}
 use Rattle.std.proofs.Common.{arith}
 
-read_flag : (t s : Bool) → (not t || not s) ≡ true → s ≡ true → t ≡ true → ⊥
-read_flag v0 s e f g = grind arith
-
 read_before : (A B C T U x y z w s : Bool)
     → is_before (if A then (if B then Before T else Intersecting x y)
     else (if C then After U else Intersecting z w)) s ≡ true
     → (B ≡ true) × (s ≡ true → T ≡ true → ⊥)
 read_before v0 v1 v2 v3 v4 x y z w s e = grind arith
-
-reversed_greater_is_less : (o : Ordering) → is_gt o ≡ true → ordering_reverse o ≡ Less
-reversed_greater_is_less v0 e = grind arith
 
 reversed_less_is_greater : (o p : Ordering) → p ≡ ordering_reverse o → o ≡ Less → is_gt p ≡ true
 reversed_less_is_greater o p e f = rw (e, f) refl
@@ -290,9 +284,6 @@ module _ {K : Type 0} (order : KeyOrder K) (lawful : IsLawful order) (complete :
       (end_position order r.end) ((holds_by_position order lawful r y key).0 here).0
       ((holds_by_position order lawful r y key).0 here).1)))
 
-  write_flag : (t u : Bool) → (u ≡ true → t ≡ true → ⊥) → (not t || not u) ≡ true
-  write_flag v0 u h = grind arith
-
   write_before : (A B C T U x y z w u : Bool) → A ≡ true → B ≡ true → (u ≡ true → T ≡ true → ⊥)
       → is_before (if A then (if B then Before T else Intersecting x y)
       else (if C then After U else Intersecting z w)) u ≡ true
@@ -315,9 +306,6 @@ told_after : (A B C T U x y z w t : Bool)
     → (if A then (if B then Before T else Intersecting x y)
     else (if C then After U else Intersecting z w)) ≡ After t → (C ≡ true) × (U ≡ t)
 told_after v0 v1 v2 v3 v4 x y z w t e = grind arith
-
-either_flag : (u : Bool) → (not u || not false) ≡ true
-either_flag v0 = grind arith
 
 write_after : (A B C T U x y z w : Bool) → A ≡ false → C ≡ true
     → is_after (if A then (if B then Before T else Intersecting x y)

@@ -5,7 +5,6 @@ use Rattle.std.specs.Option.{IsSomeAnd}
 use Rattle.std.specs.declared.ops.Bound.{Bound}
 use Rattle.std.specs.declared.ops.Bound.TheVariants.{Included, Excluded, Unbounded}
 use Rattle.std.specs.Ordering.{is_gt}
-use Rattle.std.specs.Cmp.{tied_itself}
 use Rattle.range_keys.specs.Order.{KeyOrder, IsLawful, IsMeasure, Below, NotAbove, Tells}
 use Rattle.range_keys.specs.Counted.{IsCountedMeasure, counted_lawful}
 use Rattle.range_keys.specs.Position.{start_position, end_position, position_cmp, at_told}
@@ -121,9 +120,6 @@ module _ {K : Type 0} (order : KeyOrder K) (lawful : IsLawful order) where
         ≡ distance a a + len a
     unfolding gap
     behind_key a = omega arith
-
-    no_distance : (a : K) → order.is_key a → distance a a ≡ 0
-    no_distance a key = measured.itself a a key key (tied_itself lawful.total a)
 
     at_key : (a : K) → order.is_key a → LiesAbove a (Beside a At) 0
     at_key a key = grind (arith, key_place, between_keys)

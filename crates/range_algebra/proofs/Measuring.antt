@@ -1,5 +1,5 @@
 -- The measure of a range fits, and over counted keys it is the number of keys that the range holds.
-use Rattle.std.proofs.Common.{◌≡◌, ℕ, ◌+◌, ◌-◌, ◌<◌, ◌≤◌, ◌↔◌, refl, sym, ap, ◌∙◌, arith, Option, Some, false}
+use Rattle.std.proofs.Common.{◌≡◌, ℕ, ◌+◌, ◌-◌, ◌<◌, ◌≤◌, ◌↔◌, refl, ap, arith, Option, Some, false}
 use Rattle.std.specs.declared.ops.Bound.{Bound}
 use Rattle.std.specs.declared.ops.Bound.TheVariants.{Included, Excluded, Unbounded}
 use Rattle.std.specs.declared.cmp.Ordering.{Ordering}
@@ -13,7 +13,7 @@ use Rattle.range_keys.specs.PositionOrder.{position_total}
 use Rattle.range_keys.specs.declared.inner.position.Position.{Position}
 use Rattle.range_keys.specs.declared.inner.position.Position.TheVariants.{Beside}
 use Rattle.range_keys.specs.declared.inner.position.Side.TheVariants.{Before, At, After}
-use Rattle.range_keys.proofs.Orderings.{any_then_equal, less_unless_equal}
+use Rattle.range_keys.proofs.Orderings.{less_unless_equal}
 use Rattle.range_algebra.specs.declared.any.AnyRange.{AnyRange}
 use Rattle.range_algebra.specs.Intervals.{Le, Lt}
 use Rattle.range_algebra.specs.Orders.{lt_le_trans, le_lt_trans, lt_trans}
@@ -40,10 +40,6 @@ module _ {K : Type 0} (order : KeyOrder K) (lawful : IsLawful order) where
       → PLt (at_told o (Beside b Before)) (Beside b At)
   unfolding PLt
   end_before b v1 e = grind (arith, pred_below)
-
-  places_order_keys : (a b : K) → PLe (Beside a At) (Beside b At) → NotAbove order a b
-  unfolding PLe
-  places_order_keys a b h = sym (ap is_gt (any_then_equal (order.cmp a b))) ∙ h
 
   equal_bounds_reach : (s e s' e' : Bound K) → s ≡ s' → e ≡ e'
       → Le (position_cmp order.cmp) (start_position order s) (end_position order e)
@@ -196,21 +192,8 @@ module _ {K : Type 0} {order : KeyOrder K} {index : K → ℕ} {size : ℕ}
       → low r.start < high r.end
   nonempty_range_measures r known h = grind (arith, common_steps)
 
-  low_told : (o : Option K) → o ≡ Some counted.first → (s : Bound K)
-      → (low (told_bound o s) ≡ low s) × (told_bound o s ≡ Unbounded → ⊥)
-  low_told o e v2 = grind arith
-
-  high_told : (o : Option K) → o ≡ Some counted.last → (e : Bound K)
-      → (high (told_bound o e) ≡ high e) × (told_bound o e ≡ Unbounded → ⊥)
-  high_told o g v2 = grind arith
-
   module _ (len : K → ℕ) (distance : K → K → ℕ) (each_one : (a : K) → len a ≡ 1)
       (apart : (a b : K) → distance a b ≡ index b - index a) where
-    -- the measure between bounds that name a key is the number of indexes between them
-    counts_between : (s e : Bound K) → (s ≡ Unbounded → ⊥) → (e ≡ Unbounded → ⊥) → low s < high e
-        → measure_between len distance s e ≡ Some (high e - low s)
-    counts_between v0 e f g l = grind arith
-
     counts_told : (s e : Bound K) → low s < high e
         → measure_between len distance (told_bound order.least s) (told_bound order.greatest e)
         ≡ Some (high e - low s)

@@ -5,7 +5,7 @@ use Rattle.std.specs.declared.cmp.Ordering.{Ordering}
 use Rattle.std.specs.declared.cmp.Ordering.TheVariants.{Less, Equal, Greater}
 use Rattle.std.specs.Ordering.{nat_cmp, MatchOrdering}
 use Rattle.std.specs.Cmp.{IsTotalOrder, tied_itself, ranks}
-use Rattle.range_keys.specs.Order.{KeyOrder, Below, NotAbove}
+use Rattle.range_keys.specs.Order.{KeyOrder, Below}
 use Rattle.range_keys.specs.Counted.{IsCounted}
 use Rattle.range_algebra.specs.Numbers.{Lists, AreRising, IsNumberOfKeys}
 
@@ -95,10 +95,6 @@ module _ {K : Type 0} {order : KeyOrder K} {index : K → ℕ} {size : ℕ}
   pub below_by_index : (a b : K) → order.is_key a → order.is_key b → Below order a b
       ↔ index a < index b
   below_by_index a b p q = grind arith
-
-  pub not_above_by_index : (a b : K) → order.is_key a → order.is_key b → NotAbove order a b
-      ↔ index a ≤ index b
-  not_above_by_index a b p q = grind arith
 
   -- the key has one of the n indexes from low on
   abbrev pub IsFrom : ℕ → ℕ → K → Type 0
