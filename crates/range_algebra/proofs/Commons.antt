@@ -2,7 +2,7 @@
 use Rattle.std.proofs.Common.{◌≡◌, refl, ap, ◌∙◌, ◌↔◌, ◌⊎◌, inl, inr, if◌then◌else◌}
 use Rattle.std.specs.declared.ops.Bound.{Bound}
 use Rattle.std.specs.declared.cmp.Ordering.{Ordering}
-use Rattle.std.specs.declared.cmp.Ordering.TheVariants.{Less, Equal, Greater}
+use Rattle.std.specs.declared.cmp.Ordering.TheVariants.{Greater}
 use Rattle.std.specs.Ordering.{is_lt, is_gt, ordering_reverse}
 use Rattle.std.specs.Cmp.{IsTotalOrder}
 use Rattle.range_keys.specs.Order.{KeyOrder, IsLawful}
@@ -14,10 +14,11 @@ use Rattle.range_keys.specs.declared.inner.position.Side.TheVariants.{At}
 use Rattle.range_algebra.specs.declared.any.AnyRange.{AnyRange}
 use Rattle.range_algebra.specs.Intervals.{Le}
 use Rattle.range_algebra.specs.Orders.{le_refl, lt_le, eq_ge, le_trans}
-use Rattle.range_algebra.specs.Range.{StartHolds, EndHolds, Holds, IsKnownBound, IsKnownRange}
+use Rattle.range_algebra.specs.Range.{StartHolds, EndHolds, Holds, IsKnownRange}
 use Rattle.range_algebra.specs.Combined.{later_start, earlier_end, earlier_start, later_end, common}
 use Rattle.range_algebra.proofs.Holding.{start_holds, end_holds}
 use Rattle.std.proofs.Common.{arith}
+use Rattle.std.proofs.Common.{rules}
 
 module _ {L : Type 0} (cmp : L → L → Ordering) (total : IsTotalOrder cmp) where
   -- what is greater the other way round is at most
@@ -68,24 +69,7 @@ module _ {K : Type 0} (order : KeyOrder K) (lawful : IsLawful order) where
     first_by : (o : Ordering) → places (start_position order a) (start_position order b) ≡ o
         → Le places (start_position order (if is_lt o then a else b)) (start_position order a)
         × Le places (start_position order (if is_lt o then a else b)) (start_position order b)
-    first_by Less e = let t =
-        position_total order.cmp
-        lawful.total in (
-          le_refl places t (start_position order a),
-          lt_le places t (start_position order a) (start_position order b) e,
-        )
-    first_by Equal e = let t =
-        position_total order.cmp
-        lawful.total in (
-          eq_ge places t (start_position order a) (start_position order b) e,
-          le_refl places t (start_position order b),
-        )
-    first_by Greater e = let t =
-        position_total order.cmp
-        lawful.total in (
-          gt_le places t (start_position order a) (start_position order b) e,
-          le_refl places t (start_position order b),
-        )
+    first_by v0 e = search (rules, position_total, le_refl, lt_le, eq_ge, gt_le)
 
     pub first_under : Le places (start_position order (earlier_start order a b))
         (start_position order a)
@@ -138,14 +122,7 @@ module _ {K : Type 0} (order : KeyOrder K) (lawful : IsLawful order) where
 
   pub end_both : (a b : Bound K) (k : K) → order.is_key k → EndHolds order (earlier_end order a b) k
       ↔ (EndHolds order a k × EndHolds order b k)
-  end_both a b k key =
-      let under = earlier_under a b in (
-        λ h. (
-          end_above a (earlier_end order a b) k key under.0 h,
-          end_above b (earlier_end order a b) k key under.1 h,
-        ),
-        λ h. earlier_is a b (λ x. EndHolds order x k) h.0 h.1,
-      )
+  end_both a b k key = search (rules, earlier_under, end_above, earlier_is)
 
   pub start_either : (a b : Bound K) (k : K) → order.is_key k
       → StartHolds order (earlier_start order a b) k ↔ (StartHolds order a k ⊎ StartHolds order b k)
@@ -180,7 +157,4 @@ module _ {K : Type 0} (order : KeyOrder K) (lawful : IsLawful order) where
 
   pub common_known : (r s : AnyRange K) → IsKnownRange order r → IsKnownRange order s
       → IsKnownRange order (common order r s)
-  common_known r s h k = (
-    later_is r.start s.start (IsKnownBound order) h.0 k.0,
-    earlier_is r.end s.end (IsKnownBound order) h.1 k.1,
-  )
+  common_known r s h k = grind arith

@@ -16,6 +16,7 @@ use Rattle.range_algebra.specs.Range.{Holds, IsKeyless, IsEmptyRange, IsKnownRan
 use Rattle.range_algebra.specs.declared.any.AnyRange.{AnyRange}
 use Rattle.range_algebra.proofs.Holding.{holds_by_position}
 use Rattle.std.proofs.Common.{arith}
+use Rattle.std.proofs.Common.{rules}
 
 pub none_is_not_some : {K : Type 0} (o : Option K) → o ≡ None → IsSome o → ⊥
 none_is_not_some v0 e h = grind arith
@@ -89,6 +90,4 @@ module _ {K : Type 0} (order : KeyOrder K) (lawful : IsLawful order)
 
   pub keyless_is_empty : (r : AnyRange K) → IsKnownRange order r → IsKeyless order r
       → IsEmptyRange order r
-  keyless_is_empty r known none =
-      keyless_by r known none (position_cmp order.cmp (start_position order r.start)
-      (end_position order r.end)) refl
+  keyless_is_empty r known none = search (rules, keyless_by)

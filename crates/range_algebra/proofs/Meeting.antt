@@ -30,6 +30,7 @@ use Rattle.range_algebra.proofs.Canonical.{NotPast, IsBefore, KeyFrom, key_from}
 use Rattle.range_algebra.proofs.Commons.{later_is, earlier_is, common_holds, common_known}
 use Rattle.range_algebra.proofs.Pieces.{start_up, end_down}
 use Rattle.std.proofs.Common.{arith}
+use Rattle.std.proofs.Common.{rules}
 
 and_false : (t : Bool) → (t && false) ≡ false
 and_false v0 = grind arith
@@ -143,17 +144,11 @@ module _ {K : Type 0} (order : KeyOrder K) (lawful : IsLawful order) where
     lower_start_reaches_other_end : PLe (start_position order r.start)
         (start_position order s.start)
         → PLe (start_position order r.start) (end_position order s.end)
-    lower_start_reaches_other_end h =
-        le_trans (position_cmp order.cmp) (position_total order.cmp lawful.total)
-        (start_position order r.start) (start_position order s.start)
-        (end_position order s.end) h full'
+    lower_start_reaches_other_end h = search (rules, le_trans, position_total)
 
     upper_start_reaches_end : PLe (start_position order s.start) (start_position order r.start)
         → PLe (start_position order s.start) (end_position order r.end)
-    upper_start_reaches_end h =
-        le_trans (position_cmp order.cmp) (position_total order.cmp lawful.total)
-        (start_position order s.start) (start_position order r.start)
-        (end_position order r.end) h full
+    upper_start_reaches_end h = search (rules, le_trans, position_total)
 
     greater_is_below : (p q : Position K) → position_cmp order.cmp p q ≡ Greater → PLt q p
     greater_is_below p q e = grind arith
@@ -249,12 +244,7 @@ module _ {K : Type 0} (order : KeyOrder K) (lawful : IsLawful order) where
         ))
 
     pub lying_of : Lying r s
-    lying_of =
-        lying_by (position_cmp order.cmp (start_position order r.start)
-        (start_position order s.start))
-        (position_cmp order.cmp (end_position order r.end) (start_position order s.start))
-        (position_cmp order.cmp (start_position order r.start) (end_position order s.end)) refl refl
-        refl
+    lying_of = search (rules, lying_by)
 
     -- two nonempty ranges intersect where neither lies before the other
     pub meets_is : IsTrue (matches (range_ordering order r s) false)

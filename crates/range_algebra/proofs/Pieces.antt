@@ -13,6 +13,7 @@ use Rattle.range_algebra.specs.Parts.{is_empty_range, unless_empty, part_to, par
 use Rattle.range_algebra.proofs.Holding.{empty_is_keyless}
 use Rattle.range_algebra.proofs.Commons.{places, start_both, end_both}
 use Rattle.std.proofs.Common.{arith}
+use Rattle.std.proofs.Common.{rules}
 
 -- whether a range is empty is decided
 pub empty_or_not : {K : Type 0} (order : KeyOrder K) (r : AnyRange K)
@@ -158,8 +159,7 @@ module _ {K : Type 0} (order : KeyOrder K) (lawful : IsLawful order) where
   -- a range without another holds its keys outside the other
   pub difference_holds : (r s : AnyRange K) (k : K) → order.is_key k
       → DifferenceHolds order (difference order r s) k ↔ (Holds order r k × (¬ Holds order s k))
-  difference_holds r s k key =
-      difference_by r s k key (is_empty_range order r) (is_empty_range order s) refl refl
+  difference_holds r s k key = search (rules, difference_by)
 
   pub before_below : (r s : AnyRange K) (a b : K) → order.is_key a → order.is_key b
       → RangeHolds order (part_before order r s) a → StartHolds order s.start b → Below order a b

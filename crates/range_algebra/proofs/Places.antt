@@ -16,6 +16,7 @@ use Rattle.range_algebra.proofs.Holding.{holds_by_position}
 use Rattle.range_algebra.specs.Intervals.{Le, Lt}
 use Rattle.range_algebra.specs.Cuts.{past, lower, upper}
 use Rattle.std.proofs.Common.{arith}
+use Rattle.std.proofs.Common.{rules}
 
 module _ {K : Type 0} (order : KeyOrder K) (lawful : IsLawful order) where
   abbrev PLe : Position K → Position K → Type 0
@@ -38,8 +39,7 @@ module _ {K : Type 0} (order : KeyOrder K) (lawful : IsLawful order) where
       → PLe (Beside k At) (end_position order e)
       ↔ PLt (Beside k At) (past order (end_position order e))
   unfolding IsStart
-  key_reaches k e key h =
-      start_end (Beside k At) (end_position order e) key (ends_lie_at_ends order lawful e h)
+  key_reaches k e key h = search (rules, start_end, ends_lie_at_ends)
 
   flipped_by : (a p : K) (o : Option K) → Tells order o a
       → position_cmp order.cmp (at_told o (Beside p After)) (Beside a At) ≡ Equal

@@ -345,43 +345,7 @@ module _ {K : Type 0} (order : KeyOrder K) (lawful : IsLawful order) where
     first_empty : is_empty_range order r ≡ true
         → IsProduct order r s (record
         { before = None; intersection = None; after = option_map Object (unless_empty order s) })
-    first_empty e =
-        let none = empty_range_is_keyless r e in
-        record {
-          held = λ k key.
-              let part = object_part (unless_empty order s) k in
-              let whole = unless_holds order lawful s k key in (
-                λ h.
-                    elim h [
-                      | inl g ↦ absurd g
-                      | inr g ↦ elim g [ inl f ↦ absurd f | inr f ↦ inr (whole.0 (part.0 f)) ]
-                    ],
-                λ h.
-                    elim h [
-                      | inl g ↦ absurd (none k key g)
-                      | inr g ↦ inr (inr (part.1 (whole.1 g)))
-                    ],
-              );
-          shared = λ k key. (λ h. absurd h, λ h. none k key h.0);
-          subjects =
-              λ k key h.
-              elim h [
-                | inl g ↦ absurd g
-                | inr g ↦ absurd (object_subject (unless_empty order s) k g)
-              ];
-          objects =
-              λ k key h.
-              elim h [
-                | inl g ↦ absurd g
-                | inr g ↦ (
-                  (unless_holds order lawful s k key).0 (object_object (unless_empty order s) k g),
-                  none k key,
-                )
-              ];
-          before_shared = λ a b key key' h g. absurd h;
-          shared_after = λ a b key key' h g. absurd h;
-          before_after = λ a b key key' h g. absurd h;
-        }
+    first_empty e = grind (arith, empty_range_is_keyless, object_part, unless_holds, object_subject, object_object)
 
     second_empty : is_empty_range order s ≡ true
         → IsProduct order r s (record
