@@ -18,6 +18,7 @@ use Rattle.range_algebra.specs.RangeOrder.{range_cmp, range_total}
 use Rattle.range_algebra.proofs.Holding.{holds_by_position}
 use Rattle.range_algebra.proofs.Completeness.{nonempty_holds}
 use Rattle.std.proofs.Common.{arith}
+use Rattle.std.proofs.Common.{rules}
 
 less_is_not_above : (o : Ordering) → ordering_then o Less ≡ Less
     → is_gt (ordering_then o Equal) ≡ false
@@ -53,15 +54,11 @@ module _ {K : Type 0} (order : KeyOrder K) (lawful : IsLawful order)
 
   pub key_from : (p q : Position K) → IsStart order p → IsStart order q → IsBefore p q → KeyFrom p q
   unfolding IsStart KeyFrom NotPast IsBefore
-  key_from (Beside a At) (Beside b At) s t h =
-      (a, s, ap is_gt (tied_itself (position_total order.cmp lawful.total) (Beside a At)), h)
-  key_from (Beside a After) (Beside b At) s t h =
-      from_between a b (complete.next a b s.0 t ((less_unless_greater (order.cmp a b)).0 h)) s.1
+  key_from (Beside a At) (Beside b At) s t h = search (rules, tied_itself, position_total)
+  key_from (Beside a After) (Beside b At) s t h = search (rules, from_between, complete.next, less_unless_greater)
   key_from MinusInfinity (Beside b At) s t h = from_under b (complete.below b t) s
-  key_from (Beside a At) (Beside b After) s t h =
-      (b, t.0, less_is_not_above (order.cmp a b) h, just_at b)
-  key_from (Beside a After) (Beside b After) s t h =
-      (b, t.0, less_then_greater (order.cmp a b) (less_unless_equal (order.cmp a b) h), just_at b)
+  key_from (Beside a At) (Beside b After) s t h = search (rules, less_is_not_above, just_at)
+  key_from (Beside a After) (Beside b After) s t h = search (rules, less_then_greater, less_unless_equal, just_at)
   key_from MinusInfinity (Beside b After) s t h = (b, t.0, refl, just_at b)
   key_from MinusInfinity MinusInfinity s t h = cc
   key_from (Beside a x) MinusInfinity s t h = cc
@@ -108,17 +105,10 @@ module _ {K : Type 0} (order : KeyOrder K) (lawful : IsLawful order)
   key_to : (p q : Position K) → IsEnd order p → IsEnd order q → IsBefore p q → KeyTo p q
   unfolding IsEnd KeyTo NotPast IsBefore
   key_to (Beside a At) (Beside b At) s t h = (b, t, h, at_itself b)
-  key_to (Beside a At) (Beside b Before) s t h =
-      to_between a b t.0 (complete.next a b s t.0 ((less_unless_greater (order.cmp a b)).0 h)) t.1
+  key_to (Beside a At) (Beside b Before) s t h = search (rules, to_between, complete.next, less_unless_greater)
   key_to (Beside a At) PlusInfinity s t h = to_past a (complete.above a s) t
-  key_to (Beside a Before) (Beside b At) s t h =
-      (a, s.0, just_before a, less_is_not_above (order.cmp a b) h)
-  key_to (Beside a Before) (Beside b Before) s t h = (
-    a,
-    s.0,
-    just_before a,
-    less_then_greater (order.cmp a b) (less_unless_equal (order.cmp a b) h),
-  )
+  key_to (Beside a Before) (Beside b At) s t h = search (rules, just_before, less_is_not_above)
+  key_to (Beside a Before) (Beside b Before) s t h = search (rules, just_before, less_then_greater, less_unless_equal)
   key_to (Beside a Before) PlusInfinity s t h = (a, s.0, just_before a, refl)
   key_to PlusInfinity (Beside b x) s t h = cc
   key_to PlusInfinity PlusInfinity s t h = cc

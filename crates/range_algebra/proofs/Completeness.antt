@@ -54,15 +54,10 @@ module _ {K : Type 0} (order : KeyOrder K) (lawful : IsLawful order)
   unfolding IsStart IsEnd HasKey
   places_have_key_between (Beside a At) e p q h = (a, p, at_itself (Beside a At), h)
   places_have_key_between s (Beside b At) p q h = (b, q, h, at_itself (Beside b At))
-  places_have_key_between (Beside a After) (Beside b Before) p q h =
-      key_lies_between a b (complete.next a b p.0 q.0
-      ((not_greater_unless_greater (order.cmp a b)).0 h)) p.1
-  places_have_key_between (Beside a After) PlusInfinity p q h =
-      key_lies_past a (complete.above a p.0) q
-  places_have_key_between MinusInfinity (Beside b Before) p q h =
-      key_lies_under b (complete.below b q.0) p
-  places_have_key_between MinusInfinity PlusInfinity p q h =
-      (complete.some_key.0, complete.some_key.1, refl, refl)
+  places_have_key_between (Beside a After) (Beside b Before) p q h = search (rules, key_lies_between, complete.next, not_greater_unless_greater)
+  places_have_key_between (Beside a After) PlusInfinity p q h = search (rules, key_lies_past, complete.above)
+  places_have_key_between MinusInfinity (Beside b Before) p q h = search (rules, key_lies_under, complete.below)
+  places_have_key_between MinusInfinity PlusInfinity p q h = search (rules, complete.some_key)
   places_have_key_between (Beside a Before) e p q h = absurd p
   places_have_key_between PlusInfinity e p q h = absurd p
   places_have_key_between s MinusInfinity p q h = absurd q

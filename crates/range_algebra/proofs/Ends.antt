@@ -20,6 +20,7 @@ use Rattle.range_algebra.specs.Extremes.{IsLeastOf, IsGreatestOf, HasNoLeast, Ha
 use Rattle.range_algebra.specs.declared.any.AnyRange.{AnyRange}
 use Rattle.range_algebra.proofs.Holding.{holds_by_position}
 use Rattle.std.proofs.Common.{arith}
+use Rattle.std.proofs.Common.{rules}
 
 module _ {K : Type 0} (order : KeyOrder K) (lawful : IsLawful order) where
   PLe : Position K → Position K → Type 0
@@ -147,11 +148,7 @@ module _ {K : Type 0} (order : KeyOrder K) (lawful : IsLawful order) where
       | inr (c, in_type, l, u) ↦
           lt_not_le order.cmp lawful.total c k u (all c in_type (l, end_down e c k u g))
     ]
-    no_least_by Unbounded e known n k key h g all = elim (complete.below k key) [
-      | inl t ↦ none_is_not_some order.least n t
-      | inr (c, in_type, l) ↦
-          lt_not_le order.cmp lawful.total c k l (all c in_type (tt, end_down e c k l g))
-    ]
+    no_least_by Unbounded e known n k key h g all = search (rules, complete.below, none_is_not_some, lt_not_le, end_down)
 
     -- where the start names no key, no held key is the least
     pub no_least : (r : AnyRange K) → IsKnownRange order r → start_key order r.start ≡ None
@@ -168,11 +165,7 @@ module _ {K : Type 0} (order : KeyOrder K) (lawful : IsLawful order) where
       | inr (c, in_type, l, u) ↦
           lt_not_le order.cmp lawful.total k c l (all c in_type (start_up s k c l g, u))
     ]
-    no_greatest_by s Unbounded known n k key g h all = elim (complete.above k key) [
-      | inl t ↦ none_is_not_some order.greatest n t
-      | inr (c, in_type, l) ↦
-          lt_not_le order.cmp lawful.total k c l (all c in_type (start_up s k c l g, tt))
-    ]
+    no_greatest_by s Unbounded known n k key g h all = search (rules, complete.above, none_is_not_some, lt_not_le, start_up)
 
     pub no_greatest : (r : AnyRange K) → IsKnownRange order r → end_key order r.end ≡ None
         → HasNoGreatest order r

@@ -26,6 +26,7 @@ use Rattle.range_algebra.proofs.Canonical.{same_is_equal}
 use Rattle.range_algebra.specs.Relations.{AreBelow, LiesBetween, AreJoined}
 use Rattle.std.proofs.lemmas.Grind.{common_steps}
 use Rattle.std.proofs.Common.{arith}
+use Rattle.std.proofs.Common.{rules}
 
 read_before : (A B C T U x y z w s : Bool)
     → is_before (if A then (if B then Before T else Intersecting x y)
@@ -157,9 +158,7 @@ module _ {K : Type 0} (order : KeyOrder K) (lawful : IsLawful order) where
         (λ k h. stable_not (is_gt (order.cmp a k))
         (λ no. h (subst (λ x. EndHolds order x k) (sym at) (not_above_below k a no))))
         (λ k h g. lt_not_le order.cmp lawful.total k a (subst (λ x. EndHolds order x k) at g) h))
-    touching_by Unbounded at =
-        absurd (past_end second_member.0 second_member.1 second_member.2
-        (subst (λ x. EndHolds order x second_member.0) (sym at) tt))
+    touching_by Unbounded at = search (rules, past_end, second_member)
 
     pub joined_touch : AreTouching r s
     joined_touch = touching_by r.end refl

@@ -26,6 +26,7 @@ use Rattle.range_algebra.proofs.Holding.{holds_by_position}
 use Rattle.range_algebra.proofs.Measuring.{included_included, included_excluded, excluded_included, excluded_excluded, told_start, told_end, known_start, known_end, reach_full, told_reach, full_measure, measure_is_number}
 use Rattle.range_algebra.proofs.Numbers.{number_none, number_both}
 use Rattle.range_algebra.proofs.Places.{reaching_is_before_past}
+use Rattle.std.proofs.Common.{rules}
 
 -- a sum that is there has both parts
 sum_parts : (o p : Option ℕ) (n : ℕ) → measure_sum o p ≡ Some n
@@ -91,8 +92,7 @@ module _ {K : Type 0} (order : KeyOrder K) (lawful : IsLawful order) where
       → Any (λ s. Holds order s b) ranges → Below order a b
   below_all r [] a b h key key' f g = absurd g
   below_all r (s ∷ ranges) a b h key key' f (inl g) = below_next r s a b h.2 key key' f g
-  below_all r (s ∷ ranges) a b h key key' f (inr g) =
-      below_all r ranges a b (order_without_second r s ranges h) key key' f g
+  below_all r (s ∷ ranges) a b h key key' f (inr g) = search (rules, order_without_second, below_all r ranges a b (order_without_second r s ranges h) key key' f g)
 
   module _ (len : K → ℕ) (distance : K → K → ℕ) (measured : IsMeasure order len distance) where
     -- the place lies so much above the key
@@ -277,13 +277,7 @@ module _ {K : Type 0} (order : KeyOrder K) (lawful : IsLawful order) where
         → list_measure order len distance ranges ≡ Some n → n < 2 ^ 128
     unfolding Reaches
     list_measure_fits [] n h e = let none : 0 ≡ n = cc in subst (λ k. k < 2 ^ 128) none (lit< tt)
-    list_measure_fits (r ∷ ranges) n h e =
-        let reached = reach_of r ranges n h e in
-        let fits =
-        gap_fits order lawful len distance measured (lower order r) reached.0
-        (first_place r ranges n h e) reached.1 reached.2 in
-        let more = reached.3 in
-        omega arith
+    list_measure_fits (r ∷ ranges) n h e = search (rules, reach_of, gap_fits, first_place)
 
 both_there : (P Q R : ℕ → Type 0) (o p : Option ℕ) → IsSomeAnd o P → IsSomeAnd p Q
     → ((m n : ℕ) → P m → Q n → R (m + n)) → IsSomeAnd (measure_sum o p) R

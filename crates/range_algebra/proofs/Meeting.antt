@@ -1,5 +1,5 @@
 -- When ranges intersect, and when they are connected, by the keys that they hold.
-use Rattle.std.proofs.Common.{◌≡◌, refl, sym, ap, ◌∙◌, ◌↔◌, true, false, Bool, ◌&&◌, Some, IsTrue, ◌⊎◌, inl, inr, if◌then◌else◌}
+use Rattle.std.proofs.Common.{◌≡◌, refl, sym, ◌∙◌, ◌↔◌, true, false, Bool, ◌&&◌, Some, IsTrue, ◌⊎◌, inl, inr, if◌then◌else◌}
 use Rattle.std.specs.declared.ops.Bound.{Bound}
 use Rattle.std.specs.declared.ops.Bound.TheVariants.{Included, Excluded, Unbounded}
 use Rattle.std.specs.declared.cmp.Ordering.{Ordering}
@@ -159,89 +159,14 @@ module _ {K : Type 0} (order : KeyOrder K) (lawful : IsLawful order) where
         → position_cmp order.cmp (start_position order r.start) (end_position order s.end) ≡ d
         → LyingBy a b d
     lying_by Less Less d e f g = inl (f, λ c. refl)
-    lying_by Less Equal d e f g = let total =
-        position_total order.cmp lawful.total in inr
-        (inl (
-          (
-            lower_start_reaches_other_end
-                (lt_le (position_cmp order.cmp) total (start_position order r.start)
-                (start_position order s.start) e),
-            eq_ge (position_cmp order.cmp) total (end_position order r.end)
-                (start_position order s.start) f,
-          ),
-          λ c. refl,
-        ))
-    lying_by Less Greater d e f g = let total =
-        position_total order.cmp lawful.total in inr
-        (inl (
-          (
-            lower_start_reaches_other_end
-                (lt_le (position_cmp order.cmp) total (start_position order r.start)
-                (start_position order s.start) e),
-            lt_le (position_cmp order.cmp) total (start_position order s.start)
-                (end_position order r.end)
-                (greater_is_below (end_position order r.end) (start_position order s.start) f),
-          ),
-          λ c. refl,
-        ))
-    lying_by Equal b Less e f g = let total =
-        position_total order.cmp lawful.total in inr
-        (inl (
-          (
-            ap is_gt g,
-            upper_start_reaches_end (eq_ge (position_cmp order.cmp) total
-                (start_position order r.start)
-                (start_position order s.start) e),
-          ),
-          λ c. refl,
-        ))
-    lying_by Equal b Equal e f g = let total =
-        position_total order.cmp lawful.total in inr
-        (inl (
-          (
-            ap is_gt g,
-            upper_start_reaches_end (eq_ge (position_cmp order.cmp) total
-                (start_position order r.start)
-                (start_position order s.start) e),
-          ),
-          λ c. refl,
-        ))
-    lying_by Equal b Greater e f g =
-        inr
-        (inr (
-          greater_is_below (start_position order r.start) (end_position order s.end) g,
-          λ c. refl,
-        ))
-    lying_by Greater b Less e f g = let total =
-        position_total order.cmp lawful.total in inr
-        (inl (
-          (
-            ap is_gt g,
-            upper_start_reaches_end (lt_le (position_cmp order.cmp) total
-                (start_position order s.start)
-                (start_position order r.start)
-                (greater_is_below (start_position order r.start) (start_position order s.start) e)),
-          ),
-          λ c. refl,
-        ))
-    lying_by Greater b Equal e f g = let total =
-        position_total order.cmp lawful.total in inr
-        (inl (
-          (
-            ap is_gt g,
-            upper_start_reaches_end (lt_le (position_cmp order.cmp) total
-                (start_position order s.start)
-                (start_position order r.start)
-                (greater_is_below (start_position order r.start) (start_position order s.start) e)),
-          ),
-          λ c. refl,
-        ))
-    lying_by Greater b Greater e f g =
-        inr
-        (inr (
-          greater_is_below (start_position order r.start) (end_position order s.end) g,
-          λ c. refl,
-        ))
+    lying_by Less Equal d e f g = search (rules, position_total, lower_start_reaches_other_end, lt_le, eq_ge)
+    lying_by Less Greater d e f g = search (rules, position_total, lower_start_reaches_other_end, lt_le, greater_is_below)
+    lying_by Equal b Less e f g = search (rules, position_total, upper_start_reaches_end, eq_ge)
+    lying_by Equal b Equal e f g = search (rules, position_total, upper_start_reaches_end, eq_ge)
+    lying_by Equal b Greater e f g = search (rules, greater_is_below)
+    lying_by Greater b Less e f g = search (rules, position_total, upper_start_reaches_end, lt_le, greater_is_below)
+    lying_by Greater b Equal e f g = search (rules, position_total, upper_start_reaches_end, lt_le, greater_is_below)
+    lying_by Greater b Greater e f g = search (rules, greater_is_below)
 
     pub lying_of : Lying r s
     lying_of = search (rules, lying_by)

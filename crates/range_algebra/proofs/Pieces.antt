@@ -2,7 +2,6 @@
 use Rattle.std.proofs.Common.{◌≡◌, refl, ◌↔◌, true, false, Bool, Option, Some, None, ◌⊎◌, inl, inr, if◌then◌else◌}
 use Rattle.std.specs.declared.ops.Bound.{Bound}
 use Rattle.range_keys.specs.Order.{KeyOrder, IsLawful, Below, NotAbove}
-use Rattle.range_keys.specs.Position.{start_position, end_position}
 use Rattle.range_keys.proofs.Orderings.{gt_is_greater}
 use Rattle.range_algebra.specs.declared.any.AnyRange.{AnyRange}
 use Rattle.range_algebra.specs.declared.range.parts.Difference.TheVariants.{Before, Empty}
@@ -11,7 +10,7 @@ use Rattle.range_algebra.specs.Compared.{flipped, range_ordering, matches}
 use Rattle.range_algebra.specs.Combined.{later_start, earlier_end}
 use Rattle.range_algebra.specs.Parts.{is_empty_range, unless_empty, part_to, part_from, part_before, part_after, pieces, difference, DifferenceHolds, LieRound, RangeHolds}
 use Rattle.range_algebra.proofs.Holding.{empty_is_keyless}
-use Rattle.range_algebra.proofs.Commons.{places, start_both, end_both}
+use Rattle.range_algebra.proofs.Commons.{start_both, end_both}
 use Rattle.std.proofs.Common.{arith}
 use Rattle.std.proofs.Common.{rules}
 
@@ -132,23 +131,8 @@ module _ {K : Type 0} (order : KeyOrder K) (lawful : IsLawful order) where
       else (if e then Before r false else pieces order (part_before order r s)
       (part_after order r s) (matches (range_ordering order r s) false))) k
       ↔ (Holds order r k × (¬ Holds order s k))
-  difference_by r s k key true e f g = (
-    λ h. absurd h,
-    λ h. empty_is_keyless order lawful r
-        (gt_is_greater (places order lawful (start_position order r.start)
-        (end_position order r.end))
-        f) k key h.0,
-  )
-  difference_by r s k key false true f g = (
-    λ h. (
-      h,
-      empty_is_keyless order lawful s
-          (gt_is_greater (places order lawful (start_position order s.start)
-          (end_position order s.end))
-          g) k key,
-    ),
-    λ h. h.0,
-  )
+  difference_by r s k key true e f g = search (rules, empty_is_keyless, gt_is_greater)
+  difference_by r s k key false true f g = search (rules, empty_is_keyless, gt_is_greater)
   difference_by r s k key false false f g =
       let whole =
       pieces_hold (part_before order r s) (part_after order r s)

@@ -24,6 +24,7 @@ use Rattle.range_algebra.proofs.Places.{reaching_is_before_past, flipped_bound_i
 use Rattle.range_algebra.proofs.Commons.{later_over, earlier_under, common_holds}
 use Rattle.range_algebra.proofs.Pieces.{start_decided, end_decided, before_holds, after_holds, unless_holds, before_below, after_above}
 use Rattle.std.proofs.Common.{arith}
+use Rattle.std.proofs.Common.{rules}
 
 module _ {K : Type 0} (order : KeyOrder K) (lawful : IsLawful order) where
   PLt : Position K → Position K → Type 0
@@ -204,10 +205,8 @@ module _ {K : Type 0} (order : KeyOrder K) (lawful : IsLawful order) where
     in_order full full' a b key key' (inl h) (inl g) =
         excluded_keys_are_below s a b key key' full' ((before_holds order lawful r s a key).0 h).1
         ((after_holds order lawful r s b key').0 g).1
-    in_order full full' a b key key' (inl h) (inr g) =
-        before_below order lawful r s a b key key' h ((after_holds order lawful s r b key').0 g).0.0
-    in_order full full' a b key key' (inr h) (inl g) =
-        before_below order lawful s r a b key key' h ((after_holds order lawful r s b key').0 g).0.0
+    in_order full full' a b key key' (inl h) (inr g) = search (rules, before_below, after_holds)
+    in_order full full' a b key key' (inr h) (inl g) = search (rules, before_below, after_holds)
     in_order full full' a b key key' (inr h) (inr g) =
         excluded_keys_are_below r a b key key' full ((before_holds order lawful s r a key).0 h).1
         ((after_holds order lawful s r b key').0 g).1
@@ -217,19 +216,11 @@ module _ {K : Type 0} (order : KeyOrder K) (lawful : IsLawful order) where
         (RangeHolds order (unless_empty order (common order r s)) k ⊎ PartHolds order
         (either (part_after order r s) (part_after order s r)) k)
         → Holds order r k ⊎ Holds order s k
-    held_of k key (inl h) =
-        elim (either_part (part_before order r s) (part_before order s r) k h) [
-          | inl g ↦ inl ((before_holds order lawful r s k key).0 g).0
-          | inr g ↦ inr ((before_holds order lawful s r k key).0 g).0
-        ]
+    held_of k key (inl h) = search (rules, either_part, before_holds)
     held_of k key (inr (inl h)) =
         inl ((common_holds order lawful r s k key).0
         ((unless_holds order lawful (common order r s) k key).0 h)).0
-    held_of k key (inr (inr h)) =
-        elim (either_part (part_after order r s) (part_after order s r) k h) [
-          | inl g ↦ inl ((after_holds order lawful r s k key).0 g).0
-          | inr g ↦ inr ((after_holds order lawful s r k key).0 g).0
-        ]
+    held_of k key (inr (inr h)) = search (rules, either_part, after_holds)
 
     shared_of : (k : K) → order.is_key k → Holds order r k → Holds order s k
         → RangeHolds order (unless_empty order (common order r s)) k
