@@ -14,14 +14,15 @@ pub use Rattle.range_keys.proofs.Orderings.{not_greater}
 use Rattle.range_keys.proofs.Orderings.{eq_is_equal, less_unless_equal}
 use Rattle.range_keys.proofs.BoundPositions.{IsStart, IsEnd, excluded_start_is_one, starts_lie_at_starts, ends_lie_at_ends}
 use Rattle.range_algebra.specs.declared.any.AnyRange.{AnyRange}
+use Rattle.range_algebra.specs.declared.ordering.RangeOrdering.{RangeOrdering}
 use Rattle.range_algebra.specs.declared.ordering.RangeOrdering.TheVariants as lying
 use Rattle.range_algebra.specs.Intervals.{Le, Lt}
-use Rattle.range_algebra.specs.Orders.{eq_ge, lt_not_le, cases, not_le, not_lt, lt_le_trans, both}
+use Rattle.range_algebra.specs.Orders.{le_refl, eq_ge, lt_not_le, cases, not_le, not_lt, lt_le_trans, both}
 use Rattle.range_algebra.specs.Range.{StartHolds, EndHolds, Holds, IsKnownBound, IsKnownRange}
-use Rattle.range_algebra.specs.Compared.{flipped, start_is_at, starts_at_end, range_ordering, matches}
+use Rattle.range_algebra.specs.Compared.{flipped, start_is_at, starts_at_end, range_ordering, matches, is_before, is_after}
 use Rattle.range_algebra.specs.Combined.{earlier_end, common}
 use Rattle.range_algebra.specs.Cuts.{past, lower, upper}
-use Rattle.range_algebra.specs.Relations.{Meets, ShareKey, AreConnected}
+use Rattle.range_algebra.specs.Relations.{LiesBetween, Meets, ShareKey, AreConnected}
 use Rattle.range_algebra.proofs.Holding.{start_holds, end_holds, holds_by_position}
 use Rattle.range_algebra.proofs.Places.{held_between, reaching_is_before_past, key_reaches, flipped_bound_is_past, unbounded_end}
 use Rattle.range_algebra.proofs.Completeness.{nonempty_holds}
@@ -31,21 +32,40 @@ use Rattle.range_algebra.proofs.Pieces.{start_decided, end_decided, start_up, en
 use Rattle.std.specs.Cmp.{IsTotalOrder, upto}
 use Rattle.std.proofs.Common.{arith}
 
--- what the comparison of two nonempty intervals answers
+-- what a comparison of two intervals says
 module _ {L : Type 0} {cmp : L → L → Ordering} (total : IsTotalOrder cmp) (s e s' e' : L)
-    (full : Le cmp s e) (full' : Le cmp s' e') (t u x y z w : Bool) where
-  abbrev Answer : Bool → Bool
-  Answer c =
-      matches (if is_lt (cmp s s')
+    (t u x y z w : Bool) where
+  abbrev pub Compared : RangeOrdering
+  Compared =
+      if is_lt (cmp s s')
       then (if is_lt (cmp e s') then lying.Before t else lying.Intersecting x y)
-      else (if is_gt (cmp s e') then lying.After u else lying.Intersecting z w)) c
+      else (if is_gt (cmp s e') then lying.After u else lying.Intersecting z w)
 
-  answers_met : IsTrue (Answer false) ↔ (Le cmp s e' × Le cmp s' e)
-  answers_met = grind arith
+  pub told_before : (f : Bool) → Compared ≡ lying.Before f → Lt cmp e s' × (t ≡ f)
+  told_before f h = grind arith
 
-  answers_connected : IsTrue (Answer true)
-      ↔ ((Lt cmp e s' → IsTrue t) × (Lt cmp e' s → IsTrue u))
-  answers_connected = grind arith
+  pub told_after : (f : Bool) → Compared ≡ lying.After f → Lt cmp e' s × (u ≡ f)
+  told_after f h = grind arith
+
+  pub read_before : (c : Bool) → IsTrue (is_before Compared c)
+      → Lt cmp e s' × (IsTrue c → IsTrue t → ⊥)
+  read_before c h = grind arith
+
+  pub write_before : (c : Bool) → Lt cmp s s' → Lt cmp e s' → (IsTrue c → IsTrue t → ⊥)
+      → IsTrue (is_before Compared c)
+  write_before c h k f = grind arith
+
+  pub write_after : Lt cmp s' s → Lt cmp e' s → IsTrue (is_after Compared false)
+  write_after h k = grind arith
+
+  -- where the intervals are nonempty
+  module _ (full : Le cmp s e) (full' : Le cmp s' e') where
+    answers_met : IsTrue (matches Compared false) ↔ (Le cmp s e' × Le cmp s' e)
+    answers_met = grind arith
+
+    answers_connected : IsTrue (matches Compared true)
+        ↔ ((Lt cmp e s' → IsTrue t) × (Lt cmp e' s → IsTrue u))
+    answers_connected = grind arith
 
 -- of two ranges with keys on both sides of one, the one holds it, or the other does
 one_holds : {A B C D : Type 0} → A ⊎ (¬ A) → B ⊎ (¬ B) → C ⊎ (¬ C) → D ⊎ (¬ D) → A ⊎ C → B ⊎ D
@@ -108,7 +128,7 @@ module _ {K : Type 0} (order : KeyOrder K) (lawful : IsLawful order) where
         ↔ (PLe (start_position order r.start) (end_position order s.end)
         × PLe (start_position order s.start) (end_position order r.end))
     meets_is =
-        answers_met (position_total order.cmp lawful.total) _ _ _ _ full full' _ _ _ _ _ _
+        answers_met (position_total order.cmp lawful.total) _ _ _ _ _ _ _ _ _ _ full full'
 
     -- where an answer says that neither lies before the other, it says that they intersect
     pub meets_by : (t : Bool) → IsTrue t
@@ -160,15 +180,12 @@ module _ {K : Type 0} (order : KeyOrder K) (lawful : IsLawful order) where
   pub held_or_not : (r : AnyRange K) (k : K) → Holds order r k ⊎ (¬ Holds order r k)
   held_or_not r k = grind arith
 
-  at_less : (a b : K) → PLt (Beside a At) (Beside b At) → Below order a b
-  at_less a b h = less_unless_equal (order.cmp a b) h
-
   -- the key lies past the end of the one and before the start of the other
   abbrev Gap : AnyRange K → AnyRange K → K → Type 0
   Gap r s k = (¬ EndHolds order r.end k) × (¬ StartHolds order s.start k)
 
   -- where there is such a key the one lies before the other, and they do not touch
-  gap_apart : (r s : AnyRange K) (k : K) → IsKnownRange order r → IsKnownRange order s → Full s
+  pub gap_apart : (r s : AnyRange K) (k : K) → IsKnownRange order r → IsKnownRange order s → Full s
       → order.is_key k → Gap r s k
       → PLt (end_position order r.end) (start_position order s.start)
       × (IsTrue (starts_at_end order r.end (start_position order s.start)) → ⊥)
@@ -191,45 +208,55 @@ module _ {K : Type 0} (order : KeyOrder K) (lawful : IsLawful order) where
   unfolding IsStart IsEnd
   past_is_start v0 q complete h l = grind (arith, excluded_start_is_one)
 
+  -- a key from the place past the one on, before the start of the other, lies between their keys
+  pub between_places : (r s : AnyRange K) → IsKnownRange order r → IsKnownRange order s → (k : K)
+      → PLe (upper order r) (Beside k At) → PLt (Beside k At) (lower order s)
+      → LiesBetween order r s k
+  between_places r s known others k from upto = let total = position_total order.cmp lawful.total in (
+    λ a key h. less_unless_equal (order.cmp a k)
+        (lt_le_trans _ total (Beside a At) _ (Beside k At)
+        ((held_between order lawful r a known key).0 h).1 from),
+    λ b key h. less_unless_equal (order.cmp k b)
+        (lt_le_trans _ total (Beside k At) _ (Beside b At) upto
+        ((held_between order lawful s b others key).0 h).0),
+  )
+
   module _ (complete : IsComplete order) (r s : AnyRange K) (known : IsKnownRange order r)
-      (others : IsKnownRange order s) (full : Full r) (full' : Full s) where
-    -- where the one lies before the other with places between, some key lies between keys of the
-    -- two
-    room_between : PLt (upper order r) (lower order s) → AreConnected order r s → ⊥
+      (others : IsKnownRange order s) where
+    -- one that lies before the other touches it, or a key lies between their places
+    pub touch_or_key : Full s → PLt (end_position order r.end) (start_position order s.start)
+        → IsTrue (starts_at_end order r.end (start_position order s.start))
+        ⊎ KeyFrom order lawful complete (upper order r) (lower order s)
     unfolding NotPast IsBefore KeyFrom
-    room_between l connected =
-        let total = position_total order.cmp lawful.total in
-        let found =
-        key_from order lawful complete (upper order r) (lower order s)
-        (past_is_start (end_position order r.end) (lower order s) complete
-        (ends_lie_at_ends order lawful r.end known.1) l)
-        (starts_lie_at_starts order lawful s.start others.0) l in
-        let low = nonempty_holds order lawful complete r known full in
-        let high = nonempty_holds order lawful complete s others full' in
-        let under = ((held_between order lawful r low.0 known low.1).0 low.2).1 in
-        let over = ((held_between order lawful s high.0 others high.1).0 high.2).0 in
-        elim (connected low.0 high.0 found.0 low.1 high.1 found.1 (inl low.2) (inr high.2)
-        (at_less low.0 found.0 (lt_le_trans _ total (Beside low.0 At) _ (Beside found.0 At) under
-        found.2)) (at_less found.0 high.0 (lt_le_trans _ total (Beside found.0 At) _
-        (Beside high.0 At) found.3 over))) [
-          | inl h ↦
-              lt_not_le _ total _ _ ((held_between order lawful r found.0 known found.1).0 h).1
-              found.2
-          | inr h ↦
-              lt_not_le _ total _ _ found.3
-              ((held_between order lawful s found.0 others found.1).0 h).0
+    touch_or_key full l =
+        let le = (before_is r.end s.start known.1 others.0).0 l in
+        elim (cases _ (position_total order.cmp lawful.total) (upper order r) (lower order s)) [
+          | inl room ↦
+              inr (key_from order lawful complete (upper order r) (lower order s)
+              (past_is_start (end_position order r.end) (lower order s) complete
+              (ends_lie_at_ends order lawful r.end known.1) room)
+              (starts_lie_at_starts order lawful s.start others.0) room)
+          | inr at ↦ inl ((touches_is r.end s others full le).1 at)
         ]
 
-    connected_ranges_touch : PLt (end_position order r.end) (start_position order s.start)
-        → AreConnected order r s → IsTrue (starts_at_end order r.end (start_position order s.start))
-    connected_ranges_touch l connected =
-        let total = position_total order.cmp lawful.total in
-        let cmp = position_cmp order.cmp in
-        let le = (before_is r.end s.start known.1 others.0).0 l in
-        elim (cases cmp total (upper order r) (lower order s)) [
-          | inl room ↦ absurd (room_between room connected)
-          | inr at ↦ (touches_is r.end s others full' le).1 at
-        ]
+    connected_ranges_touch : Full r → Full s
+        → PLt (end_position order r.end) (start_position order s.start) → AreConnected order r s
+        → IsTrue (starts_at_end order r.end (start_position order s.start))
+    unfolding NotPast IsBefore KeyFrom
+    connected_ranges_touch full full' l connected = elim (touch_or_key full' l) [
+      | inl t ↦ t
+      | inr (k, key, from, upto) ↦
+          let low = nonempty_holds order lawful complete r known full in
+          let high = nonempty_holds order lawful complete s others full' in
+          let between = between_places r s known others k from upto in
+          let never : Below order k k =
+          elim (connected low.0 high.0 k low.1 high.1 key (inl low.2) (inr high.2)
+          (between.0 low.0 low.1 low.2) (between.1 high.0 high.1 high.2)) [
+            | inl h ↦ between.0 k key h
+            | inr h ↦ between.1 k key h
+          ] in
+          absurd (lt_not_le order.cmp lawful.total k k never (le_refl order.cmp lawful.total k))
+    ]
 
   swap_connected : (r s : AnyRange K) → AreConnected order r s → AreConnected order s r
   swap_connected r s h a b k key key' key'' held held' l l' = grind arith
@@ -242,7 +269,7 @@ module _ {K : Type 0} (order : KeyOrder K) (lawful : IsLawful order) where
         × (PLt (end_position order s.end) (start_position order r.start)
         → IsTrue (starts_at_end order s.end (start_position order r.start))))
     connects_is =
-        answers_connected (position_total order.cmp lawful.total) _ _ _ _ full full' _ _ _ _ _ _
+        answers_connected (position_total order.cmp lawful.total) _ _ _ _ _ _ _ _ _ _ full full'
 
     -- no key between keys of connected ranges is outside both
     pub connected_holds : IsTrue (matches (range_ordering order r s) true) → AreConnected order r s
