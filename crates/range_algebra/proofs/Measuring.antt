@@ -13,7 +13,7 @@ use Rattle.range_keys.specs.PositionOrder.{position_total}
 use Rattle.range_keys.specs.declared.inner.position.Position.{Position}
 use Rattle.range_keys.specs.declared.inner.position.Position.TheVariants.{Beside}
 use Rattle.range_keys.specs.declared.inner.position.Side.TheVariants.{Before, At, After}
-use Rattle.range_keys.proofs.Orderings.{less_unless_equal}
+use Rattle.range_keys.proofs.Orderings.{not_greater, less_unless_equal}
 use Rattle.range_algebra.specs.declared.any.AnyRange.{AnyRange}
 use Rattle.range_algebra.specs.Intervals.{Le, Lt}
 use Rattle.range_algebra.specs.Orders.{lt_le_trans, le_lt_trans, lt_trans}
@@ -58,13 +58,7 @@ module _ {K : Type 0} (order : KeyOrder K) (lawful : IsLawful order) where
       → Le (position_cmp order.cmp) (start_position order s) (end_position order e)
       → Below order a b
   unfolding PLe PLt
-  included_excluded s e a b p q h =
-      let total = position_total order.cmp lawful.total in
-      let h' : Le (position_cmp order.cmp) (Beside a At) (end_position order (Excluded b)) =
-      equal_bounds_reach s e (Included a) (Excluded b) p q h in
-      less_unless_equal (order.cmp a b)
-      (le_lt_trans (position_cmp order.cmp) total (Beside a At)
-      (end_position order (Excluded b)) (Beside b At) h' (end_before b (order.pred b) refl))
+  included_excluded s e a b p q h = grind (arith, le_lt_trans, lt_le_trans, lt_trans, pred_below)
 
   pub excluded_included : (s e : Bound K) (a b : K) → s ≡ Excluded a → e ≡ Included b
       → Le (position_cmp order.cmp) (start_position order s) (end_position order e)
@@ -79,55 +73,26 @@ module _ {K : Type 0} (order : KeyOrder K) (lawful : IsLawful order) where
   excluded_excluded s e a b p q h =
       let total = position_total order.cmp lawful.total in
       let h' : Le (position_cmp order.cmp) (start_position order (Excluded a))
-      (end_position order (Excluded b)) =
-      equal_bounds_reach s e (Excluded a) (Excluded b) p q h in
-      let low =
-      lt_le_trans (position_cmp order.cmp) total (Beside a At)
-      (start_position order (Excluded a)) (end_position order (Excluded b))
-      (start_after a (order.succ a) refl) h' in
+      (end_position order (Excluded b)) = rw (p, q) at h in
       less_unless_equal (order.cmp a b)
-      (lt_trans (position_cmp order.cmp) total (Beside a At) (end_position order (Excluded b))
-      (Beside b At) low (end_before b (order.pred b) refl))
+      (lt_trans _ total (Beside a At) _ (Beside b At)
+      (lt_le_trans _ total (Beside a At) _ _ (start_after a (order.succ a) refl) h')
+      (end_before b (order.pred b) refl))
 
   -- a told end stands where the unbounded bound does
-  told_start_by : (o : Option K) → order.least ≡ o → (s : Bound K)
-      → start_position order (told_bound o s) ≡ start_position order s
-  told_start_by o e v2 = grind arith
-
   pub told_start : (s : Bound K)
       → start_position order (told_bound order.least s) ≡ start_position order s
-  told_start s = told_start_by order.least refl s
-
-  told_end_by : (o : Option K) → order.greatest ≡ o → (e : Bound K)
-      → end_position order (told_bound o e) ≡ end_position order e
-  told_end_by o g v2 = grind arith
+  told_start s = grind arith
 
   pub told_end : (e : Bound K)
       → end_position order (told_bound order.greatest e) ≡ end_position order e
-  told_end e = told_end_by order.greatest refl e
-
-  known_by : (o : Option K) → ((m : K) → o ≡ Some m → order.is_key m) → (b : Bound K)
-      → IsKnownBound order b → IsKnownBound order (told_bound o b)
-  known_by o h v2 known = grind arith
-
-  pub known_start : (s : Bound K) → IsKnownBound order s
-      → IsKnownBound order (told_bound order.least s)
-  known_start s known = known_by order.least lawful.least_key s known
-
-  pub known_end : (e : Bound K) → IsKnownBound order e
-      → IsKnownBound order (told_bound order.greatest e)
-  known_end e known = known_by order.greatest lawful.greatest_key e known
-
-  pub reach_full : (r : AnyRange K) → ¬ IsEmptyRange order r
-      → is_gt (position_cmp order.cmp (start_position order r.start) (end_position order r.end))
-      ≡ false
-  reach_full r full = grind arith
+  told_end e = grind arith
 
   -- the start of a nonempty range is not past its end, after what is told is put in
   pub told_reach : (r : AnyRange K) → ¬ IsEmptyRange order r
       → Le (position_cmp order.cmp) (start_position order (told_bound order.least r.start))
       (end_position order (told_bound order.greatest r.end))
-  told_reach r full = rw (told_start r.start, told_end r.end) (reach_full r full)
+  told_reach r full = rw (told_start r.start, told_end r.end) (not_greater _ full)
 
   -- a bound that names a key of the type names one after what is told is put in
   pub told_known : (told : Option K) (b : Bound K) → ((m : K) → told ≡ Some m → order.is_key m)
@@ -138,7 +103,7 @@ module _ {K : Type 0} (order : KeyOrder K) (lawful : IsLawful order) where
       → range_measure order len distance r
       ≡ measure_between len distance (told_bound order.least r.start)
       (told_bound order.greatest r.end)
-  full_measure len distance r full = rw (reach_full r full) refl
+  full_measure len distance r full = rw (not_greater _ full) refl
 
 module _ {K : Type 0} {order : KeyOrder K} {index : K → ℕ} {size : ℕ}
     (counted : IsCounted order index size) where
