@@ -1,5 +1,5 @@
 -- Over complete keys a range whose start is not past its end holds a key.
-use Rattle.std.proofs.Common.{◌≡◌, refl, ap, Option, None, false, IsSome, ◌⊎◌}
+use Rattle.std.proofs.Common.{◌≡◌, refl, ap, Option, Some, None, false, IsSome, ◌⊎◌}
 use Rattle.std.specs.declared.cmp.Ordering.{Ordering}
 use Rattle.std.specs.declared.cmp.Ordering.TheVariants.{Less, Equal, Greater}
 use Rattle.std.specs.Ordering.{is_gt}
@@ -23,6 +23,13 @@ none_is_not_some v0 e h = grind arith
 
 module _ {K : Type 0} (order : KeyOrder K) (lawful : IsLawful order)
     (complete : IsComplete order) where
+  -- a key that is told as a neighbour tells one itself
+  pub no_pred : (a b : K) (o : Option K) → order.succ a ≡ o → Tells order o b → order.pred b ≡ None
+      → ⊥
+  no_pred a b None e t n = t
+  no_pred a b (Some c) e t n =
+      let same = lawful.pred_congr c b t in let told = lawful.succ_pred a c e in grind arith
+
   -- a key from the one place to the other
   HasKey : Position K → Position K → Type 0
   HasKey s e =

@@ -41,12 +41,6 @@ module _ {K : Type 0} (order : KeyOrder K) (lawful : IsLawful order) where
   unfolding PLt
   end_before b v1 e = grind (arith, pred_below)
 
-  equal_bounds_reach : (s e s' e' : Bound K) → s ≡ s' → e ≡ e'
-      → Le (position_cmp order.cmp) (start_position order s) (end_position order e)
-      → PLe (start_position order s') (end_position order e')
-  unfolding PLe
-  equal_bounds_reach s e s' e' p q h = grind arith
-
   -- the keys of the two bounds of a nonempty range do not cross
   pub included_included : (s e : Bound K) (a b : K) → s ≡ Included a → e ≡ Included b
       → Le (position_cmp order.cmp) (start_position order s) (end_position order e)
