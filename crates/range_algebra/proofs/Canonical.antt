@@ -1,8 +1,7 @@
 -- Over complete keys two nonempty ranges that hold the same keys have equal bounds.
 use Rattle.std.proofs.Common.{◌≡◌, refl, sym, ap, ◌∙◌, false, inl, inr}
-use Rattle.std.specs.declared.cmp.Ordering.{Ordering}
 use Rattle.std.specs.declared.cmp.Ordering.TheVariants.{Less, Equal}
-use Rattle.std.specs.Ordering.{ordering_then, is_gt}
+use Rattle.std.specs.Ordering.{is_gt}
 use Rattle.std.specs.Cmp.{alike_right, tied_itself, upto}
 use Rattle.range_keys.specs.Order.{KeyOrder, IsLawful, IsComplete}
 use Rattle.range_keys.specs.Position.{start_position, end_position, position_cmp}
