@@ -18,7 +18,7 @@ use Rattle.range_algebra.specs.declared.ordering.RangeOrdering.{RangeOrdering}
 use Rattle.range_algebra.specs.declared.ordering.RangeOrdering.TheVariants as lying
 use Rattle.range_algebra.specs.Intervals.{Le, Lt}
 use Rattle.range_algebra.specs.Orders.{le_refl, eq_ge, lt_not_le, cases, not_le, not_lt, lt_le_trans, both}
-use Rattle.range_algebra.specs.Range.{StartHolds, EndHolds, Holds, IsKnownBound, IsKnownRange}
+use Rattle.range_algebra.specs.Range.{IsEmptyRange, StartHolds, EndHolds, Holds, IsKnownBound, IsKnownRange}
 use Rattle.range_algebra.specs.Compared.{flipped, start_is_at, starts_at_end, range_ordering, matches, is_before, is_after}
 use Rattle.range_algebra.specs.Combined.{earlier_end, common}
 use Rattle.range_algebra.specs.Cuts.{past, lower, upper}
@@ -122,13 +122,14 @@ module _ {K : Type 0} (order : KeyOrder K) (lawful : IsLawful order) where
             (upto total _ _ _ (unbounded_end order lawful s.end known.1) le)),
       )
 
-  module _ (r s : AnyRange K) (full : Full r) (full' : Full s) where
+  module _ (r s : AnyRange K) (full : ¬ IsEmptyRange order r) (full' : ¬ IsEmptyRange order s) where
     -- two nonempty ranges intersect where neither lies before the other
     pub meets_is : IsTrue (matches (range_ordering order r s) false)
         ↔ (PLe (start_position order r.start) (end_position order s.end)
         × PLe (start_position order s.start) (end_position order r.end))
     meets_is =
-        answers_met (position_total order.cmp lawful.total) _ _ _ _ _ _ _ _ _ _ full full'
+        answers_met (position_total order.cmp lawful.total) _ _ _ _ _ _ _ _ _ _ (not_greater _ full)
+        (not_greater _ full')
 
     -- where an answer says that neither lies before the other, it says that they intersect
     pub meets_by : (t : Bool) → IsTrue t
@@ -157,9 +158,9 @@ module _ {K : Type 0} (order : KeyOrder K) (lawful : IsLawful order) where
           (λ x. PLe (start_position order x)
           (end_position order (earlier_end order r.end s.end)))
           (earlier_is order lawful r.end s.end
-          (λ y. PLe (start_position order r.start) (end_position order y)) full h.0)
+          (λ y. PLe (start_position order r.start) (end_position order y)) (not_greater _ full) h.0)
           (earlier_is order lawful r.end s.end
-          (λ y. PLe (start_position order s.start) (end_position order y)) h.1 full') in
+          (λ y. PLe (start_position order s.start) (end_position order y)) h.1 (not_greater _ full')) in
           let found =
           nonempty_holds order lawful complete (common order r s)
           (common_known order lawful r s known others) room in
@@ -262,14 +263,15 @@ module _ {K : Type 0} (order : KeyOrder K) (lawful : IsLawful order) where
   swap_connected r s h a b k key key' key'' held held' l l' = grind arith
 
   module _ (r s : AnyRange K) (known : IsKnownRange order r) (others : IsKnownRange order s)
-      (full : Full r) (full' : Full s) where
+      (full : ¬ IsEmptyRange order r) (full' : ¬ IsEmptyRange order s) where
     connects_is : IsTrue (matches (range_ordering order r s) true)
         ↔ ((PLt (end_position order r.end) (start_position order s.start)
         → IsTrue (starts_at_end order r.end (start_position order s.start)))
         × (PLt (end_position order s.end) (start_position order r.start)
         → IsTrue (starts_at_end order s.end (start_position order r.start))))
     connects_is =
-        answers_connected (position_total order.cmp lawful.total) _ _ _ _ _ _ _ _ _ _ full full'
+        answers_connected (position_total order.cmp lawful.total) _ _ _ _ _ _ _ _ _ _ (not_greater _ full)
+        (not_greater _ full')
 
     -- no key between keys of connected ranges is outside both
     pub connected_holds : IsTrue (matches (range_ordering order r s) true) → AreConnected order r s
@@ -284,9 +286,9 @@ module _ {K : Type 0} (order : KeyOrder K) (lawful : IsLawful order) where
         (start_decided order lawful s.start k) (end_decided order lawful s.end k)
         (elim held [ inl h ↦ inl (from r h) | inr h ↦ inr (from s h) ])
         (elim held' [ inl h ↦ inl (upto r h) | inr h ↦ inr (upto s h) ])
-        (λ g h. let gap = gap_apart r s k known others full' key'' (g, h) in
+        (λ g h. let gap = gap_apart r s k known others (not_greater _ full') key'' (g, h) in
         gap.1 ((connects_is.0 e).0 gap.0))
-        (λ g h. let gap = gap_apart s r k others known full key'' (g, h) in
+        (λ g h. let gap = gap_apart s r k others known (not_greater _ full) key'' (g, h) in
         gap.1 ((connects_is.0 e).1 gap.0))
 
     -- over complete keys that says that they are connected
@@ -294,6 +296,8 @@ module _ {K : Type 0} (order : KeyOrder K) (lawful : IsLawful order) where
         → IsTrue (matches (range_ordering order r s) true)
     holds_connected complete h =
         connects_is.1 (
-          λ l. connected_ranges_touch complete r s known others full full' l h,
-          λ l. connected_ranges_touch complete s r others known full' full l (swap_connected r s h),
+          λ l. connected_ranges_touch complete r s known others (not_greater _ full)
+              (not_greater _ full') l h,
+          λ l. connected_ranges_touch complete s r others known (not_greater _ full')
+              (not_greater _ full) l (swap_connected r s h),
         )
