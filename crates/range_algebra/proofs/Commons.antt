@@ -2,7 +2,7 @@
 use Rattle.std.proofs.Common.{◌≡◌, refl, ap, ◌∙◌, ◌↔◌, ◌⊎◌, inl, inr, if◌then◌else◌}
 use Rattle.std.specs.declared.ops.Bound.{Bound}
 use Rattle.std.specs.declared.cmp.Ordering.{Ordering}
-use Rattle.std.specs.declared.cmp.Ordering.TheVariants.{Less, Equal, Greater}
+use Rattle.std.specs.declared.cmp.Ordering.TheVariants.{Greater}
 use Rattle.std.specs.Ordering.{is_lt, is_gt, ordering_reverse}
 use Rattle.std.specs.Cmp.{IsTotalOrder}
 use Rattle.range_keys.specs.Order.{KeyOrder, IsLawful}
@@ -13,10 +13,12 @@ use Rattle.range_keys.specs.declared.inner.position.Position.TheVariants.{Beside
 use Rattle.range_keys.specs.declared.inner.position.Side.TheVariants.{At}
 use Rattle.range_algebra.specs.declared.any.AnyRange.{AnyRange}
 use Rattle.range_algebra.specs.Intervals.{Le}
-use Rattle.range_algebra.specs.Orders.{le_refl, lt_le, eq_le, eq_ge, le_trans}
-use Rattle.range_algebra.specs.Range.{StartHolds, EndHolds, Holds, IsKnownBound, IsKnownRange}
+use Rattle.range_algebra.specs.Orders.{le_refl, lt_le, eq_ge, le_trans}
+use Rattle.range_algebra.specs.Range.{StartHolds, EndHolds, Holds, IsKnownRange}
 use Rattle.range_algebra.specs.Combined.{later_start, earlier_end, earlier_start, later_end, common}
 use Rattle.range_algebra.proofs.Holding.{start_holds, end_holds}
+use Rattle.std.proofs.Common.{arith}
+use Rattle.std.proofs.Common.{rules}
 
 module _ {L : Type 0} (cmp : L → L → Ordering) (total : IsTotalOrder cmp) where
   -- what is greater the other way round is at most
@@ -31,24 +33,7 @@ module _ {K : Type 0} (order : KeyOrder K) (lawful : IsLawful order) where
     later_by : (o : Ordering) → places (start_position order a) (start_position order b) ≡ o
         → Le places (start_position order a) (start_position order (if is_lt o then b else a))
         × Le places (start_position order b) (start_position order (if is_lt o then b else a))
-    later_by Less e = let t =
-        position_total order.cmp
-        lawful.total in (
-          lt_le places t (start_position order a) (start_position order b) e,
-          le_refl places t (start_position order b),
-        )
-    later_by Equal e = let t =
-        position_total order.cmp
-        lawful.total in (
-          le_refl places t (start_position order a),
-          eq_ge places t (start_position order a) (start_position order b) e,
-        )
-    later_by Greater e = let t =
-        position_total order.cmp
-        lawful.total in (
-          le_refl places t (start_position order a),
-          gt_le places t (start_position order a) (start_position order b) e,
-        )
+    later_by v0 e = grind (arith, position_total)
 
     -- both starts are at most the later
     pub later_over : Le places (start_position order a)
@@ -59,24 +44,7 @@ module _ {K : Type 0} (order : KeyOrder K) (lawful : IsLawful order) where
     earlier_by : (o : Ordering) → places (end_position order a) (end_position order b) ≡ o
         → Le places (end_position order (if is_gt o then b else a)) (end_position order a)
         × Le places (end_position order (if is_gt o then b else a)) (end_position order b)
-    earlier_by Less e = let t =
-        position_total order.cmp
-        lawful.total in (
-          le_refl places t (end_position order a),
-          lt_le places t (end_position order a) (end_position order b) e,
-        )
-    earlier_by Equal e = let t =
-        position_total order.cmp
-        lawful.total in (
-          le_refl places t (end_position order a),
-          eq_le places t (end_position order a) (end_position order b) e,
-        )
-    earlier_by Greater e = let t =
-        position_total order.cmp
-        lawful.total in (
-          gt_le places t (end_position order a) (end_position order b) e,
-          le_refl places t (end_position order b),
-        )
+    earlier_by v0 e = grind arith
 
     -- the earlier is at most both ends
     pub earlier_under : Le places (end_position order (earlier_end order a b))
@@ -86,17 +54,13 @@ module _ {K : Type 0} (order : KeyOrder K) (lawful : IsLawful order) where
 
     -- the later start, and the earlier end, are one of the two
     later_is_by : (P : Bound K → Type 0) (o : Ordering) → P a → P b → P (if is_lt o then b else a)
-    later_is_by P Less h k = k
-    later_is_by P Equal h k = h
-    later_is_by P Greater h k = h
+    later_is_by v0 v1 h k = grind arith
 
     pub later_is : (P : Bound K → Type 0) → P a → P b → P (later_start order a b)
     later_is P h k = later_is_by P (places (start_position order a) (start_position order b)) h k
 
     earlier_is_by : (P : Bound K → Type 0) (o : Ordering) → P a → P b → P (if is_gt o then b else a)
-    earlier_is_by P Less h k = h
-    earlier_is_by P Equal h k = h
-    earlier_is_by P Greater h k = k
+    earlier_is_by v0 v1 h k = grind arith
 
     pub earlier_is : (P : Bound K → Type 0) → P a → P b → P (earlier_end order a b)
     earlier_is P h k = earlier_is_by P (places (end_position order a) (end_position order b)) h k
@@ -105,24 +69,7 @@ module _ {K : Type 0} (order : KeyOrder K) (lawful : IsLawful order) where
     first_by : (o : Ordering) → places (start_position order a) (start_position order b) ≡ o
         → Le places (start_position order (if is_lt o then a else b)) (start_position order a)
         × Le places (start_position order (if is_lt o then a else b)) (start_position order b)
-    first_by Less e = let t =
-        position_total order.cmp
-        lawful.total in (
-          le_refl places t (start_position order a),
-          lt_le places t (start_position order a) (start_position order b) e,
-        )
-    first_by Equal e = let t =
-        position_total order.cmp
-        lawful.total in (
-          eq_ge places t (start_position order a) (start_position order b) e,
-          le_refl places t (start_position order b),
-        )
-    first_by Greater e = let t =
-        position_total order.cmp
-        lawful.total in (
-          gt_le places t (start_position order a) (start_position order b) e,
-          le_refl places t (start_position order b),
-        )
+    first_by v0 e = search (rules, position_total, le_refl, lt_le, eq_ge, gt_le)
 
     pub first_under : Le places (start_position order (earlier_start order a b))
         (start_position order a)
@@ -133,38 +80,17 @@ module _ {K : Type 0} (order : KeyOrder K) (lawful : IsLawful order) where
     last_by : (o : Ordering) → places (end_position order a) (end_position order b) ≡ o
         → Le places (end_position order a) (end_position order (if is_gt o then a else b))
         × Le places (end_position order b) (end_position order (if is_gt o then a else b))
-    last_by Less e = let t =
-        position_total order.cmp
-        lawful.total in (
-          lt_le places t (end_position order a) (end_position order b) e,
-          le_refl places t (end_position order b),
-        )
-    last_by Equal e = let t =
-        position_total order.cmp
-        lawful.total in (
-          eq_le places t (end_position order a) (end_position order b) e,
-          le_refl places t (end_position order b),
-        )
-    last_by Greater e = let t =
-        position_total order.cmp
-        lawful.total in (
-          le_refl places t (end_position order a),
-          gt_le places t (end_position order a) (end_position order b) e,
-        )
+    last_by v0 e = grind arith
 
     pub last_over : Le places (end_position order a) (end_position order (later_end order a b))
         × Le places (end_position order b) (end_position order (later_end order a b))
     last_over = last_by (places (end_position order a) (end_position order b)) refl
 
     first_is_by : (P : Bound K → Type 0) (o : Ordering) → P (if is_lt o then a else b) → P a ⊎ P b
-    first_is_by P Less h = inl h
-    first_is_by P Equal h = inr h
-    first_is_by P Greater h = inr h
+    first_is_by v0 v1 h = grind arith
 
     last_is_by : (P : Bound K → Type 0) (o : Ordering) → P (if is_gt o then a else b) → P a ⊎ P b
-    last_is_by P Less h = inr h
-    last_is_by P Equal h = inr h
-    last_is_by P Greater h = inl h
+    last_is_by v0 v1 h = grind arith
 
   -- a key that a start holds is held by an earlier one
   pub start_below : (a b : Bound K) (k : K) → order.is_key k
@@ -196,14 +122,7 @@ module _ {K : Type 0} (order : KeyOrder K) (lawful : IsLawful order) where
 
   pub end_both : (a b : Bound K) (k : K) → order.is_key k → EndHolds order (earlier_end order a b) k
       ↔ (EndHolds order a k × EndHolds order b k)
-  end_both a b k key =
-      let under = earlier_under a b in (
-        λ h. (
-          end_above a (earlier_end order a b) k key under.0 h,
-          end_above b (earlier_end order a b) k key under.1 h,
-        ),
-        λ h. earlier_is a b (λ x. EndHolds order x k) h.0 h.1,
-      )
+  end_both a b k key = search (rules, earlier_under, end_above, earlier_is)
 
   pub start_either : (a b : Bound K) (k : K) → order.is_key k
       → StartHolds order (earlier_start order a b) k ↔ (StartHolds order a k ⊎ StartHolds order b k)
@@ -234,16 +153,8 @@ module _ {K : Type 0} (order : KeyOrder K) (lawful : IsLawful order) where
   -- the common part holds the keys of both
   pub common_holds : (r s : AnyRange K) (k : K) → order.is_key k → Holds order (common order r s) k
       ↔ (Holds order r k × Holds order s k)
-  common_holds r s k key =
-      let starts = start_both r.start s.start k key in
-      let ends = end_both r.end s.end k key in (
-        λ h. (((starts.0 h.0).0, (ends.0 h.1).0), ((starts.0 h.0).1, (ends.0 h.1).1)),
-        λ h. (starts.1 (h.0.0, h.1.0), ends.1 (h.0.1, h.1.1)),
-      )
+  common_holds r s k key = grind (arith, start_both, end_both)
 
   pub common_known : (r s : AnyRange K) → IsKnownRange order r → IsKnownRange order s
       → IsKnownRange order (common order r s)
-  common_known r s h k = (
-    later_is r.start s.start (IsKnownBound order) h.0 k.0,
-    earlier_is r.end s.end (IsKnownBound order) h.1 k.1,
-  )
+  common_known r s h k = grind arith

@@ -1,5 +1,5 @@
 -- Over complete keys a range whose start is not past its end holds a key.
-use Rattle.std.proofs.Common.{◌≡◌, refl, ap, Option, Some, None, false, IsSome, ◌⊎◌, inl, inr}
+use Rattle.std.proofs.Common.{◌≡◌, refl, ap, Option, Some, None, false, IsSome, ◌⊎◌}
 use Rattle.std.specs.declared.cmp.Ordering.{Ordering}
 use Rattle.std.specs.declared.cmp.Ordering.TheVariants.{Less, Equal, Greater}
 use Rattle.std.specs.Ordering.{is_gt}
@@ -10,18 +10,26 @@ use Rattle.range_keys.specs.declared.inner.position.Position.{Position}
 use Rattle.range_keys.specs.declared.inner.position.Position.TheVariants.{MinusInfinity, Beside, PlusInfinity}
 use Rattle.range_keys.specs.declared.inner.position.Side.TheVariants.{Before, At, After}
 use Rattle.range_keys.specs.PositionOrder.{position_total}
-use Rattle.range_keys.proofs.Orderings.{less_then_greater, not_greater_unless_greater}
+use Rattle.range_keys.proofs.Orderings.{not_greater_unless_greater}
 use Rattle.range_keys.proofs.BoundPositions.{IsStart, IsEnd, starts_lie_at_starts, ends_lie_at_ends}
 use Rattle.range_algebra.specs.Range.{Holds, IsKeyless, IsEmptyRange, IsKnownRange}
 use Rattle.range_algebra.specs.declared.any.AnyRange.{AnyRange}
 use Rattle.range_algebra.proofs.Holding.{holds_by_position}
+use Rattle.std.proofs.Common.{arith}
+use Rattle.std.proofs.Common.{rules}
 
 pub none_is_not_some : {K : Type 0} (o : Option K) → o ≡ None → IsSome o → ⊥
-none_is_not_some None e h = cc
-none_is_not_some (Some x) e h = cc
+none_is_not_some v0 e h = grind arith
 
 module _ {K : Type 0} (order : KeyOrder K) (lawful : IsLawful order)
     (complete : IsComplete order) where
+  -- a key that is told as a neighbour tells one itself
+  pub no_pred : (a b : K) (o : Option K) → order.succ a ≡ o → Tells order o b → order.pred b ≡ None
+      → ⊥
+  no_pred a b None e t n = t
+  no_pred a b (Some c) e t n =
+      let same = lawful.pred_congr c b t in let told = lawful.succ_pred a c e in grind arith
+
   -- a key from the one place to the other
   HasKey : Position K → Position K → Type 0
   HasKey s e =
@@ -31,44 +39,32 @@ module _ {K : Type 0} (order : KeyOrder K) (lawful : IsLawful order)
   at_itself : (p : Position K) → is_gt (position_cmp order.cmp p p) ≡ false
   at_itself p = ap is_gt (tied_itself (position_total order.cmp lawful.total) p)
 
-  pub told_none : (a b : K) → order.succ a ≡ None → Tells order (order.succ a) b → ⊥
-  told_none a b e h = let h' : Tells order None b = rw e at h in h'
-
   key_lies_between : (a b : K)
       → Tells order (order.succ a) b ⊎
       ((c : K) × order.is_key c × Below order a c × Below order c b) → order.succ a ≡ None
       → HasKey (Beside a After) (Beside b Before)
   unfolding HasKey
-  key_lies_between a b (inl t) e = absurd (told_none a b e t)
-  key_lies_between a b (inr (c, key, l, u)) e =
-      (c, key, less_then_greater (order.cmp a c) l, less_then_greater (order.cmp c b) u)
+  key_lies_between a b v2 e = grind arith
 
   key_lies_past : (a : K) → IsSome order.greatest ⊎ ((c : K) × order.is_key c × Below order a c)
       → order.greatest ≡ None → HasKey (Beside a After) PlusInfinity
   unfolding HasKey
-  key_lies_past a (inl t) e = absurd (none_is_not_some order.greatest e t)
-  key_lies_past a (inr (c, key, l)) e = (c, key, less_then_greater (order.cmp a c) l, refl)
+  key_lies_past a v1 e = grind arith
 
   key_lies_under : (b : K) → IsSome order.least ⊎ ((c : K) × order.is_key c × Below order c b)
       → order.least ≡ None → HasKey MinusInfinity (Beside b Before)
   unfolding HasKey
-  key_lies_under b (inl t) e = absurd (none_is_not_some order.least e t)
-  key_lies_under b (inr (c, key, l)) e = (c, key, refl, less_then_greater (order.cmp c b) l)
+  key_lies_under b v1 e = grind arith
 
   places_have_key_between : (s e : Position K) → IsStart order s → IsEnd order e
       → is_gt (position_cmp order.cmp s e) ≡ false → HasKey s e
   unfolding IsStart IsEnd HasKey
   places_have_key_between (Beside a At) e p q h = (a, p, at_itself (Beside a At), h)
   places_have_key_between s (Beside b At) p q h = (b, q, h, at_itself (Beside b At))
-  places_have_key_between (Beside a After) (Beside b Before) p q h =
-      key_lies_between a b (complete.next a b p.0 q.0
-      ((not_greater_unless_greater (order.cmp a b)).0 h)) p.1
-  places_have_key_between (Beside a After) PlusInfinity p q h =
-      key_lies_past a (complete.above a p.0) q
-  places_have_key_between MinusInfinity (Beside b Before) p q h =
-      key_lies_under b (complete.below b q.0) p
-  places_have_key_between MinusInfinity PlusInfinity p q h =
-      (complete.some_key.0, complete.some_key.1, refl, refl)
+  places_have_key_between (Beside a After) (Beside b Before) p q h = search (rules, key_lies_between, complete.next, not_greater_unless_greater)
+  places_have_key_between (Beside a After) PlusInfinity p q h = search (rules, key_lies_past, complete.above)
+  places_have_key_between MinusInfinity (Beside b Before) p q h = search (rules, key_lies_under, complete.below)
+  places_have_key_between MinusInfinity PlusInfinity p q h = search (rules, complete.some_key)
   places_have_key_between (Beside a Before) e p q h = absurd p
   places_have_key_between PlusInfinity e p q h = absurd p
   places_have_key_between s MinusInfinity p q h = absurd q
@@ -96,6 +92,4 @@ module _ {K : Type 0} (order : KeyOrder K) (lawful : IsLawful order)
 
   pub keyless_is_empty : (r : AnyRange K) → IsKnownRange order r → IsKeyless order r
       → IsEmptyRange order r
-  keyless_is_empty r known none =
-      keyless_by r known none (position_cmp order.cmp (start_position order r.start)
-      (end_position order r.end)) refl
+  keyless_is_empty r known none = search (rules, keyless_by)

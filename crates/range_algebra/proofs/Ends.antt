@@ -1,162 +1,76 @@
 -- The keys that a range's bounds name are its least and its greatest.
-use Rattle.std.proofs.Common.{◌≡◌, refl, sym, ap, subst, ◌∙◌, Option, Some, None, IfSome, IfNone, inl, inr}
+use Rattle.std.proofs.Common.{◌≡◌, refl, sym, ap, ◌∙◌, Option, Some, None, IfSome, IfNone, inl, inr}
 use Rattle.std.specs.declared.ops.Bound.{Bound}
 use Rattle.std.specs.declared.ops.Bound.TheVariants.{Included, Excluded, Unbounded}
 use Rattle.std.specs.declared.cmp.Ordering.TheVariants.{Equal}
 use Rattle.std.specs.Ordering.{is_gt}
 use Rattle.std.specs.Cmp.{alike_right}
-use Rattle.range_keys.specs.Order.{KeyOrder, IsLawful, IsComplete, Below, NotAbove, Tells, SameAnswer}
-use Rattle.range_keys.specs.Position.{start_position, end_position, position_cmp}
+use Rattle.range_keys.specs.Order.{KeyOrder, IsLawful, IsComplete, NotAbove, SameAnswer}
+use Rattle.range_keys.specs.Position.{start_position, end_position}
 use Rattle.range_keys.specs.PositionOrder.{position_total}
-use Rattle.range_keys.specs.declared.inner.position.Position.{Position}
 use Rattle.range_keys.specs.declared.inner.position.Position.TheVariants.{Beside}
 use Rattle.range_keys.specs.declared.inner.position.Side.TheVariants.{At}
 use Rattle.range_keys.proofs.Orderings.{not_greater, not_greater_unless_equal}
-use Rattle.range_algebra.proofs.Completeness.{none_is_not_some}
-use Rattle.range_algebra.specs.Intervals.{Le}
-use Rattle.range_algebra.specs.Orders.{le_refl, le_trans, lt_not_le, lt_le, lt_trans, le_lt_trans}
+use Rattle.range_algebra.proofs.Completeness.{no_pred, none_is_not_some}
+use Rattle.range_algebra.specs.Orders.{le_refl, lt_not_le}
 use Rattle.range_algebra.specs.Range.{StartHolds, EndHolds, Holds, IsEmptyRange, IsKnownBound, IsKnownRange, start_key, end_key}
 use Rattle.range_algebra.specs.Extremes.{IsLeastOf, IsGreatestOf, HasNoLeast, HasNoGreatest}
 use Rattle.range_algebra.specs.declared.any.AnyRange.{AnyRange}
-use Rattle.range_algebra.proofs.Holding.{holds_by_position, empty_is_keyless}
+use Rattle.range_algebra.proofs.Pieces.{start_up, end_down}
+use Rattle.range_algebra.proofs.Holding.{holds_by_position}
+use Rattle.std.proofs.Common.{arith}
 
 module _ {K : Type 0} (order : KeyOrder K) (lawful : IsLawful order) where
-  PLe : Position K → Position K → Type 0
-  PLe p q = Le (position_cmp order.cmp) p q
-
-  start_congr : (b : Bound K) (m k : K) → order.cmp m k ≡ Equal → StartHolds order b m
-      → StartHolds order b k
-  start_congr (Included a) m k e h = ap is_gt (sym (alike_right lawful.total m k a e)) ∙ h
-  start_congr (Excluded a) m k e h = sym (alike_right lawful.total m k a e) ∙ h
-  start_congr Unbounded m k e h = h
-
-  end_congr : (b : Bound K) (m k : K) → order.cmp m k ≡ Equal → EndHolds order b m
-      → EndHolds order b k
-  end_congr (Included a) m k e h = ap is_gt (sym (lawful.total.congr m k a e)) ∙ h
-  end_congr (Excluded a) m k e h = sym (lawful.total.congr m k a e) ∙ h
-  end_congr Unbounded m k e h = h
-
   -- a range that holds a key holds what equals it
   pub holds_congr : (r : AnyRange K) (m k : K) → order.cmp m k ≡ Equal → Holds order r m
       → Holds order r k
-  holds_congr r m k e h = (start_congr r.start m k e h.0, end_congr r.end m k e h.1)
+  holds_congr r m k e h = grind arith
 
   start_named : (b : Bound K) (m : K) → start_key order b ≡ Some m → IsKnownBound order b
       → (start_position order b ≡ Beside m At) × order.is_key m
-  start_named (Included a) m e key = let f : a ≡ m = cc in rw (← f) (refl, key)
-  start_named (Excluded a) m e key = (rw e refl, (lawful.succ_key a m e).1)
-  start_named Unbounded m e key = (rw e refl, lawful.least_key m e)
+  start_named v0 m e key = grind arith
 
   end_named : (b : Bound K) (m : K) → end_key order b ≡ Some m → IsKnownBound order b
       → (end_position order b ≡ Beside m At) × order.is_key m
-  end_named (Included a) m e key = let f : a ≡ m = cc in rw (← f) (refl, key)
-  end_named (Excluded a) m e key = (rw e refl, (lawful.pred_key m a e).0)
-  end_named Unbounded m e key = (rw e refl, lawful.greatest_key m e)
+  end_named v0 m e key = grind arith
 
   module _ (r : AnyRange K) (known : IsKnownRange order r) (full : ¬ IsEmptyRange order r) where
-    start_reaches_end : PLe (start_position order r.start) (end_position order r.end)
-    unfolding PLe
-    start_reaches_end =
-        not_greater (position_cmp order.cmp (start_position order r.start)
-        (end_position order r.end)) full
-
     least_at : (m k : K) → start_key order r.start ≡ Some m → order.cmp m k ≡ Equal
         → IsLeastOf order r k
-    unfolding PLe
     least_at m k e same =
         let named = start_named r.start m e known.0 in
-        let total = position_total order.cmp lawful.total in
-        let up : PLe (Beside m At) (end_position order r.end) =
-        subst (λ p. PLe p (end_position order r.end)) named.0 start_reaches_end in
-        let held =
-        (holds_by_position order lawful r m named.1).1 (
-          subst (λ p. PLe p (Beside m At)) (sym named.0)
-              (le_refl (position_cmp order.cmp) total (Beside m At)),
-          up,
-        ) in (
+        let itself = le_refl _ (position_total order.cmp lawful.total) (Beside m At) in
+        let reach = not_greater _ full in
+        let held = (holds_by_position order lawful r m named.1).1 (rw named.0 itself, rw named.0 at reach) in (
           holds_congr r m k same held,
           λ j key h.
-              let low : PLe (start_position order r.start) (Beside j At) =
-              ((holds_by_position order lawful r j key).0 h).0 in
-              let near : PLe (Beside m At) (Beside j At) =
-              subst (λ p. PLe p (Beside j At)) named.0 low in
+              let near = ((holds_by_position order lawful r j key).0 h).0 in
               ap is_gt (sym (lawful.total.congr m k j same))
-              ∙ not_greater_unless_equal (order.cmp m j) near,
+              ∙ not_greater_unless_equal (order.cmp m j) (rw named.0 at near),
         )
 
     greatest_at : (m k : K) → end_key order r.end ≡ Some m → order.cmp m k ≡ Equal
         → IsGreatestOf order r k
-    unfolding PLe
     greatest_at m k e same =
         let named = end_named r.end m e known.1 in
-        let total = position_total order.cmp lawful.total in
-        let low : PLe (start_position order r.start) (Beside m At) =
-        subst (λ p. PLe (start_position order r.start) p) named.0 start_reaches_end in
-        let held =
-        (holds_by_position order lawful r m named.1).1 (
-          low,
-          subst (λ p. PLe (Beside m At) p) (sym named.0)
-              (le_refl (position_cmp order.cmp) total (Beside m At)),
-        ) in (
+        let itself = le_refl _ (position_total order.cmp lawful.total) (Beside m At) in
+        let reach = not_greater _ full in
+        let held = (holds_by_position order lawful r m named.1).1 (rw named.0 at reach, rw named.0 itself) in (
           holds_congr r m k same held,
           λ j key h.
-              let up : PLe (Beside j At) (end_position order r.end) =
-              ((holds_by_position order lawful r j key).0 h).1 in
-              let near : PLe (Beside j At) (Beside m At) =
-              subst (λ p. PLe (Beside j At) p) named.0 up in
+              let near = ((holds_by_position order lawful r j key).0 h).1 in
               ap is_gt (sym (alike_right lawful.total m k j same))
-              ∙ not_greater_unless_equal (order.cmp j m) near,
+              ∙ not_greater_unless_equal (order.cmp j m) (rw named.0 at near),
         )
-
-    least_by : (o p : Option K) → start_key order r.start ≡ o → SameAnswer order o p
-        → IfSome p (IsLeastOf order r)
-    least_by None None e h = tt
-    least_by None (Some k) e h = absurd h
-    least_by (Some m) None e h = tt
-    least_by (Some m) (Some k) e h = least_at m k e h
 
     -- what equals the key that the start names is the least
     pub first_is_least : (p : Option K) → SameAnswer order (start_key order r.start) p
         → IfSome p (IsLeastOf order r)
-    first_is_least p h = least_by (start_key order r.start) p refl h
-
-    greatest_by : (o p : Option K) → end_key order r.end ≡ o → SameAnswer order o p
-        → IfSome p (IsGreatestOf order r)
-    greatest_by None None e h = tt
-    greatest_by None (Some k) e h = absurd h
-    greatest_by (Some m) None e h = tt
-    greatest_by (Some m) (Some k) e h = greatest_at m k e h
+    first_is_least p h = grind (arith, least_at)
 
     pub last_is_greatest : (p : Option K) → SameAnswer order (end_key order r.end) p
         → IfSome p (IsGreatestOf order r)
-    last_is_greatest p h = greatest_by (end_key order r.end) p refl h
-
-  start_up : (b : Bound K) (j k : K) → Below order j k → StartHolds order b j → StartHolds order b k
-  start_up (Included a) j k l h =
-      lt_le order.cmp lawful.total a k (le_lt_trans order.cmp lawful.total a j k h l)
-  start_up (Excluded a) j k l h = lt_trans order.cmp lawful.total a j k h l
-  start_up Unbounded j k l h = h
-
-  end_down : (b : Bound K) (j k : K) → Below order j k → EndHolds order b k → EndHolds order b j
-  end_down (Included b) j k l h =
-      le_trans order.cmp lawful.total j k b (lt_le order.cmp lawful.total j k l) h
-  end_down (Excluded b) j k l h = lt_trans order.cmp lawful.total j k b l h
-  end_down Unbounded j k l h = h
-
-  told_none : (o : Option K) (b : K) → o ≡ None → Tells order o b → ⊥
-  told_none None b e h = h
-  told_none (Some x) b e h = cc
-
-  no_pred : (a b : K) (o : Option K) → order.succ a ≡ o → Tells order o b → order.pred b ≡ None → ⊥
-  no_pred a b None e t n = t
-  no_pred a b (Some c) e t n =
-      clash (order.pred c) (order.pred b) (lawful.pred_congr c b t) (lawful.succ_pred a c e) n
-    where
-      clash : (o p : Option K) → SameAnswer order o p → Tells order o a → p ≡ None → ⊥
-      clash None None same told n = told
-      clash None (Some y) same told n = same
-      clash (Some x) None same told n = same
-      clash (Some x) (Some y) same told n = cc
+    last_is_greatest p h = grind (arith, greatest_at)
 
   module _ (complete : IsComplete order) where
     no_least_by : (s e : Bound K) → IsKnownBound order s → start_key order s ≡ None → (k : K)
@@ -165,14 +79,16 @@ module _ {K : Type 0} (order : KeyOrder K) (lawful : IsLawful order) where
         → NotAbove order k j) → ⊥
     no_least_by (Included a) e known n k key h g all = cc
     no_least_by (Excluded a) e known n k key h g all = elim (complete.next a k known key h) [
-      | inl t ↦ told_none (order.succ a) k n t
+      | inl t ↦ grind arith
       | inr (c, in_type, l, u) ↦
-          lt_not_le order.cmp lawful.total c k u (all c in_type (l, end_down e c k u g))
+          lt_not_le order.cmp lawful.total c k u
+          (all c in_type (l, end_down order lawful e c k (ap is_gt u) g))
     ]
     no_least_by Unbounded e known n k key h g all = elim (complete.below k key) [
       | inl t ↦ none_is_not_some order.least n t
       | inr (c, in_type, l) ↦
-          lt_not_le order.cmp lawful.total c k l (all c in_type (tt, end_down e c k l g))
+          lt_not_le order.cmp lawful.total c k l
+          (all c in_type (tt, end_down order lawful e c k (ap is_gt l) g))
     ]
 
     -- where the start names no key, no held key is the least
@@ -186,41 +102,26 @@ module _ {K : Type 0} (order : KeyOrder K) (lawful : IsLawful order) where
         → NotAbove order j k) → ⊥
     no_greatest_by s (Included b) known n k key g h all = cc
     no_greatest_by s (Excluded b) known n k key g h all = elim (complete.next k b key known h) [
-      | inl t ↦ no_pred k b (order.succ k) refl t n
+      | inl t ↦ no_pred order lawful complete k b (order.succ k) refl t n
       | inr (c, in_type, l, u) ↦
-          lt_not_le order.cmp lawful.total k c l (all c in_type (start_up s k c l g, u))
+          lt_not_le order.cmp lawful.total k c l
+          (all c in_type (start_up order lawful s k c (ap is_gt l) g, u))
     ]
     no_greatest_by s Unbounded known n k key g h all = elim (complete.above k key) [
       | inl t ↦ none_is_not_some order.greatest n t
       | inr (c, in_type, l) ↦
-          lt_not_le order.cmp lawful.total k c l (all c in_type (start_up s k c l g, tt))
+          lt_not_le order.cmp lawful.total k c l
+          (all c in_type (start_up order lawful s k c (ap is_gt l) g, tt))
     ]
 
     pub no_greatest : (r : AnyRange K) → IsKnownRange order r → end_key order r.end ≡ None
         → HasNoGreatest order r
     no_greatest r known n k key h = no_greatest_by r.start r.end known.1 n k key h.0.0 h.0.1 h.1
 
-  answer_none : (o p : Option K) → SameAnswer order o p → p ≡ None → o ≡ None
-  answer_none None p h e = refl
-  answer_none (Some x) None h e = absurd h
-  answer_none (Some x) (Some y) h e = cc
-
-  first_none_by : (r : AnyRange K) → IsComplete order → IsKnownRange order r → (p : Option K)
-      → SameAnswer order (start_key order r.start) p → IfNone p (HasNoLeast order r)
-  first_none_by r complete known None h =
-      no_least complete r known (answer_none (start_key order r.start) None h refl)
-  first_none_by r complete known (Some k) h = tt
-
-  last_none_by : (r : AnyRange K) → IsComplete order → IsKnownRange order r → (p : Option K)
-      → SameAnswer order (end_key order r.end) p → IfNone p (HasNoGreatest order r)
-  last_none_by r complete known None h =
-      no_greatest complete r known (answer_none (end_key order r.end) None h refl)
-  last_none_by r complete known (Some k) h = tt
-
   pub first_none : (r : AnyRange K) → IsComplete order → IsKnownRange order r → (p : Option K)
       → SameAnswer order (start_key order r.start) p → IfNone p (HasNoLeast order r)
-  first_none r complete known p h = first_none_by r complete known p h
+  first_none r complete known p h = grind (arith, no_least)
 
   pub last_none : (r : AnyRange K) → IsComplete order → IsKnownRange order r → (p : Option K)
       → SameAnswer order (end_key order r.end) p → IfNone p (HasNoGreatest order r)
-  last_none r complete known p h = last_none_by r complete known p h
+  last_none r complete known p h = grind (arith, no_greatest)

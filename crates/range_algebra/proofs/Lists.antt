@@ -1,8 +1,9 @@
 -- Lists by parts and by index, and what some or each of their items is.
-use Rattle.std.proofs.Common.{◌≡◌, ℕ, zero, suc, ◌+◌, ◌<◌, ◌≤◌, List, [], ◌∷◌, ◌++◌, length, take, drop, get_or, ◌⊎◌, inl, inr, refl, ap, sym, ◌∙◌, arith, length-drop, take-append-drop}
+use Rattle.std.proofs.Common.{◌≡◌, ℕ, zero, suc, ◌+◌, ◌<◌, ◌≤◌, List, [], ◌∷◌, ◌++◌, length, take, drop, get_or, ◌⊎◌, inl, inr, sym, arith, take-append-drop}
 use Rattle.std.specs.List.{AllWithin, AllByRecursion as Every}
-use Rattle.std.proofs.lemmas.List.{get_or-drop, get_or-take, drop_more, length-take-le}
+use Rattle.std.proofs.lemmas.List.{get_or-take, drop_more, length-take-le}
 use Rattle.range_algebra.specs.Intervals.{Any}
+use Rattle.std.proofs.lemmas.Grind.{common_steps}
 
 pub any_left : {X : Type 0} (P : X → Type 0) (xs ys : List X) → Any P xs → Any P (xs ++ ys)
 any_left P [] ys h = absurd h
@@ -62,29 +63,21 @@ every_at P (x ∷ xs) (suc k) d h within = every_at P xs k d h.1 (omega arith)
 
 pub every_take : {X : Type 0} (P : X → Type 0) (xs : List X) (n : ℕ) → n ≤ length xs
     → AllWithin P xs 0 n → Every P (take n xs)
-every_take P xs n le h =
-    let size = length-take-le n xs le in
-    every_all P (take n xs) (λ k d within.
-    let below : k < n =
-    omega (arith, size) in rw (get_or-take n xs k d below) (h k d (omega arith) below))
+every_take v0 xs n le h = grind (arith, length-take-le, every_all, get_or-take)
 
 pub every_drop : {X : Type 0} (P : X → Type 0) (xs : List X) (n : ℕ) → n ≤ length xs
     → AllWithin P xs n (length xs) → Every P (drop n xs)
-every_drop P xs n le h =
-    every_all P (drop n xs) (λ k d within.
-    rw (get_or-drop n xs k d) (h (n + k) d (omega arith) (omega (arith, length-drop n xs))))
+every_drop v0 xs n le h = grind (arith, common_steps, every_all)
 
 pub list_is_take_and_drop : {X : Type 0} (xs : List X) (n : ℕ) → xs ≡ take n xs ++ drop n xs
 list_is_take_and_drop xs n = sym (take-append-drop n xs)
 
 pub parts_at : {X : Type 0} (xs : List X) (n : ℕ) (d : X) → n < length xs
     → xs ≡ take n xs ++ get_or xs n d ∷ drop (n + 1) xs
-parts_at xs n d within =
-    list_is_take_and_drop xs n ∙ ap (λ ys. take n xs ++ ys) (drop_more xs n d within)
+parts_at xs n d within = grind (arith, list_is_take_and_drop, drop_more)
 
 drop_none : {X : Type 0} (n : ℕ) → drop {A = X} n [] ≡ []
-drop_none zero = refl
-drop_none (suc n) = refl
+drop_none v0 = grind arith
 
 pub drop_all : {X : Type 0} (xs : List X) (n : ℕ) → n ≡ length xs → drop n xs ≡ []
 drop_all [] n e = drop_none n

@@ -1,12 +1,11 @@
 -- The measures of ranges in order add up to less than 2 ^ 128, and over counted keys to the number
 -- of their keys.
-use Rattle.std.proofs.Common.{◌≡◌, ℕ, ◌+◌, ◌-◌, ◌<◌, ◌≤◌, ◌^◌, inl, inr, refl, sym, ap, subst, ◌∙◌, arith, Option, Some, None, List, [], ◌∷◌, lit<}
+use Rattle.std.proofs.Common.{◌≡◌, ℕ, ◌+◌, ◌<◌, ◌≤◌, ◌^◌, inl, inr, refl, sym, ap, subst, ◌∙◌, arith, Option, Some, None, List, [], ◌∷◌, lit<}
 use Rattle.std.specs.Option.{IsSomeAnd}
 use Rattle.std.specs.declared.ops.Bound.{Bound}
 use Rattle.std.specs.declared.ops.Bound.TheVariants.{Included, Excluded, Unbounded}
-use Rattle.std.specs.declared.cmp.Ordering.TheVariants.{Less, Equal}
 use Rattle.std.specs.Ordering.{is_gt}
-use Rattle.std.specs.Cmp.{tied_itself, tied_back}
+use Rattle.std.specs.Cmp.{upto}
 use Rattle.range_keys.specs.Order.{KeyOrder, IsLawful, IsMeasure, Below, NotAbove, Tells}
 use Rattle.range_keys.specs.Counted.{IsCountedMeasure, counted_lawful}
 use Rattle.range_keys.specs.Position.{start_position, end_position, position_cmp, at_told}
@@ -14,95 +13,67 @@ use Rattle.range_keys.specs.PositionOrder.{position_total}
 use Rattle.range_keys.specs.declared.inner.position.Position.{Position}
 use Rattle.range_keys.specs.declared.inner.position.Position.TheVariants.{Beside}
 use Rattle.range_keys.specs.declared.inner.position.Side.TheVariants.{Before, At, After}
-use Rattle.range_keys.proofs.Orderings.{any_then_equal, equal_then_any}
+use Rattle.range_keys.proofs.Orderings.{any_then_equal}
 use Rattle.range_algebra.specs.declared.any.AnyRange.{AnyRange}
 use Rattle.range_algebra.specs.Cuts.{past, lower, upper}
 use Rattle.range_algebra.specs.Intervals.{Le, Any}
-use Rattle.range_algebra.specs.Orders.{le_refl, lt_le, le_trans, lt_not_le, not_lt, lt_le_trans, le_lt_trans, lt_trans}
+use Rattle.range_algebra.specs.Orders.{lt_le_trans, lt_trans}
 use Rattle.range_algebra.specs.Range.{Holds, IsKnownBound, IsKnownRange, IsEmptyRange}
 use Rattle.range_algebra.specs.Relations.{LiesBefore}
 use Rattle.range_algebra.specs.Measures.{told_bound, measure_between, measure_sum, range_measure, list_measure, AreInOrder}
 use Rattle.range_algebra.specs.Numbers.{IsNumberOfKeys}
 use Rattle.range_algebra.proofs.Distances.{IsPlace, gap, gap_adds, gap_fits}
-use Rattle.range_algebra.proofs.Holding.{holds_by_position}
-use Rattle.range_algebra.proofs.Measuring.{included_included, included_excluded, excluded_included, excluded_excluded, told_start, told_end, known_start, known_end, reach_full, told_reach, full_measure, measure_is_number}
+use Rattle.range_algebra.proofs.Meeting.{before_is, not_greater}
+use Rattle.range_algebra.proofs.Joined.{ends_below}
+use Rattle.range_algebra.proofs.Measuring.{included_included, included_excluded, excluded_included, excluded_excluded, told_start, told_end, told_known, told_reach, full_measure, measure_is_number}
 use Rattle.range_algebra.proofs.Numbers.{number_none, number_both}
 use Rattle.range_algebra.proofs.Places.{reaching_is_before_past}
+use Rattle.std.proofs.Common.{rules}
 
 -- a sum that is there has both parts
 sum_parts : (o p : Option ℕ) (n : ℕ) → measure_sum o p ≡ Some n
     → (m : ℕ) × (k : ℕ) × (o ≡ Some m) × (p ≡ Some k) × (m + k ≡ n)
-sum_parts (Some m) (Some k) n e = (m, k, refl, refl, cc)
-sum_parts (Some m) None n e = cc
-sum_parts None p n e = cc
+sum_parts v0 p n e = grind arith
 
 module _ {K : Type 0} (order : KeyOrder K) (lawful : IsLawful order) where
   ends_after : (s e : Bound K) → IsKnownBound order s → IsKnownBound order e
       → Le (position_cmp order.cmp) (start_position order s) (end_position order e)
       → Le (position_cmp order.cmp) (start_position order s) (past order (end_position order e))
-  ends_after s e known known' h =
-      lt_le (position_cmp order.cmp) (position_total order.cmp lawful.total)
-      (start_position order s) (past order (end_position order e))
-      ((reaching_is_before_past order lawful s e known known').0 h)
+  ends_after s e known known' h = grind (arith, reaching_is_before_past)
 
   -- where the one lies before the other, its upper place is at most the other's lower one
   before_is_below : (r s : AnyRange K) → IsKnownRange order r → IsKnownRange order s
       → LiesBefore order r s → Le (position_cmp order.cmp) (upper order r) (lower order s)
   before_is_below r s known others h =
-      let total = position_total order.cmp lawful.total in
-      not_lt (position_cmp order.cmp) total (upper order r) (lower order s)
-      (λ l. lt_not_le (position_cmp order.cmp) total (end_position order r.end)
-      (start_position order s.start) h
-      ((reaching_is_before_past order lawful s.start r.end others.0 known.1).1 l))
+      (before_is order lawful r.end s.start known.1 others.0).0 h
 
   before_trans : (r s t : AnyRange K) → ¬ IsEmptyRange order s → LiesBefore order r s
       → LiesBefore order s t → LiesBefore order r t
   before_trans r s t full h k =
       let total = position_total order.cmp lawful.total in
-      let through =
-      lt_le_trans (position_cmp order.cmp) total (end_position order r.end)
-      (start_position order s.start) (end_position order s.end) h
-      (reach_full order lawful s full) in
-      lt_trans (position_cmp order.cmp) total (end_position order r.end) (end_position order s.end)
-      (start_position order t.start) through k
+      lt_trans _ total _ _ _ (lt_le_trans _ total _ _ _ h (not_greater _ full)) k
 
   -- in order without the second
   order_without_second : (r s : AnyRange K) (ranges : List (AnyRange K))
       → AreInOrder order (r ∷ s ∷ ranges) → AreInOrder order (r ∷ ranges)
-  order_without_second r s [] h = (h.0, h.1)
-  order_without_second r s (t ∷ ranges) h = (h.0, h.1, before_trans r s t h.3.1 h.2 h.3.2, h.3.3)
+  order_without_second r s v2 h = grind (arith, before_trans)
 
   pub rest_in_order : (r : AnyRange K) (ranges : List (AnyRange K)) → AreInOrder order (r ∷ ranges)
       → AreInOrder order ranges
-  rest_in_order r [] h = tt
-  rest_in_order r (s ∷ ranges) h = h.3
+  rest_in_order r v1 h = grind arith
 
   pub first_known : (r : AnyRange K) (ranges : List (AnyRange K)) → AreInOrder order (r ∷ ranges)
       → IsKnownRange order r × ¬ IsEmptyRange order r
-  first_known r [] h = (h.0, h.1)
-  first_known r (s ∷ ranges) h = (h.0, h.1)
-
-  below_next : (r s : AnyRange K) (a b : K) → LiesBefore order r s → order.is_key a → order.is_key b
-      → Holds order r a → Holds order s b → Below order a b
-  below_next r s a b h key key' f g =
-      let total = position_total order.cmp lawful.total in
-      let up = ((holds_by_position order lawful r a key).0 f).1 in
-      let down = ((holds_by_position order lawful s b key').0 g).0 in
-      let near =
-      le_lt_trans (position_cmp order.cmp) total (Beside a At) (end_position order r.end)
-      (start_position order s.start) up h in
-      sym (any_then_equal (order.cmp a b))
-      ∙ lt_le_trans (position_cmp order.cmp) total (Beside a At) (start_position order s.start)
-      (Beside b At) near down
+  first_known r v1 h = grind arith
 
   -- the keys of the first range are below those of all others
   below_all : (r : AnyRange K) (ranges : List (AnyRange K)) (a b : K)
       → AreInOrder order (r ∷ ranges) → order.is_key a → order.is_key b → Holds order r a
       → Any (λ s. Holds order s b) ranges → Below order a b
   below_all r [] a b h key key' f g = absurd g
-  below_all r (s ∷ ranges) a b h key key' f (inl g) = below_next r s a b h.2 key key' f g
-  below_all r (s ∷ ranges) a b h key key' f (inr g) =
-      below_all r ranges a b (order_without_second r s ranges h) key key' f g
+  below_all r (s ∷ ranges) a b h key key' f (inl g) =
+      ends_below order lawful r s h.2 a b key key' f g
+  below_all r (s ∷ ranges) a b h key key' f (inr g) = search (rules, order_without_second, below_all r ranges a b (order_without_second r s ranges h) key key' f g)
 
   module _ (len : K → ℕ) (distance : K → K → ℕ) (measured : IsMeasure order len distance) where
     -- the place lies so much above the key
@@ -131,53 +102,34 @@ module _ {K : Type 0} (order : KeyOrder K) (lawful : IsLawful order) where
     unfolding gap
     behind_key a = omega arith
 
-    no_distance : (a : K) → order.is_key a → distance a a ≡ 0
-    no_distance a key = measured.itself a a key key (tied_itself lawful.total a)
-
     at_key : (a : K) → order.is_key a → LiesAbove a (Beside a At) 0
-    at_key a key = record {
-      is_place = key_place a key;
-      from = le_refl (position_cmp order.cmp) (position_total order.cmp lawful.total) (Beside a At);
-      much = between_keys a a ∙ no_distance a key;
-    }
+    at_key a key = grind (arith, key_place, between_keys)
 
     -- the place after a key
     measure_after_key : (a : K) (o : Option K) → order.succ a ≡ o → order.is_key a
         → LiesAbove a (at_told o (Beside a After)) (len a)
-    measure_after_key a None e key = record {
-      is_place = past_place a key;
-      from = ap is_gt (equal_then_any (order.cmp a a) Less (tied_itself lawful.total a));
-      much = let h = behind_key a in let i = no_distance a key in omega arith;
-    }
-    measure_after_key a (Some b) e key = record {
-      is_place = key_place b (lawful.succ_key a b e).1;
-      from = ap is_gt (any_then_equal (order.cmp a b) ∙ lawful.succ_above a b e);
-      much = between_keys a b ∙ measured.step a b e;
-    }
+    measure_after_key a v1 e key = grind (arith, past_place, behind_key, key_place, between_keys)
 
     -- the place before a key, after the neighbour that is told
     before_by : (a b : K) (o : Option K) → order.succ a ≡ o → Tells order o b → order.is_key b
         → LiesAbove b (at_told o (Beside a After)) 0
-    before_by a b None e t key = absurd t
-    before_by a b (Some c) e t key =
-        let in_type = (lawful.succ_key a c e).1 in
-        let same : order.cmp b c ≡ Equal = tied_back lawful.total c b t in
-        record {
-          is_place = key_place c in_type;
-          from = ap is_gt (any_then_equal (order.cmp b c) ∙ same);
-          much = between_keys b c ∙ measured.itself b c key in_type same;
-        }
+    before_by a b v2 e t key = grind (arith, key_place, between_keys)
 
     before_key : (b : K) (o : Option K) → order.pred b ≡ o → order.is_key b
         → LiesAbove b (past order (at_told o (Beside b Before))) 0
     before_key b None e key = at_key b key
     before_key b (Some a) e key = before_by a b (order.succ a) refl (lawful.pred_succ a b e) key
 
-    measures_join : (a b : K) (p q : Position K) (off put : ℕ) → order.is_key a → order.is_key b
+    -- what lies between the places of two bounds
+    record IsGap (p q : Position K) (n : ℕ) : Type 0 where
+      low : IsPlace order lawful len distance measured p
+      high : IsPlace order lawful len distance measured q
+      much : gap order lawful len distance measured p q ≡ n
+
+    measures_join : (a b : K) (p q : Position K) (off put n : ℕ) → order.is_key a → order.is_key b
         → NotAbove order a b → LiesAbove a p off → LiesAbove b q put
-        → Le (position_cmp order.cmp) p q
-        → off + gap order lawful len distance measured p q ≡ distance a b + put
-    measures_join a b p q off put key key' l start end h =
+        → Le (position_cmp order.cmp) p q → off + n ≡ distance a b + put → IsGap p q n
+    measures_join a b p q off put n key key' l start end h sum =
         let through =
         gap_adds order lawful len distance measured (Beside a At) p q
         (key_place a key) start.is_place end.is_place start.from h in
@@ -189,13 +141,7 @@ module _ {K : Type 0} (order : KeyOrder K) (lawful : IsLawful order) where
         let keys = between_keys a b in
         let i = start.much in
         let j = end.much in
-        omega arith
-
-    -- what lies between the places of two bounds
-    record IsGap (p q : Position K) (n : ℕ) : Type 0 where
-      low : IsPlace order lawful len distance measured p
-      high : IsPlace order lawful len distance measured q
-      much : gap order lawful len distance measured p q ≡ n
+        record { low = start.is_place; high = end.is_place; much = omega arith }
 
     bounds_gap : (s e : Bound K) (n : ℕ) → IsKnownBound order s → IsKnownBound order e
         → Le (position_cmp order.cmp) (start_position order s) (end_position order e)
@@ -205,47 +151,37 @@ module _ {K : Type 0} (order : KeyOrder K) (lawful : IsLawful order) where
     bounds_gap (Included a) Unbounded n known known' h m = cc
     bounds_gap (Excluded a) Unbounded n known known' h m = cc
     bounds_gap (Included a) (Included b) n known known' h m =
-        let start = at_key a known in
-        let end = measure_after_key b (order.succ b) refl known' in
         let l = included_included order lawful (Included a) (Included b) a b refl refl h in
-        let order_of = ends_after (Included a) (Included b) known known' h in
-        let whole = measures_join a b _ _ 0 (len b) known known' l start end order_of in
-        let is : distance a b + len b ≡ n = cc in
-        record { low = start.is_place; high = end.is_place; much = omega arith }
+        measures_join a b _ _ 0 (len b) n known known' l (at_key a known)
+        (measure_after_key b (order.succ b) refl known')
+        (ends_after (Included a) (Included b) known known' h) (grind arith)
     bounds_gap (Included a) (Excluded b) n known known' h m =
-        let start = at_key a known in
-        let end = before_key b (order.pred b) refl known' in
         let l = included_excluded order lawful (Included a) (Excluded b) a b refl refl h in
-        let order_of = ends_after (Included a) (Excluded b) known known' h in
-        let whole = measures_join a b _ _ 0 0 known known' (ap is_gt l) start end order_of in
-        let is : distance a b ≡ n = cc in
-        record { low = start.is_place; high = end.is_place; much = omega arith }
+        measures_join a b _ _ 0 0 n known known' (ap is_gt l) (at_key a known)
+        (before_key b (order.pred b) refl known')
+        (ends_after (Included a) (Excluded b) known known' h) (grind arith)
     bounds_gap (Excluded a) (Included b) n known known' h m =
-        let start = measure_after_key a (order.succ a) refl known in
-        let end = measure_after_key b (order.succ b) refl known' in
         let l = excluded_included order lawful (Excluded a) (Included b) a b refl refl h in
-        let order_of = ends_after (Excluded a) (Included b) known known' h in
-        let whole =
-        measures_join a b _ _ (len a) (len b) known known'
-        (ap is_gt l) start end order_of in
         let fits = measured.at_least a b known known' l in
-        let is : distance a b - len a + len b ≡ n = cc in
-        record { low = start.is_place; high = end.is_place; much = omega arith }
+        measures_join a b _ _ (len a) (len b) n known known' (ap is_gt l)
+        (measure_after_key a (order.succ a) refl known)
+        (measure_after_key b (order.succ b) refl known')
+        (ends_after (Excluded a) (Included b) known known' h) (grind arith)
     bounds_gap (Excluded a) (Excluded b) n known known' h m =
-        let start = measure_after_key a (order.succ a) refl known in
-        let end = before_key b (order.pred b) refl known' in
         let l = excluded_excluded order lawful (Excluded a) (Excluded b) a b refl refl h in
-        let order_of = ends_after (Excluded a) (Excluded b) known known' h in
-        let whole = measures_join a b _ _ (len a) 0 known known' (ap is_gt l) start end order_of in
-        let is : distance a b - len a ≡ n = cc in
-        record { low = start.is_place; high = end.is_place; much = omega arith }
+        let fits = measured.at_least a b known known' l in
+        measures_join a b _ _ (len a) 0 n known known' (ap is_gt l)
+        (measure_after_key a (order.succ a) refl known)
+        (before_key b (order.pred b) refl known')
+        (ends_after (Excluded a) (Excluded b) known known' h) (grind arith)
 
     range_gap : (r : AnyRange K) (n : ℕ) → IsKnownRange order r → ¬ IsEmptyRange order r
         → range_measure order len distance r ≡ Some n → IsGap (lower order r) (upper order r) n
     range_gap r n known full e =
         let told =
         bounds_gap (told_bound order.least r.start) (told_bound order.greatest r.end) n
-        (known_start order lawful r.start known.0) (known_end order lawful r.end known.1)
+        (told_known order lawful order.least r.start lawful.least_key known.0)
+        (told_known order lawful order.greatest r.end lawful.greatest_key known.1)
         (told_reach order lawful r full)
         (sym (full_measure order lawful len distance r full) ∙ e) in
         subst (λ p. IsGap p (upper order r) n) (told_start order lawful r.start)
@@ -255,12 +191,7 @@ module _ {K : Type 0} (order : KeyOrder K) (lawful : IsLawful order) where
     first_place : (s : AnyRange K) (ranges : List (AnyRange K)) (n : ℕ)
         → AreInOrder order (s ∷ ranges) → list_measure order len distance (s ∷ ranges) ≡ Some n
         → IsPlace order lawful len distance measured (lower order s)
-    first_place s ranges n h e =
-        let parts =
-        sum_parts (range_measure order len distance s)
-        (list_measure order len distance ranges) n e in
-        let known = first_known s ranges h in
-        (range_gap s parts.0 known.0 known.1 parts.2).low
+    first_place s ranges n h e = grind (arith, first_known, range_gap)
 
     -- a place up to which the ranges reach
     Reaches : AnyRange K → ℕ → Type 0
@@ -275,7 +206,7 @@ module _ {K : Type 0} (order : KeyOrder K) (lawful : IsLawful order) where
     reach_of r [] n h e =
         let parts = sum_parts (range_measure order len distance r) (Some 0) n e in
         let own = range_gap r parts.0 h.0 h.1 parts.2 in
-        let up = ends_after r.start r.end h.0.0 h.0.1 (reach_full order lawful r h.1) in
+        let up = ends_after r.start r.end h.0.0 h.0.1 (not_greater _ h.1) in
         let none : 0 ≡ parts.1 = let f = parts.3 in cc in
         let sum = parts.4 in
         let much = own.much in
@@ -286,49 +217,29 @@ module _ {K : Type 0} (order : KeyOrder K) (lawful : IsLawful order) where
         sum_parts (range_measure order len distance r)
         (list_measure order len distance (s ∷ ranges)) n e in
         let own = range_gap r parts.0 h.0 h.1 parts.2 in
-        let next = first_known s ranges h.3 in
         let others = reach_of s ranges parts.1 h.3 parts.3 in
-        let start : IsPlace order lawful len distance measured (lower order s) =
-        first_place s ranges parts.1 h.3 parts.3 in
-        let up = ends_after r.start r.end h.0.0 h.0.1 (reach_full order lawful r h.1) in
-        let beside = before_is_below r s h.0 next.0 h.2 in
-        let over =
-        le_trans (position_cmp order.cmp) total (lower order r) (upper order r)
-        (lower order s) up beside in
-        let first =
-        gap_adds order lawful len distance measured (lower order r) (upper order r)
-        (lower order s) own.low own.high start up beside in
+        let start = first_place s ranges parts.1 h.3 parts.3 in
+        let up = ends_after r.start r.end h.0.0 h.0.1 (not_greater _ h.1) in
+        let beside = before_is_below r s h.0 (first_known s ranges h.3).0 h.2 in
+        let over = upto total _ _ _ up beside in
+        let first = gap_adds order lawful len distance measured _ _ _ own.low own.high start up beside in
         let whole =
-        gap_adds order lawful len distance measured (lower order r)
-        (lower order s) others.0 own.low start others.1 over others.2 in
+        gap_adds order lawful len distance measured _ _ _ own.low start others.1 over others.2 in
         let sum = parts.4 in
         let much = own.much in
-        let more = others.3 in (
-          others.0,
-          others.1,
-          le_trans (position_cmp order.cmp) total (lower order r)
-              (lower order s) others.0 over others.2,
-          omega arith,
-        )
+        let more = others.3 in
+        (others.0, others.1, upto total _ _ _ over others.2, omega arith)
 
     -- the measures of ranges in order add up to less than 2 ^ 128
     pub list_measure_fits : (ranges : List (AnyRange K)) (n : ℕ) → AreInOrder order ranges
         → list_measure order len distance ranges ≡ Some n → n < 2 ^ 128
     unfolding Reaches
     list_measure_fits [] n h e = let none : 0 ≡ n = cc in subst (λ k. k < 2 ^ 128) none (lit< tt)
-    list_measure_fits (r ∷ ranges) n h e =
-        let reached = reach_of r ranges n h e in
-        let fits =
-        gap_fits order lawful len distance measured (lower order r) reached.0
-        (first_place r ranges n h e) reached.1 reached.2 in
-        let more = reached.3 in
-        omega arith
+    list_measure_fits (r ∷ ranges) n h e = search (rules, reach_of, gap_fits, first_place)
 
 both_there : (P Q R : ℕ → Type 0) (o p : Option ℕ) → IsSomeAnd o P → IsSomeAnd p Q
     → ((m n : ℕ) → P m → Q n → R (m + n)) → IsSomeAnd (measure_sum o p) R
-both_there P Q R None p h k f = absurd h
-both_there P Q R (Some m) None h k f = absurd k
-both_there P Q R (Some m) (Some n) h k f = f m n h k
+both_there v0 v1 v2 v3 p h k f = grind arith
 
 module _ {K : Type 0} (order : KeyOrder K) (len : K → ℕ) (distance : K → K → ℕ)
     (counts : IsCountedMeasure order len distance) where

@@ -1,20 +1,19 @@
 -- The measure of a range fits, and over counted keys it is the number of keys that the range holds.
-use Rattle.std.proofs.Common.{◌≡◌, ℕ, ◌+◌, ◌-◌, ◌<◌, ◌≤◌, ◌↔◌, refl, sym, ap, ◌∙◌, arith, Option, Some, None, false}
+use Rattle.std.proofs.Common.{◌≡◌, ℕ, ◌+◌, ◌-◌, ◌<◌, ◌≤◌, ◌↔◌, refl, ap, arith, Option, Some, false}
 use Rattle.std.specs.declared.ops.Bound.{Bound}
 use Rattle.std.specs.declared.ops.Bound.TheVariants.{Included, Excluded, Unbounded}
 use Rattle.std.specs.declared.cmp.Ordering.{Ordering}
 use Rattle.std.specs.declared.cmp.Ordering.TheVariants.{Less, Equal, Greater}
 use Rattle.std.specs.Ordering.{is_gt}
 use Rattle.std.specs.Option.{IsSomeAnd}
-use Rattle.std.specs.Cmp.{tied_itself}
 use Rattle.range_keys.specs.Order.{KeyOrder, IsLawful, Below, NotAbove}
-use Rattle.range_keys.specs.Counted.{IsCounted, IsCountedMeasure, counted_lawful, counted_complete}
+use Rattle.range_keys.specs.Counted.{IsCounted, IsCountedMeasure, counted_lawful}
 use Rattle.range_keys.specs.Position.{start_position, end_position, position_cmp, at_told}
 use Rattle.range_keys.specs.PositionOrder.{position_total}
 use Rattle.range_keys.specs.declared.inner.position.Position.{Position}
 use Rattle.range_keys.specs.declared.inner.position.Position.TheVariants.{Beside}
 use Rattle.range_keys.specs.declared.inner.position.Side.TheVariants.{Before, At, After}
-use Rattle.range_keys.proofs.Orderings.{any_then_equal, equal_then_any, not_greater, less_unless_equal}
+use Rattle.range_keys.proofs.Orderings.{not_greater, less_unless_equal}
 use Rattle.range_algebra.specs.declared.any.AnyRange.{AnyRange}
 use Rattle.range_algebra.specs.Intervals.{Le, Lt}
 use Rattle.range_algebra.specs.Orders.{lt_le_trans, le_lt_trans, lt_trans}
@@ -22,8 +21,8 @@ use Rattle.range_algebra.specs.Range.{StartHolds, EndHolds, Holds, IsEmptyRange,
 use Rattle.range_algebra.specs.Measures.{told_bound, measure_between, range_measure}
 use Rattle.range_algebra.specs.Numbers.{IsNumberOfKeys}
 use Rattle.range_algebra.proofs.Holding.{pred_below, empty_is_keyless}
-use Rattle.range_algebra.proofs.Completeness.{nonempty_holds}
-use Rattle.range_algebra.proofs.Numbers.{IsFrom, below_by_index, not_above_by_index, number_none, number_same, number_from}
+use Rattle.range_algebra.proofs.Numbers.{IsFrom, number_none, number_same, number_from}
+use Rattle.std.proofs.lemmas.Grind.{common_steps}
 
 module _ {K : Type 0} (order : KeyOrder K) (lawful : IsLawful order) where
   PLe : Position K → Position K → Type 0
@@ -35,59 +34,31 @@ module _ {K : Type 0} (order : KeyOrder K) (lawful : IsLawful order) where
   start_after : (a : K) (o : Option K) → order.succ a ≡ o
       → PLt (Beside a At) (at_told o (Beside a After))
   unfolding PLt
-  start_after a None e = equal_then_any (order.cmp a a) Less (tied_itself lawful.total a)
-  start_after a (Some b) e = any_then_equal (order.cmp a b) ∙ lawful.succ_above a b e
+  start_after a v1 e = grind arith
 
   end_before : (b : K) (o : Option K) → order.pred b ≡ o
       → PLt (at_told o (Beside b Before)) (Beside b At)
   unfolding PLt
-  end_before b None e = equal_then_any (order.cmp b b) Less (tied_itself lawful.total b)
-  end_before b (Some a) e = any_then_equal (order.cmp a b) ∙ pred_below order lawful a b e
-
-  places_order_keys : (a b : K) → PLe (Beside a At) (Beside b At) → NotAbove order a b
-  unfolding PLe
-  places_order_keys a b h = sym (ap is_gt (any_then_equal (order.cmp a b))) ∙ h
-
-  equal_bounds_reach : (s e s' e' : Bound K) → s ≡ s' → e ≡ e'
-      → Le (position_cmp order.cmp) (start_position order s) (end_position order e)
-      → PLe (start_position order s') (end_position order e')
-  unfolding PLe
-  equal_bounds_reach s e s' e' p q h =
-      (λ i.
-      is_gt (position_cmp order.cmp (start_position order (sym p i))
-      (end_position order (sym q i)))) ∙ h
+  end_before b v1 e = grind (arith, pred_below)
 
   -- the keys of the two bounds of a nonempty range do not cross
   pub included_included : (s e : Bound K) (a b : K) → s ≡ Included a → e ≡ Included b
       → Le (position_cmp order.cmp) (start_position order s) (end_position order e)
       → NotAbove order a b
   unfolding PLe
-  included_included s e a b p q h =
-      places_order_keys a b (equal_bounds_reach s e (Included a) (Included b) p q h)
+  included_included s e a b p q h = grind arith
 
   pub included_excluded : (s e : Bound K) (a b : K) → s ≡ Included a → e ≡ Excluded b
       → Le (position_cmp order.cmp) (start_position order s) (end_position order e)
       → Below order a b
   unfolding PLe PLt
-  included_excluded s e a b p q h =
-      let total = position_total order.cmp lawful.total in
-      let h' : Le (position_cmp order.cmp) (Beside a At) (end_position order (Excluded b)) =
-      equal_bounds_reach s e (Included a) (Excluded b) p q h in
-      less_unless_equal (order.cmp a b)
-      (le_lt_trans (position_cmp order.cmp) total (Beside a At)
-      (end_position order (Excluded b)) (Beside b At) h' (end_before b (order.pred b) refl))
+  included_excluded s e a b p q h = grind (arith, le_lt_trans, lt_le_trans, lt_trans, pred_below)
 
   pub excluded_included : (s e : Bound K) (a b : K) → s ≡ Excluded a → e ≡ Included b
       → Le (position_cmp order.cmp) (start_position order s) (end_position order e)
       → Below order a b
   unfolding PLe PLt
-  excluded_included s e a b p q h =
-      let total = position_total order.cmp lawful.total in
-      let h' : Le (position_cmp order.cmp) (start_position order (Excluded a)) (Beside b At) =
-      equal_bounds_reach s e (Excluded a) (Included b) p q h in
-      less_unless_equal (order.cmp a b)
-      (lt_le_trans (position_cmp order.cmp) total (Beside a At)
-      (start_position order (Excluded a)) (Beside b At) (start_after a (order.succ a) refl) h')
+  excluded_included s e a b p q h = grind arith
 
   pub excluded_excluded : (s e : Bound K) (a b : K) → s ≡ Excluded a → e ≡ Excluded b
       → Le (position_cmp order.cmp) (start_position order s) (end_position order e)
@@ -96,80 +67,37 @@ module _ {K : Type 0} (order : KeyOrder K) (lawful : IsLawful order) where
   excluded_excluded s e a b p q h =
       let total = position_total order.cmp lawful.total in
       let h' : Le (position_cmp order.cmp) (start_position order (Excluded a))
-      (end_position order (Excluded b)) =
-      equal_bounds_reach s e (Excluded a) (Excluded b) p q h in
-      let low =
-      lt_le_trans (position_cmp order.cmp) total (Beside a At)
-      (start_position order (Excluded a)) (end_position order (Excluded b))
-      (start_after a (order.succ a) refl) h' in
+      (end_position order (Excluded b)) = rw (p, q) at h in
       less_unless_equal (order.cmp a b)
-      (lt_trans (position_cmp order.cmp) total (Beside a At) (end_position order (Excluded b))
-      (Beside b At) low (end_before b (order.pred b) refl))
+      (lt_trans _ total (Beside a At) _ (Beside b At)
+      (lt_le_trans _ total (Beside a At) _ _ (start_after a (order.succ a) refl) h')
+      (end_before b (order.pred b) refl))
 
   -- a told end stands where the unbounded bound does
-  told_start_by : (o : Option K) → order.least ≡ o → (s : Bound K)
-      → start_position order (told_bound o s) ≡ start_position order s
-  told_start_by o e (Included a) = refl
-  told_start_by o e (Excluded a) = refl
-  told_start_by None e Unbounded = refl
-  told_start_by (Some m) e Unbounded = rw e refl
-
   pub told_start : (s : Bound K)
       → start_position order (told_bound order.least s) ≡ start_position order s
-  told_start s = told_start_by order.least refl s
-
-  told_end_by : (o : Option K) → order.greatest ≡ o → (e : Bound K)
-      → end_position order (told_bound o e) ≡ end_position order e
-  told_end_by o g (Included b) = refl
-  told_end_by o g (Excluded b) = refl
-  told_end_by None g Unbounded = refl
-  told_end_by (Some m) g Unbounded = rw g refl
+  told_start s = grind arith
 
   pub told_end : (e : Bound K)
       → end_position order (told_bound order.greatest e) ≡ end_position order e
-  told_end e = told_end_by order.greatest refl e
-
-  known_by : (o : Option K) → ((m : K) → o ≡ Some m → order.is_key m) → (b : Bound K)
-      → IsKnownBound order b → IsKnownBound order (told_bound o b)
-  known_by o h (Included a) known = known
-  known_by o h (Excluded a) known = known
-  known_by None h Unbounded known = tt
-  known_by (Some m) h Unbounded known = h m refl
-
-  pub known_start : (s : Bound K) → IsKnownBound order s
-      → IsKnownBound order (told_bound order.least s)
-  known_start s known = known_by order.least lawful.least_key s known
-
-  pub known_end : (e : Bound K) → IsKnownBound order e
-      → IsKnownBound order (told_bound order.greatest e)
-  known_end e known = known_by order.greatest lawful.greatest_key e known
-
-  pub reach_full : (r : AnyRange K) → ¬ IsEmptyRange order r
-      → is_gt (position_cmp order.cmp (start_position order r.start) (end_position order r.end))
-      ≡ false
-  reach_full r full =
-      not_greater (position_cmp order.cmp (start_position order r.start) (end_position order r.end))
-      full
+  told_end e = grind arith
 
   -- the start of a nonempty range is not past its end, after what is told is put in
   pub told_reach : (r : AnyRange K) → ¬ IsEmptyRange order r
       → Le (position_cmp order.cmp) (start_position order (told_bound order.least r.start))
       (end_position order (told_bound order.greatest r.end))
-  told_reach r full = rw (told_start r.start, told_end r.end) (reach_full r full)
+  told_reach r full = rw (told_start r.start, told_end r.end) (not_greater _ full)
 
   -- a bound that names a key of the type names one after what is told is put in
   pub told_known : (told : Option K) (b : Bound K) → ((m : K) → told ≡ Some m → order.is_key m)
       → IsKnownBound order b → IsKnownBound order (told_bound told b)
-  told_known told (Included a) keys known = known
-  told_known told (Excluded a) keys known = known
-  told_known (Some m) Unbounded keys known = keys m refl
-  told_known None Unbounded keys known = tt
+  told_known told v1 keys known = grind arith
 
   pub full_measure : (len : K → ℕ) (distance : K → K → ℕ) (r : AnyRange K) → ¬ IsEmptyRange order r
       → range_measure order len distance r
       ≡ measure_between len distance (told_bound order.least r.start)
       (told_bound order.greatest r.end)
-  full_measure len distance r full = rw (reach_full r full) refl
+  full_measure len distance r full = rw (not_greater _ full) refl
 
 module _ {K : Type 0} {order : KeyOrder K} {index : K → ℕ} {size : ℕ}
     (counted : IsCounted order index size) where
@@ -186,24 +114,14 @@ module _ {K : Type 0} {order : KeyOrder K} {index : K → ℕ} {size : ℕ}
 
   start_from : (s : Bound K) (k : K) → IsKnownBound order s → order.is_key k → StartHolds order s k
       ↔ low s ≤ index k
-  start_from (Included a) k known key = not_above_by_index counted a k known key
-  start_from (Excluded a) k known key =
-      let below = below_by_index counted a k known key in
-      (λ h. let l : index a < index k = below.0 h in omega arith, λ h. below.1 (omega arith))
-  start_from Unbounded k known key = (λ _. omega arith, λ _. tt)
+  start_from v0 k known key = grind (arith, common_steps)
 
   end_up_to : (e : Bound K) (k : K) → IsKnownBound order e → order.is_key k → EndHolds order e k
       ↔ index k < high e
-  end_up_to (Included b) k known key =
-      let above = not_above_by_index counted k b key known in
-      (λ h. let l : index k ≤ index b = above.0 h in omega arith, λ h. above.1 (omega arith))
-  end_up_to (Excluded b) k known key = below_by_index counted k b key known
-  end_up_to Unbounded k known key = (λ _. counted.in_size k key, λ _. tt)
+  end_up_to v0 k known key = grind (arith, common_steps)
 
   high_fits : (e : Bound K) → IsKnownBound order e → high e ≤ size
-  high_fits (Included b) known = let l : index b < size = counted.in_size b known in omega arith
-  high_fits (Excluded b) known = let l : index b < size = counted.in_size b known in omega arith
-  high_fits Unbounded known = omega arith
+  high_fits v0 known = grind arith
 
   -- a range that holds a key holds as many as lie from its first index to its last
   number_held : (r : AnyRange K) → IsKnownRange order r → low r.start < high r.end
@@ -231,56 +149,14 @@ module _ {K : Type 0} {order : KeyOrder K} {index : K → ℕ} {size : ℕ}
   nonempty_range_measures : (r : AnyRange K) → IsKnownRange order r
       → Le (position_cmp order.cmp) (start_position order r.start) (end_position order r.end)
       → low r.start < high r.end
-  nonempty_range_measures r known h =
-      let found =
-      nonempty_holds order (counted_lawful counted) (counted_complete counted) r known h in
-      let f : low r.start ≤ index found.0 =
-      (start_from r.start found.0 known.0 found.1).0 found.2.0 in
-      let g : index found.0 < high r.end = (end_up_to r.end found.0 known.1 found.1).0 found.2.1 in
-      omega arith
-
-  low_told : (o : Option K) → o ≡ Some counted.first → (s : Bound K)
-      → (low (told_bound o s) ≡ low s) × (told_bound o s ≡ Unbounded → ⊥)
-  low_told o e (Included a) = (refl, λ f. cc)
-  low_told o e (Excluded a) = (refl, λ f. cc)
-  low_told None e Unbounded = (cc, λ f. cc)
-  low_told (Some m) e Unbounded = let f : m ≡ counted.first =
-      cc in ((rw f counted.first_index), λ f. cc)
-
-  high_told : (o : Option K) → o ≡ Some counted.last → (e : Bound K)
-      → (high (told_bound o e) ≡ high e) × (told_bound o e ≡ Unbounded → ⊥)
-  high_told o g (Included b) = (refl, λ f. cc)
-  high_told o g (Excluded b) = (refl, λ f. cc)
-  high_told None g Unbounded = (cc, λ f. cc)
-  high_told (Some m) g Unbounded = let f : m ≡ counted.last =
-      cc in ((rw f counted.last_index), λ f. cc)
+  nonempty_range_measures r known h = grind (arith, common_steps)
 
   module _ (len : K → ℕ) (distance : K → K → ℕ) (each_one : (a : K) → len a ≡ 1)
       (apart : (a b : K) → distance a b ≡ index b - index a) where
-    -- the measure between bounds that name a key is the number of indexes between them
-    counts_between : (s e : Bound K) → (s ≡ Unbounded → ⊥) → (e ≡ Unbounded → ⊥) → low s < high e
-        → measure_between len distance s e ≡ Some (high e - low s)
-    counts_between (Included a) (Included b) f g l =
-        ap Some (let h = apart a b in let i = each_one b in omega arith)
-    counts_between (Included a) (Excluded b) f g l = ap Some (let h = apart a b in omega arith)
-    counts_between (Excluded a) (Included b) f g l =
-        ap Some (let h = apart a b in let i = each_one a in let j = each_one b in omega arith)
-    counts_between (Excluded a) (Excluded b) f g l =
-        ap Some (let h = apart a b in let i = each_one a in omega arith)
-    counts_between Unbounded e f g l = absurd (f refl)
-    counts_between (Included a) Unbounded f g l = absurd (g refl)
-    counts_between (Excluded a) Unbounded f g l = absurd (g refl)
-
     counts_told : (s e : Bound K) → low s < high e
         → measure_between len distance (told_bound order.least s) (told_bound order.greatest e)
         ≡ Some (high e - low s)
-    counts_told s e l =
-        let start = low_told order.least counted.first_told s in
-        let end = high_told order.greatest counted.last_told e in
-        let between : low (told_bound order.least s) < high (told_bound order.greatest e) =
-        rw (start.0, end.0) l in
-        counts_between (told_bound order.least s)
-        (told_bound order.greatest e) start.1 end.1 between ∙ (λ i. Some (end.0 i - start.0 i))
+    counts_told s e l = grind arith
 
 module _ {K : Type 0} (order : KeyOrder K) (len : K → ℕ) (distance : K → K → ℕ)
     (counts : IsCountedMeasure order len distance) where
@@ -305,6 +181,4 @@ module _ {K : Type 0} (order : KeyOrder K) (len : K → ℕ) (distance : K → K
   -- the measure of a range is the number of its keys
   pub measure_is_number : (r : AnyRange K) → IsKnownRange order r
       → IsSomeAnd (range_measure order len distance r) (IsNumberOfKeys order (Holds order r))
-  measure_is_number r known =
-      number_by r known (position_cmp order.cmp (start_position order r.start)
-      (end_position order r.end)) refl
+  measure_is_number r known = grind (arith, number_by)

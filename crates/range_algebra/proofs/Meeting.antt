@@ -1,38 +1,76 @@
 -- When ranges intersect, and when they are connected, by the keys that they hold.
-use Rattle.std.proofs.Common.{◌≡◌, refl, sym, ap, ◌∙◌, ◌↔◌, true, false, Bool, ◌&&◌, Some, IsTrue, ◌⊎◌, inl, inr, if◌then◌else◌}
+use Rattle.std.proofs.Common.{◌≡◌, refl, sym, ap, ◌∙◌, ◌↔◌, true, false, Bool, Some, IsTrue, ◌⊎◌, inl, inr, if◌then◌else◌}
 use Rattle.std.specs.declared.ops.Bound.{Bound}
 use Rattle.std.specs.declared.ops.Bound.TheVariants.{Included, Excluded, Unbounded}
 use Rattle.std.specs.declared.cmp.Ordering.{Ordering}
-use Rattle.std.specs.declared.cmp.Ordering.TheVariants.{Less, Equal, Greater}
-use Rattle.std.specs.Ordering.{is_lt, is_gt, is_eq, ordering_reverse}
+use Rattle.std.specs.Ordering.{is_lt, is_gt}
 use Rattle.range_keys.specs.Order.{KeyOrder, IsLawful, IsComplete, Below}
 use Rattle.range_keys.specs.Position.{start_position, end_position, position_cmp}
 use Rattle.range_keys.specs.PositionOrder.{position_total}
 use Rattle.range_keys.specs.declared.inner.position.Position.{Position}
-use Rattle.range_keys.specs.declared.inner.position.Position.TheVariants.{MinusInfinity, Beside, PlusInfinity}
-use Rattle.range_keys.specs.declared.inner.position.Side.TheVariants.{Before, At, After}
+use Rattle.range_keys.specs.declared.inner.position.Position.TheVariants.{Beside}
+use Rattle.range_keys.specs.declared.inner.position.Side.TheVariants.{At}
 pub use Rattle.range_keys.proofs.Orderings.{not_greater}
 use Rattle.range_keys.proofs.Orderings.{eq_is_equal, less_unless_equal}
 use Rattle.range_keys.proofs.BoundPositions.{IsStart, IsEnd, excluded_start_is_one, starts_lie_at_starts, ends_lie_at_ends}
 use Rattle.range_algebra.specs.declared.any.AnyRange.{AnyRange}
+use Rattle.range_algebra.specs.declared.ordering.RangeOrdering.{RangeOrdering}
 use Rattle.range_algebra.specs.declared.ordering.RangeOrdering.TheVariants as lying
 use Rattle.range_algebra.specs.Intervals.{Le, Lt}
-use Rattle.range_algebra.specs.Orders.{lt_le, eq_ge, le_trans, lt_not_le, cases, not_le, not_lt, lt_le_trans, le_lt_trans, both}
-use Rattle.range_algebra.specs.Range.{StartHolds, EndHolds, Holds, IsKnownBound, IsKnownRange}
-use Rattle.range_algebra.specs.Compared.{flipped, start_is_at, starts_at_end, range_ordering, matches}
+use Rattle.range_algebra.specs.Orders.{le_refl, eq_ge, lt_not_le, cases, not_le, not_lt, lt_le_trans, both}
+use Rattle.range_algebra.specs.Range.{IsEmptyRange, StartHolds, EndHolds, Holds, IsKnownBound, IsKnownRange}
+use Rattle.range_algebra.specs.Compared.{flipped, start_is_at, starts_at_end, range_ordering, matches, is_before, is_after}
 use Rattle.range_algebra.specs.Combined.{earlier_end, common}
 use Rattle.range_algebra.specs.Cuts.{past, lower, upper}
-use Rattle.range_algebra.specs.Relations.{Meets, EitherHolds, ShareKey, AreConnected}
+use Rattle.range_algebra.specs.Relations.{LiesBetween, Meets, ShareKey, AreConnected}
 use Rattle.range_algebra.proofs.Holding.{start_holds, end_holds, holds_by_position}
-use Rattle.range_algebra.proofs.Places.{reaching_is_before_past, key_reaches, flipped_bound_is_past, unbounded_end}
+use Rattle.range_algebra.proofs.Places.{held_between, reaching_is_before_past, key_reaches, flipped_bound_is_past, unbounded_end}
 use Rattle.range_algebra.proofs.Completeness.{nonempty_holds}
 use Rattle.range_algebra.proofs.Canonical.{NotPast, IsBefore, KeyFrom, key_from}
 use Rattle.range_algebra.proofs.Commons.{later_is, earlier_is, common_holds, common_known}
 use Rattle.range_algebra.proofs.Pieces.{start_decided, end_decided, start_up, end_down}
+use Rattle.std.specs.Cmp.{IsTotalOrder, upto}
+use Rattle.std.proofs.Common.{arith}
 
-and_false : (t : Bool) → (t && false) ≡ false
-and_false true = refl
-and_false false = refl
+-- what a comparison of two intervals says
+module _ {L : Type 0} {cmp : L → L → Ordering} (total : IsTotalOrder cmp) (s e s' e' : L)
+    (t u x y z w : Bool) where
+  abbrev pub Compared : RangeOrdering
+  Compared =
+      if is_lt (cmp s s')
+      then (if is_lt (cmp e s') then lying.Before t else lying.Intersecting x y)
+      else (if is_gt (cmp s e') then lying.After u else lying.Intersecting z w)
+
+  pub told_before : (f : Bool) → Compared ≡ lying.Before f → Lt cmp e s' × (t ≡ f)
+  told_before f h = grind arith
+
+  pub told_after : (f : Bool) → Compared ≡ lying.After f → Lt cmp e' s × (u ≡ f)
+  told_after f h = grind arith
+
+  pub read_before : (c : Bool) → IsTrue (is_before Compared c)
+      → Lt cmp e s' × (IsTrue c → IsTrue t → ⊥)
+  read_before c h = grind arith
+
+  pub write_before : (c : Bool) → Lt cmp s s' → Lt cmp e s' → (IsTrue c → IsTrue t → ⊥)
+      → IsTrue (is_before Compared c)
+  write_before c h k f = grind arith
+
+  pub write_after : Lt cmp s' s → Lt cmp e' s → IsTrue (is_after Compared false)
+  write_after h k = grind arith
+
+  -- where the intervals are nonempty
+  module _ (full : Le cmp s e) (full' : Le cmp s' e') where
+    answers_met : IsTrue (matches Compared false) ↔ (Le cmp s e' × Le cmp s' e)
+    answers_met = grind arith
+
+    answers_connected : IsTrue (matches Compared true)
+        ↔ ((Lt cmp e s' → IsTrue t) × (Lt cmp e' s → IsTrue u))
+    answers_connected = grind arith
+
+-- of two ranges with keys on both sides of one, the one holds it, or the other does
+one_holds : {A B C D : Type 0} → A ⊎ (¬ A) → B ⊎ (¬ B) → C ⊎ (¬ C) → D ⊎ (¬ D) → A ⊎ C → B ⊎ D
+    → (¬ B → ¬ C → ⊥) → (¬ D → ¬ A → ⊥) → (A × B) ⊎ (C × D)
+one_holds a b c d from upto h g = grind arith
 
 module _ {K : Type 0} (order : KeyOrder K) (lawful : IsLawful order) where
   abbrev PLt : Position K → Position K → Type 0
@@ -51,13 +89,8 @@ module _ {K : Type 0} (order : KeyOrder K) (lawful : IsLawful order) where
   before_is e s known others =
       let total = position_total order.cmp lawful.total in
       let reach = reaching_is_before_past order lawful s e others known in (
-        λ h. not_lt (position_cmp order.cmp) total (past order (end_position order e))
-            (start_position order s)
-            (λ k. lt_not_le (position_cmp order.cmp) total (end_position order e)
-            (start_position order s) h (reach.1 k)),
-        λ h. not_le (position_cmp order.cmp) total (end_position order e) (start_position order s)
-            (λ k. lt_not_le (position_cmp order.cmp) total (start_position order s)
-            (past order (end_position order e)) (reach.0 k) h),
+        λ h. not_lt _ total _ _ (λ k. lt_not_le _ total _ _ h (reach.1 k)),
+        λ h. not_le _ total _ _ (λ k. lt_not_le _ total _ _ (reach.0 k) h),
       )
 
   touches_by : (e i : Bound K) (s : AnyRange K) → flipped e ≡ Some i
@@ -65,19 +98,11 @@ module _ {K : Type 0} (order : KeyOrder K) (lawful : IsLawful order) where
       → IsTrue (start_is_at order (Some i) (lower order s))
       ↔ PLe (lower order s) (past order (end_position order e))
   touches_by e i s turns le =
-      let cmp = position_cmp order.cmp in
       let total = position_total order.cmp lawful.total in
       let at = flipped_bound_is_past order lawful e i turns in
-      let other = eq_is_equal (cmp (start_position order i) (lower order s)) in (
-        λ h. le_trans cmp total (lower order s) (start_position order i)
-            (past order (end_position order e))
-            (eq_ge cmp total (start_position order i) (lower order s) (other.0 h))
-            (eq_ge cmp total (past order (end_position order e)) (start_position order i) at),
-        λ h.
-            other.1
-            (sym (total.congr (past order (end_position order e)) (start_position order i)
-            (lower order s) at)
-            ∙ both cmp total (past order (end_position order e)) (lower order s) le h),
+      let other = eq_is_equal (position_cmp order.cmp (start_position order i) (lower order s)) in (
+        λ h. upto total _ _ _ (eq_ge _ total _ _ (other.0 h)) (eq_ge _ total _ _ at),
+        λ h. other.1 (sym (total.congr _ _ _ at) ∙ both _ total _ _ le h),
       )
 
   -- a nonempty range starts where an end ends that lies before it, where the place past that end is
@@ -89,202 +114,22 @@ module _ {K : Type 0} (order : KeyOrder K) (lawful : IsLawful order) where
   touches_is (Included a) s known full le = touches_by (Included a) (Excluded a) s refl le
   touches_is (Excluded a) s known full le = touches_by (Excluded a) (Included a) s refl le
   touches_is Unbounded s known full le =
-      let cmp = position_cmp order.cmp in
       let total = position_total order.cmp lawful.total in
       let good = (reaching_is_before_past order lawful s.start s.end known.0 known.1).0 full in (
         λ h. absurd (cc),
         λ h.
-            absurd (lt_not_le cmp total (lower order s) (upper order s) good
-            (le_trans cmp total (upper order s) (past order (end_position order Unbounded))
-            (lower order s) (unbounded_end order lawful s.end known.1) le)),
+            absurd (lt_not_le _ total _ _ good
+            (upto total _ _ _ (unbounded_end order lawful s.end known.1) le)),
       )
 
-  -- how two ranges lie, and what their comparison then answers
-  abbrev pub Lying : AnyRange K → AnyRange K → Type 0
-  Lying r s =
-      (PLt (end_position order r.end) (start_position order s.start)
-      × ((c : Bool)
-      → matches (range_ordering order r s) c
-      ≡ (starts_at_end order r.end (start_position order s.start) && c)))
-      ⊎ (((PLe (start_position order r.start) (end_position order s.end)
-      × PLe (start_position order s.start) (end_position order r.end))
-      × ((c : Bool) → matches (range_ordering order r s) c ≡ true))
-      ⊎ (PLt (end_position order s.end) (start_position order r.start)
-      × ((c : Bool)
-      → matches (range_ordering order r s) c
-      ≡ (starts_at_end order s.end (start_position order r.start) && c))))
-
-  module _ (r s : AnyRange K) (full : Full r) (full' : Full s) where
-    abbrev AnswerBy : Ordering → Ordering → Ordering → Bool → Bool
-    AnswerBy a b d c =
-        matches (if is_lt a
-        then (if is_lt b then lying.Before
-        (starts_at_end order r.end (start_position order s.start)) else lying.Intersecting false
-        (is_eq (position_cmp order.cmp (end_position order r.end) (end_position order s.end))))
-        else (if is_gt d then lying.After
-        (starts_at_end order s.end (start_position order r.start)) else lying.Intersecting
-        (is_eq (position_cmp order.cmp (start_position order r.start)
-        (start_position order s.start)))
-        (is_eq (position_cmp order.cmp (end_position order r.end) (end_position order s.end)))))
-        c
-
-    abbrev LyingBy : Ordering → Ordering → Ordering → Type 0
-    LyingBy a b d =
-        (PLt (end_position order r.end) (start_position order s.start)
-        × ((c : Bool)
-        → AnswerBy a b d c ≡ (starts_at_end order r.end (start_position order s.start) && c)))
-        ⊎ (((PLe (start_position order r.start) (end_position order s.end)
-        × PLe (start_position order s.start) (end_position order r.end))
-        × ((c : Bool) → AnswerBy a b d c ≡ true))
-        ⊎ (PLt (end_position order s.end) (start_position order r.start)
-        × ((c : Bool)
-        → AnswerBy a b d c ≡ (starts_at_end order s.end (start_position order r.start) && c))))
-
-    lower_start_reaches_other_end : PLe (start_position order r.start)
-        (start_position order s.start)
-        → PLe (start_position order r.start) (end_position order s.end)
-    lower_start_reaches_other_end h =
-        le_trans (position_cmp order.cmp) (position_total order.cmp lawful.total)
-        (start_position order r.start) (start_position order s.start)
-        (end_position order s.end) h full'
-
-    upper_start_reaches_end : PLe (start_position order s.start) (start_position order r.start)
-        → PLe (start_position order s.start) (end_position order r.end)
-    upper_start_reaches_end h =
-        le_trans (position_cmp order.cmp) (position_total order.cmp lawful.total)
-        (start_position order s.start) (start_position order r.start)
-        (end_position order r.end) h full
-
-    greater_is_below : (p q : Position K) → position_cmp order.cmp p q ≡ Greater → PLt q p
-    greater_is_below p q e =
-        (position_total order.cmp lawful.total).antisymm q p ∙ ap ordering_reverse e
-
-    lying_by : (a b d : Ordering)
-        → position_cmp order.cmp (start_position order r.start) (start_position order s.start) ≡ a
-        → position_cmp order.cmp (end_position order r.end) (start_position order s.start) ≡ b
-        → position_cmp order.cmp (start_position order r.start) (end_position order s.end) ≡ d
-        → LyingBy a b d
-    lying_by Less Less d e f g = inl (f, λ c. refl)
-    lying_by Less Equal d e f g = let total =
-        position_total order.cmp lawful.total in inr
-        (inl (
-          (
-            lower_start_reaches_other_end
-                (lt_le (position_cmp order.cmp) total (start_position order r.start)
-                (start_position order s.start) e),
-            eq_ge (position_cmp order.cmp) total (end_position order r.end)
-                (start_position order s.start) f,
-          ),
-          λ c. refl,
-        ))
-    lying_by Less Greater d e f g = let total =
-        position_total order.cmp lawful.total in inr
-        (inl (
-          (
-            lower_start_reaches_other_end
-                (lt_le (position_cmp order.cmp) total (start_position order r.start)
-                (start_position order s.start) e),
-            lt_le (position_cmp order.cmp) total (start_position order s.start)
-                (end_position order r.end)
-                (greater_is_below (end_position order r.end) (start_position order s.start) f),
-          ),
-          λ c. refl,
-        ))
-    lying_by Equal b Less e f g = let total =
-        position_total order.cmp lawful.total in inr
-        (inl (
-          (
-            ap is_gt g,
-            upper_start_reaches_end (eq_ge (position_cmp order.cmp) total
-                (start_position order r.start)
-                (start_position order s.start) e),
-          ),
-          λ c. refl,
-        ))
-    lying_by Equal b Equal e f g = let total =
-        position_total order.cmp lawful.total in inr
-        (inl (
-          (
-            ap is_gt g,
-            upper_start_reaches_end (eq_ge (position_cmp order.cmp) total
-                (start_position order r.start)
-                (start_position order s.start) e),
-          ),
-          λ c. refl,
-        ))
-    lying_by Equal b Greater e f g =
-        inr
-        (inr (
-          greater_is_below (start_position order r.start) (end_position order s.end) g,
-          λ c. refl,
-        ))
-    lying_by Greater b Less e f g = let total =
-        position_total order.cmp lawful.total in inr
-        (inl (
-          (
-            ap is_gt g,
-            upper_start_reaches_end (lt_le (position_cmp order.cmp) total
-                (start_position order s.start)
-                (start_position order r.start)
-                (greater_is_below (start_position order r.start) (start_position order s.start) e)),
-          ),
-          λ c. refl,
-        ))
-    lying_by Greater b Equal e f g = let total =
-        position_total order.cmp lawful.total in inr
-        (inl (
-          (
-            ap is_gt g,
-            upper_start_reaches_end (lt_le (position_cmp order.cmp) total
-                (start_position order s.start)
-                (start_position order r.start)
-                (greater_is_below (start_position order r.start) (start_position order s.start) e)),
-          ),
-          λ c. refl,
-        ))
-    lying_by Greater b Greater e f g =
-        inr
-        (inr (
-          greater_is_below (start_position order r.start) (end_position order s.end) g,
-          λ c. refl,
-        ))
-
-    pub lying_of : Lying r s
-    lying_of =
-        lying_by (position_cmp order.cmp (start_position order r.start)
-        (start_position order s.start))
-        (position_cmp order.cmp (end_position order r.end) (start_position order s.start))
-        (position_cmp order.cmp (start_position order r.start) (end_position order s.end)) refl refl
-        refl
-
+  module _ (r s : AnyRange K) (full : ¬ IsEmptyRange order r) (full' : ¬ IsEmptyRange order s) where
     -- two nonempty ranges intersect where neither lies before the other
     pub meets_is : IsTrue (matches (range_ordering order r s) false)
         ↔ (PLe (start_position order r.start) (end_position order s.end)
         × PLe (start_position order s.start) (end_position order r.end))
     meets_is =
-        let total = position_total order.cmp lawful.total in
-        let cmp = position_cmp order.cmp in
-        elim lying_of [
-          | inl (l, f) ↦ (
-            λ h. let e : false ≡ true = sym
-                (and_false (starts_at_end order r.end (start_position order s.start)))
-                ∙ (sym (f false) ∙ h) in absurd (cc),
-            λ h.
-                absurd (lt_not_le cmp total (end_position order r.end)
-                (start_position order s.start) l h.1),
-          )
-          | inr k ↦ elim k [
-            | inl (l, f) ↦ (λ h. l, λ h. f false)
-            | inr (l, f) ↦ (
-              λ h. let e : false ≡ true = sym
-                  (and_false (starts_at_end order s.end (start_position order r.start)))
-                  ∙ (sym (f false) ∙ h) in absurd (cc),
-              λ h.
-                  absurd (lt_not_le cmp total (end_position order s.end)
-                  (start_position order r.start) l h.0),
-            )
-          ]
-        ]
+        answers_met (position_total order.cmp lawful.total) _ _ _ _ _ _ _ _ _ _ (not_greater _ full)
+        (not_greater _ full')
 
     -- where an answer says that neither lies before the other, it says that they intersect
     pub meets_by : (t : Bool) → IsTrue t
@@ -299,14 +144,9 @@ module _ {K : Type 0} (order : KeyOrder K) (lawful : IsLawful order) where
         × PLe (start_position order s.start) (end_position order r.end)
     share_meets (k, key, h, g) =
         let total = position_total order.cmp lawful.total in
-        let cmp = position_cmp order.cmp in
         let own = (holds_by_position order lawful r k key).0 h in
-        let other = (holds_by_position order lawful s k key).0 g in (
-          le_trans cmp total (start_position order r.start) (Beside k At)
-              (end_position order s.end) own.0 other.1,
-          le_trans cmp total (start_position order s.start) (Beside k At)
-              (end_position order r.end) other.0 own.1,
-        )
+        let other = (holds_by_position order lawful s k key).0 g in
+        (upto total _ _ _ own.0 other.1, upto total _ _ _ other.0 own.1)
 
     module _ (complete : IsComplete order) (known : IsKnownRange order r)
         (others : IsKnownRange order s) where
@@ -318,9 +158,9 @@ module _ {K : Type 0} (order : KeyOrder K) (lawful : IsLawful order) where
           (λ x. PLe (start_position order x)
           (end_position order (earlier_end order r.end s.end)))
           (earlier_is order lawful r.end s.end
-          (λ y. PLe (start_position order r.start) (end_position order y)) full h.0)
+          (λ y. PLe (start_position order r.start) (end_position order y)) (not_greater _ full) h.0)
           (earlier_is order lawful r.end s.end
-          (λ y. PLe (start_position order s.start) (end_position order y)) h.1 full') in
+          (λ y. PLe (start_position order s.start) (end_position order y)) h.1 (not_greater _ full')) in
           let found =
           nonempty_holds order lawful complete (common order r s)
           (common_known order lawful r s known others) room in
@@ -339,232 +179,125 @@ module _ {K : Type 0} (order : KeyOrder K) (lawful : IsLawful order) where
       shares_by t h = (λ e. meets_share (h.0 e), λ k. h.1 (share_meets k))
 
   pub held_or_not : (r : AnyRange K) (k : K) → Holds order r k ⊎ (¬ Holds order r k)
-  held_or_not r k = elim (start_decided order lawful r.start k) [
-    | inr out ↦ inr (λ h. out h.0)
-    | inl starts ↦
-        elim (end_decided order lawful r.end k) [
-          | inr out ↦ inr (λ h. out h.1)
-          | inl ends ↦ inl (starts, ends)
-        ]
-  ]
-
-  at_less : (a b : K) → PLt (Beside a At) (Beside b At) → Below order a b
-  at_less a b h = less_unless_equal (order.cmp a b) h
+  held_or_not r k = grind arith
 
   -- the key lies past the end of the one and before the start of the other
   abbrev Gap : AnyRange K → AnyRange K → K → Type 0
   Gap r s k = (¬ EndHolds order r.end k) × (¬ StartHolds order s.start k)
 
-  gap_places : (r s : AnyRange K) (k : K) → IsKnownRange order r → order.is_key k → Gap r s k
-      → PLe (upper order r) (Beside k At) × PLt (Beside k At) (lower order s)
-  gap_places r s k known key h =
-      let total = position_total order.cmp lawful.total in
-      let cmp = position_cmp order.cmp in (
-        not_lt cmp total (upper order r) (Beside k At)
-            (λ l.
-            h.0 ((end_holds order lawful r.end k key).1
-            ((key_reaches order lawful k r.end key known.1).1 l))),
-        not_le cmp total (Beside k At) (lower order s)
-            (λ l. h.1 ((start_holds order lawful s.start k key).1 l)),
-      )
-
   -- where there is such a key the one lies before the other, and they do not touch
-  gap_apart : (r s : AnyRange K) (k : K) → IsKnownRange order r → IsKnownRange order s → Full s
+  pub gap_apart : (r s : AnyRange K) (k : K) → IsKnownRange order r → IsKnownRange order s → Full s
       → order.is_key k → Gap r s k
       → PLt (end_position order r.end) (start_position order s.start)
       × (IsTrue (starts_at_end order r.end (start_position order s.start)) → ⊥)
   gap_apart r s k known others full key h =
       let total = position_total order.cmp lawful.total in
-      let cmp = position_cmp order.cmp in
-      let at = gap_places r s k known key h in
-      let less = le_lt_trans cmp total (upper order r) (Beside k At) (lower order s) at.0 at.1 in
-      let le = lt_le cmp total (upper order r) (lower order s) less in (
+      let less : PLt (upper order r) (lower order s) =
+      not_le _ total _ _ (λ le.
+      h.1 ((start_holds order lawful s.start k key).1 (upto total _ _ _ le
+      (not_lt _ total _ _ (λ l.
+      h.0 ((end_holds order lawful r.end k key).1
+      ((key_reaches order lawful k r.end key known.1).1 l))))))) in
+      let le = ap is_gt less in (
         (before_is r.end s.start known.1 others.0).1 le,
-        λ t. lt_not_le cmp total (upper order r) (lower order s) less
-            ((touches_is r.end s others full le).0 t),
+        λ t. lt_not_le _ total _ _ less ((touches_is r.end s others full le).0 t),
       )
 
   -- with no such key they touch
   pub past_is_start : (e q : Position K) (complete : IsComplete order) → IsEnd order e
       → PLt (past order e) q → IsStart order (past order e)
   unfolding IsStart IsEnd
-  past_is_start (Beside b Before) q complete h l = h.0
-  past_is_start (Beside b At) q complete h l =
-      excluded_start_is_one order lawful b (order.succ b) refl h
-  past_is_start (Beside b After) q complete h l = absurd h
-  past_is_start MinusInfinity q complete h l = absurd h
-  past_is_start PlusInfinity MinusInfinity complete h l = absurd (cc)
-  past_is_start PlusInfinity (Beside b x) complete h l = absurd (cc)
-  past_is_start PlusInfinity PlusInfinity complete h l = absurd (cc)
+  past_is_start v0 q complete h l = grind (arith, excluded_start_is_one)
+
+  -- a key from the place past the one on, before the start of the other, lies between their keys
+  pub between_places : (r s : AnyRange K) → IsKnownRange order r → IsKnownRange order s → (k : K)
+      → PLe (upper order r) (Beside k At) → PLt (Beside k At) (lower order s)
+      → LiesBetween order r s k
+  between_places r s known others k from upto = let total = position_total order.cmp lawful.total in (
+    λ a key h. less_unless_equal (order.cmp a k)
+        (lt_le_trans _ total (Beside a At) _ (Beside k At)
+        ((held_between order lawful r a known key).0 h).1 from),
+    λ b key h. less_unless_equal (order.cmp k b)
+        (lt_le_trans _ total (Beside k At) _ (Beside b At) upto
+        ((held_between order lawful s b others key).0 h).0),
+  )
 
   module _ (complete : IsComplete order) (r s : AnyRange K) (known : IsKnownRange order r)
-      (others : IsKnownRange order s) (full : Full r) (full' : Full s) where
-    -- where the one lies before the other with places between, some key lies between keys of the
-    -- two
-    room_between : PLt (upper order r) (lower order s) → AreConnected order r s → ⊥
+      (others : IsKnownRange order s) where
+    -- one that lies before the other touches it, or a key lies between their places
+    pub touch_or_key : Full s → PLt (end_position order r.end) (start_position order s.start)
+        → IsTrue (starts_at_end order r.end (start_position order s.start))
+        ⊎ KeyFrom order lawful complete (upper order r) (lower order s)
     unfolding NotPast IsBefore KeyFrom
-    room_between l connected =
-        let total = position_total order.cmp lawful.total in
-        let cmp = position_cmp order.cmp in
-        let found =
-        key_from order lawful complete (upper order r) (lower order s)
-        (past_is_start (end_position order r.end) (lower order s) complete
-        (ends_lie_at_ends order lawful r.end known.1) l)
-        (starts_lie_at_starts order lawful s.start others.0) l in
-        let low = nonempty_holds order lawful complete r known full in
-        let high = nonempty_holds order lawful complete s others full' in
-        let under =
-        (key_reaches order lawful low.0 r.end low.1 known.1).0
-        (((holds_by_position order lawful r low.0 low.1).0 low.2).1) in
-        let over = ((holds_by_position order lawful s high.0 high.1).0 high.2).0 in
-        let a_k =
-        at_less low.0 found.0 (lt_le_trans cmp total (Beside low.0 At) (upper order r)
-        (Beside found.0 At) under found.2) in
-        let k_b =
-        at_less found.0 high.0 (lt_le_trans cmp total (Beside found.0 At) (lower order s)
-        (Beside high.0 At) found.3 over) in
-        elim (connected low.0 high.0 found.0 low.1 high.1 found.1 (inl low.2) (inr high.2) a_k
-        k_b) [
-          | inl h ↦
-              lt_not_le cmp total (Beside found.0 At) (upper order r)
-              ((key_reaches order lawful found.0 r.end found.1 known.1).0
-              (((holds_by_position order lawful r found.0 found.1).0 h).1)) found.2
-          | inr h ↦
-              lt_not_le cmp total (Beside found.0 At) (lower order s) found.3
-              (((holds_by_position order lawful s found.0 found.1).0 h).0)
+    touch_or_key full l =
+        let le = (before_is r.end s.start known.1 others.0).0 l in
+        elim (cases _ (position_total order.cmp lawful.total) (upper order r) (lower order s)) [
+          | inl room ↦
+              inr (key_from order lawful complete (upper order r) (lower order s)
+              (past_is_start (end_position order r.end) (lower order s) complete
+              (ends_lie_at_ends order lawful r.end known.1) room)
+              (starts_lie_at_starts order lawful s.start others.0) room)
+          | inr at ↦ inl ((touches_is r.end s others full le).1 at)
         ]
 
-    connected_ranges_touch : PLt (end_position order r.end) (start_position order s.start)
-        → AreConnected order r s → IsTrue (starts_at_end order r.end (start_position order s.start))
-    connected_ranges_touch l connected =
-        let total = position_total order.cmp lawful.total in
-        let cmp = position_cmp order.cmp in
-        let le = (before_is r.end s.start known.1 others.0).0 l in
-        elim (cases cmp total (upper order r) (lower order s)) [
-          | inl room ↦ absurd (room_between room connected)
-          | inr at ↦ (touches_is r.end s others full' le).1 at
-        ]
+    connected_ranges_touch : Full r → Full s
+        → PLt (end_position order r.end) (start_position order s.start) → AreConnected order r s
+        → IsTrue (starts_at_end order r.end (start_position order s.start))
+    unfolding NotPast IsBefore KeyFrom
+    connected_ranges_touch full full' l connected = elim (touch_or_key full' l) [
+      | inl t ↦ t
+      | inr (k, key, from, upto) ↦
+          let low = nonempty_holds order lawful complete r known full in
+          let high = nonempty_holds order lawful complete s others full' in
+          let between = between_places r s known others k from upto in
+          let never : Below order k k =
+          elim (connected low.0 high.0 k low.1 high.1 key (inl low.2) (inr high.2)
+          (between.0 low.0 low.1 low.2) (between.1 high.0 high.1 high.2)) [
+            | inl h ↦ between.0 k key h
+            | inr h ↦ between.1 k key h
+          ] in
+          absurd (lt_not_le order.cmp lawful.total k k never (le_refl order.cmp lawful.total k))
+    ]
 
   swap_connected : (r s : AnyRange K) → AreConnected order r s → AreConnected order s r
-  swap_connected r s h a b k key key' key'' held held' l l' =
-      swapped s r k (h a b k key key' key'' (swapped r s a held) (swapped r s b held') l l')
-    where
-      swapped : (x y : AnyRange K) (c : K) → EitherHolds order y x c → EitherHolds order x y c
-      swapped x y c (inl h) = inr h
-      swapped x y c (inr h) = inl h
-
-  -- a key between keys of the two that is outside both lies in a gap
-  gap_of : (r s : AnyRange K) (a b k : K) → (¬ Holds order r k) → (¬ Holds order s k)
-      → EitherHolds order r s a → EitherHolds order r s b → Below order a k → Below order k b
-      → Gap r s k ⊎ Gap s r k
-  gap_of r s a b k out out' (inl h) (inl g) l u =
-      absurd
-      (out (
-        start_up order lawful r.start a k (lt_le order.cmp lawful.total a k l) h.0,
-        end_down order lawful r.end k b (lt_le order.cmp lawful.total k b u) g.1,
-      ))
-  gap_of r s a b k out out' (inl h) (inr g) l u =
-      inl (
-        λ e. out (start_up order lawful r.start a k (lt_le order.cmp lawful.total a k l) h.0, e),
-        λ e. out' (e, end_down order lawful s.end k b (lt_le order.cmp lawful.total k b u) g.1),
-      )
-  gap_of r s a b k out out' (inr h) (inl g) l u =
-      inr (
-        λ e.
-            out' (start_up order lawful s.start a k (lt_le order.cmp lawful.total a k l) h.0, e),
-        λ e. out (e, end_down order lawful r.end k b (lt_le order.cmp lawful.total k b u) g.1),
-      )
-  gap_of r s a b k out out' (inr h) (inr g) l u =
-      absurd
-      (out' (
-        start_up order lawful s.start a k (lt_le order.cmp lawful.total a k l) h.0,
-        end_down order lawful s.end k b (lt_le order.cmp lawful.total k b u) g.1,
-      ))
-
-  and_true : (t : Bool) → (t && true) ≡ t
-  and_true true = refl
-  and_true false = refl
+  swap_connected r s h a b k key key' key'' held held' l l' = grind arith
 
   module _ (r s : AnyRange K) (known : IsKnownRange order r) (others : IsKnownRange order s)
-      (full : Full r) (full' : Full s) where
-    no_gap : IsTrue (matches (range_ordering order r s) true) → (k : K) → order.is_key k → Gap r s k
-        → ⊥
-    no_gap e k key gap =
-        let total = position_total order.cmp lawful.total in
-        let cmp = position_cmp order.cmp in
-        let apart = gap_apart r s k known others full' key gap in
-        elim (lying_of r s full full') [
-          | inl (l, f) ↦
-              apart.1 (sym (and_true (starts_at_end order r.end (start_position order s.start)))
-              ∙ (sym (f true) ∙ e))
-          | inr h ↦ elim h [
-            | inl (l, f) ↦
-                lt_not_le cmp total (end_position order r.end)
-                (start_position order s.start) apart.0 l.1
-            | inr (l, f) ↦
-                lt_not_le cmp total (end_position order r.end)
-                (start_position order s.start) apart.0
-                (le_trans cmp total (start_position order s.start) (end_position order s.end)
-                (end_position order r.end) full'
-                (le_trans cmp total (end_position order s.end) (start_position order r.start)
-                (end_position order r.end)
-                (lt_le cmp total (end_position order s.end) (start_position order r.start) l)
-                full))
-          ]
-        ]
-
-    no_gap_back : IsTrue (matches (range_ordering order r s) true) → (k : K) → order.is_key k
-        → Gap s r k → ⊥
-    no_gap_back e k key gap =
-        let total = position_total order.cmp lawful.total in
-        let cmp = position_cmp order.cmp in
-        let apart = gap_apart s r k others known full key gap in
-        elim (lying_of r s full full') [
-          | inl (l, f) ↦
-              lt_not_le cmp total (end_position order s.end)
-              (start_position order r.start) apart.0
-              (le_trans cmp total (start_position order r.start) (end_position order r.end)
-              (end_position order s.end) full
-              (le_trans cmp total (end_position order r.end) (start_position order s.start)
-              (end_position order s.end)
-              (lt_le cmp total (end_position order r.end) (start_position order s.start) l)
-              full'))
-          | inr h ↦ elim h [
-            | inl (l, f) ↦
-                lt_not_le cmp total (end_position order s.end)
-                (start_position order r.start) apart.0 l.0
-            | inr (l, f) ↦
-                apart.1 (sym (and_true (starts_at_end order s.end (start_position order r.start)))
-                ∙ (sym (f true) ∙ e))
-          ]
-        ]
+      (full : ¬ IsEmptyRange order r) (full' : ¬ IsEmptyRange order s) where
+    connects_is : IsTrue (matches (range_ordering order r s) true)
+        ↔ ((PLt (end_position order r.end) (start_position order s.start)
+        → IsTrue (starts_at_end order r.end (start_position order s.start)))
+        × (PLt (end_position order s.end) (start_position order r.start)
+        → IsTrue (starts_at_end order s.end (start_position order r.start))))
+    connects_is =
+        answers_connected (position_total order.cmp lawful.total) _ _ _ _ _ _ _ _ _ _ (not_greater _ full)
+        (not_greater _ full')
 
     -- no key between keys of connected ranges is outside both
     pub connected_holds : IsTrue (matches (range_ordering order r s) true) → AreConnected order r s
-    connected_holds e a b k key key' key'' held held' l u = elim (held_or_not r k) [
-      | inl h ↦ inl h
-      | inr out ↦ elim (held_or_not s k) [
-        | inl h ↦ inr h
-        | inr out' ↦
-            elim (gap_of r s a b k out out' held held' l u) [
-              | inl gap ↦ absurd (no_gap e k key'' gap)
-              | inr gap ↦ absurd (no_gap_back e k key'' gap)
-            ]
-      ]
-    ]
+    connected_holds e a b k key key' key'' held held' l u =
+        let from =
+        λ (x : AnyRange K) (h : Holds order x a). start_up order lawful x.start a k (ap is_gt l) h.0
+        in
+        let upto =
+        λ (x : AnyRange K) (h : Holds order x b). end_down order lawful x.end k b (ap is_gt u) h.1
+        in
+        one_holds (start_decided order lawful r.start k) (end_decided order lawful r.end k)
+        (start_decided order lawful s.start k) (end_decided order lawful s.end k)
+        (elim held [ inl h ↦ inl (from r h) | inr h ↦ inr (from s h) ])
+        (elim held' [ inl h ↦ inl (upto r h) | inr h ↦ inr (upto s h) ])
+        (λ g h. let gap = gap_apart r s k known others (not_greater _ full') key'' (g, h) in
+        gap.1 ((connects_is.0 e).0 gap.0))
+        (λ g h. let gap = gap_apart s r k others known (not_greater _ full) key'' (g, h) in
+        gap.1 ((connects_is.0 e).1 gap.0))
 
     -- over complete keys that says that they are connected
     pub holds_connected : IsComplete order → AreConnected order r s
         → IsTrue (matches (range_ordering order r s) true)
-    holds_connected complete h = elim (lying_of r s full full') [
-      | inl (l, f) ↦ f true
-          ∙ (and_true (starts_at_end order r.end (start_position order s.start))
-          ∙ connected_ranges_touch complete r s known others full full' l h)
-      | inr g ↦ elim g [
-        | inl (l, f) ↦ f true
-        | inr (l, f) ↦ f true
-            ∙ (and_true (starts_at_end order s.end (start_position order r.start))
-            ∙ connected_ranges_touch complete s r others known full' full l
-            (swap_connected r s h))
-      ]
-    ]
+    holds_connected complete h =
+        connects_is.1 (
+          λ l. connected_ranges_touch complete r s known others (not_greater _ full)
+              (not_greater _ full') l h,
+          λ l. connected_ranges_touch complete s r others known (not_greater _ full')
+              (not_greater _ full) l (swap_connected r s h),
+        )

@@ -1,13 +1,14 @@
 -- How many keys there are of a kind.
-use Rattle.std.proofs.Common.{◌≡◌, ℕ, zero, suc, ◌+◌, ◌<◌, ◌≤◌, List, [], ◌∷◌, ◌++◌, length, ◌⊎◌, inl, inr, ◌↔◌, refl, sym, ap, subst, ◌∙◌, arith, length-append}
+use Rattle.std.proofs.Common.{◌≡◌, ℕ, zero, suc, ◌+◌, ◌<◌, ◌≤◌, List, [], ◌∷◌, ◌++◌, length, ◌⊎◌, inl, inr, ◌↔◌, refl, ap, subst, arith, length-append}
 use Rattle.std.specs.List.{AllByRecursion}
 use Rattle.std.specs.declared.cmp.Ordering.{Ordering}
 use Rattle.std.specs.declared.cmp.Ordering.TheVariants.{Less, Equal, Greater}
-use Rattle.std.specs.Ordering.{nat_cmp, MatchOrdering, is_gt}
-use Rattle.std.specs.Cmp.{IsTotalOrder, tied_itself, tied_back, alike_right, ranks, ranked, nat_cmp_is}
-use Rattle.range_keys.specs.Order.{KeyOrder, Below, NotAbove}
-use Rattle.range_keys.specs.Counted.{IsCounted, not_above_is, is_not_above}
+use Rattle.std.specs.Ordering.{nat_cmp, MatchOrdering}
+use Rattle.std.specs.Cmp.{IsTotalOrder, tied_itself, ranks}
+use Rattle.range_keys.specs.Order.{KeyOrder, Below}
+use Rattle.range_keys.specs.Counted.{IsCounted}
 use Rattle.range_algebra.specs.Numbers.{Lists, AreRising, IsNumberOfKeys}
+use Rattle.std.proofs.Common.{rules}
 
 module _ {K : Type 0} (order : KeyOrder K) (total : IsTotalOrder order.cmp) where
   all_append : (P : K → Type 0) (xs ys : List K) → AllByRecursion P xs → AllByRecursion P ys
@@ -19,15 +20,13 @@ module _ {K : Type 0} (order : KeyOrder K) (total : IsTotalOrder order.cmp) wher
   all_listed : (P : K → Type 0) (ys : List K) → AllByRecursion order.is_key ys
       → ((b : K) → order.is_key b → Lists order ys b → P b) → AllByRecursion P ys
   all_listed P [] all h = tt
-  all_listed P (y ∷ ys) all h =
-      (h y all.0 (inl (tied_itself total y)), all_listed P ys all.1 (λ b key l. h b key (inr l)))
+  all_listed P (y ∷ ys) all h = search (rules, tied_itself, all_listed P ys all.1 (λ b key l. h b key (inr l)))
 
   from_both : (xs ys : List K) (k : K) → Lists order (xs ++ ys) k
       → Lists order xs k ⊎ Lists order ys k
   from_both [] ys k h = inr h
   from_both (x ∷ xs) ys k (inl h) = inl (inl h)
-  from_both (x ∷ xs) ys k (inr h) =
-      elim (from_both xs ys k h) [ inl g ↦ inl (inr g) | inr g ↦ inr g ]
+  from_both (x ∷ xs) ys k (inr h) = search (rules, from_both xs ys k h)
 
   from_left : (xs ys : List K) (k : K) → Lists order xs k → Lists order (xs ++ ys) k
   from_left [] ys k h = absurd h
@@ -43,12 +42,7 @@ module _ {K : Type 0} (order : KeyOrder K) (total : IsTotalOrder order.cmp) wher
       → ((a b : K) → order.is_key a → order.is_key b → Lists order xs a → Lists order ys b
       → Below order a b) → AreRising order (xs ++ ys)
   rising_append [] ys all all' rising rising' h = rising'
-  rising_append (x ∷ xs) ys all all' rising rising' h = (
-    all_append (Below order x) xs ys rising.0
-        (all_listed (Below order x) ys all'
-        (λ b key l. h x b all.0 key (inl (tied_itself total x)) l)),
-    rising_append xs ys all.1 all' rising.1 rising' (λ a b key key' f g. h a b key key' (inr f) g),
-  )
+  rising_append (x ∷ xs) ys all all' rising rising' h = search (rules, all_append, all_listed, tied_itself, rising_append xs ys all.1 all' rising.1 rising' (λ a b key key' f g. h a b key key' (inr f) g))
 
   length_both : (xs ys : List K) (m n : ℕ) → length xs ≡ m → length ys ≡ n
       → length (xs ++ ys) ≡ m + n
@@ -56,26 +50,12 @@ module _ {K : Type 0} (order : KeyOrder K) (total : IsTotalOrder order.cmp) wher
 
   -- there is no key of a kind that no key is of
   pub number_none : (P : K → Type 0) → ((k : K) → order.is_key k → ¬ P k) → IsNumberOfKeys order P 0
-  number_none P none =
-      record {
-        keys = [];
-        in_type = tt;
-        rising = tt;
-        listed = λ k key. (none k key, λ h. absurd h);
-        many = refl;
-      }
+  number_none v0 none = grind arith
 
   -- keys of the same kind are as many
   pub number_same : (P Q : K → Type 0) (n : ℕ) → ((k : K) → order.is_key k → P k ↔ Q k)
       → IsNumberOfKeys order P n → IsNumberOfKeys order Q n
-  number_same P Q n same h = record {
-    keys = h.keys;
-    in_type = h.in_type;
-    rising = h.rising;
-    listed = λ k key. let s = same k key in let l =
-        h.listed k key in (λ q. l.0 (s.1 q), λ q. s.0 (l.1 q));
-    many = h.many;
-  }
+  number_same v0 v1 n same h = grind arith
 
   -- keys of two kinds, of which all of the one are below all of the other, add up
   pub number_both : (P Q : K → Type 0) (m n : ℕ)
@@ -108,17 +88,7 @@ module _ {K : Type 0} {order : KeyOrder K} {index : K → ℕ} {size : ℕ}
   -- keys lie as their indexes do
   pub below_by_index : (a b : K) → order.is_key a → order.is_key b → Below order a b
       ↔ index a < index b
-  below_by_index a b p q = (
-    λ l. ranked (index a) (index b) Less (sym l ∙ counted.by_index a b p q),
-    λ h. counted.by_index a b p q ∙ sym (nat_cmp_is (index a) (index b) Less h),
-  )
-
-  pub not_above_by_index : (a b : K) → order.is_key a → order.is_key b → NotAbove order a b
-      ↔ index a ≤ index b
-  not_above_by_index a b p q = (
-    λ l. not_above_is (index a) (index b) (sym (ap is_gt (counted.by_index a b p q)) ∙ l),
-    λ h. ap is_gt (counted.by_index a b p q) ∙ is_not_above (index a) (index b) h,
-  )
+  below_by_index a b p q = grind arith
 
   -- the key has one of the n indexes from low on
   abbrev pub IsFrom : ℕ → ℕ → K → Type 0
@@ -126,9 +96,7 @@ module _ {K : Type 0} {order : KeyOrder K} {index : K → ℕ} {size : ℕ}
 
   -- as many keys as indexes
   pub number_from : (low n : ℕ) → low + n ≤ size → IsNumberOfKeys order (IsFrom low n) n
-  number_from low zero h =
-      number_none order counted.total (IsFrom low 0)
-      (λ k key e. let f : low ≤ index k = e.0 in let g : index k < low + 0 = e.1 in omega arith)
+  number_from low zero h = search (rules, number_none, counted.total)
   number_from low (suc n) h =
       let found = counted.key_at low (omega arith) in
       let at : index found.0 ≡ low = found.2 in

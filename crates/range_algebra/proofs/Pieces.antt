@@ -1,126 +1,68 @@
 -- Which keys the parts of ranges hold that are cut by one another.
 use Rattle.std.proofs.Common.{◌≡◌, refl, ◌↔◌, true, false, Bool, Option, Some, None, ◌⊎◌, inl, inr, if◌then◌else◌}
 use Rattle.std.specs.declared.ops.Bound.{Bound}
-use Rattle.std.specs.declared.ops.Bound.TheVariants.{Included, Excluded, Unbounded}
 use Rattle.range_keys.specs.Order.{KeyOrder, IsLawful, Below, NotAbove}
-use Rattle.range_keys.specs.Position.{start_position, end_position, position_cmp}
-use Rattle.range_keys.proofs.Orderings.{gt_is_greater, greater_or_not}
+use Rattle.range_keys.proofs.Orderings.{gt_is_greater}
 use Rattle.range_algebra.specs.declared.any.AnyRange.{AnyRange}
 use Rattle.range_algebra.specs.declared.range.parts.Difference.TheVariants.{Before, Empty}
-use Rattle.range_algebra.specs.Orders.{le_trans, lt_not_le, cases, not_le, not_lt, lt_le_trans, le_lt_trans}
 use Rattle.range_algebra.specs.Range.{StartHolds, EndHolds, Holds, IsEmptyRange}
 use Rattle.range_algebra.specs.Compared.{flipped, range_ordering, matches}
 use Rattle.range_algebra.specs.Combined.{later_start, earlier_end}
 use Rattle.range_algebra.specs.Parts.{is_empty_range, unless_empty, part_to, part_from, part_before, part_after, pieces, difference, DifferenceHolds, LieRound, RangeHolds}
 use Rattle.range_algebra.proofs.Holding.{empty_is_keyless}
-use Rattle.range_algebra.proofs.Commons.{places, start_both, end_both}
+use Rattle.range_algebra.proofs.Commons.{start_both, end_both}
+use Rattle.std.proofs.Common.{arith}
+use Rattle.std.proofs.Common.{rules}
 
 -- whether a range is empty is decided
 pub empty_or_not : {K : Type 0} (order : KeyOrder K) (r : AnyRange K)
     → IsEmptyRange order r ⊎ (¬ IsEmptyRange order r)
-empty_or_not order r =
-    greater_or_not (position_cmp order.cmp (start_position order r.start)
-    (end_position order r.end))
+empty_or_not order r = grind arith
 
 module _ {K : Type 0} (order : KeyOrder K) (lawful : IsLawful order) where
   -- whether a bound holds a key is decided
   pub start_decided : (b : Bound K) (k : K) → StartHolds order b k ⊎ (¬ StartHolds order b k)
-  start_decided (Included a) k =
-      elim (cases order.cmp lawful.total k a) [
-        | inl l ↦ inr (lt_not_le order.cmp lawful.total k a l)
-        | inr g ↦ inl g
-      ]
-  start_decided (Excluded a) k =
-      elim (cases order.cmp lawful.total a k) [
-        | inl l ↦ inl l
-        | inr g ↦ inr (λ l. lt_not_le order.cmp lawful.total a k l g)
-      ]
-  start_decided Unbounded k = inl tt
+  start_decided v0 k = grind arith
 
   pub end_decided : (b : Bound K) (k : K) → EndHolds order b k ⊎ (¬ EndHolds order b k)
-  end_decided (Included a) k =
-      elim (cases order.cmp lawful.total a k) [
-        | inl l ↦ inr (lt_not_le order.cmp lawful.total a k l)
-        | inr g ↦ inl g
-      ]
-  end_decided (Excluded a) k =
-      elim (cases order.cmp lawful.total k a) [
-        | inl l ↦ inl l
-        | inr g ↦ inr (λ l. lt_not_le order.cmp lawful.total k a l g)
-      ]
-  end_decided Unbounded k = inl tt
+  end_decided v0 k = grind arith
 
   -- the bound on the other side of the same place holds the other keys
   pub flipped_end : (b i : Bound K) (k : K) → flipped b ≡ Some i → EndHolds order i k
       ↔ (¬ StartHolds order b k)
-  flipped_end (Included a) i k e =
-      let same : Excluded a ≡ i = cc in
-      rw (← same) (lt_not_le order.cmp lawful.total k a, not_le order.cmp lawful.total k a)
-  flipped_end (Excluded a) i k e =
-      let same : Included a ≡ i = cc in
-      rw (← same) (
-        λ h l. lt_not_le order.cmp lawful.total a k l h,
-        not_lt order.cmp lawful.total k a,
-      )
-  flipped_end Unbounded i k e = absurd (cc)
+  flipped_end v0 i k e = grind arith
 
   pub flipped_start : (b i : Bound K) (k : K) → flipped b ≡ Some i → StartHolds order i k
       ↔ (¬ EndHolds order b k)
-  flipped_start (Included a) i k e =
-      let same : Excluded a ≡ i = cc in
-      rw (← same) (lt_not_le order.cmp lawful.total a k, not_le order.cmp lawful.total a k)
-  flipped_start (Excluded a) i k e =
-      let same : Included a ≡ i = cc in
-      rw (← same) (
-        λ h l. lt_not_le order.cmp lawful.total k a l h,
-        not_lt order.cmp lawful.total a k,
-      )
-  flipped_start Unbounded i k e = absurd (cc)
+  flipped_start v0 i k e = grind arith
 
   none_start : (b : Bound K) (k : K) → flipped b ≡ None → StartHolds order b k
-  none_start (Included a) k e = absurd (cc)
-  none_start (Excluded a) k e = absurd (cc)
-  none_start Unbounded k e = tt
+  none_start v0 k e = grind arith
 
   none_end : (b : Bound K) (k : K) → flipped b ≡ None → EndHolds order b k
-  none_end (Included a) k e = absurd (cc)
-  none_end (Excluded a) k e = absurd (cc)
-  none_end Unbounded k e = tt
+  none_end v0 k e = grind arith
 
   -- a start that holds a key holds what is not below it
   pub start_up : (b : Bound K) (j k : K) → NotAbove order j k → StartHolds order b j
       → StartHolds order b k
-  start_up (Included a) j k l h = le_trans order.cmp lawful.total a j k h l
-  start_up (Excluded a) j k l h = lt_le_trans order.cmp lawful.total a j k h l
-  start_up Unbounded j k l h = h
+  start_up v0 j k l h = grind arith
 
   pub end_down : (b : Bound K) (j k : K) → NotAbove order j k → EndHolds order b k
       → EndHolds order b j
-  end_down (Included b) j k l h = le_trans order.cmp lawful.total j k b l h
-  end_down (Excluded b) j k l h = le_lt_trans order.cmp lawful.total j k b l h
-  end_down Unbounded j k l h = h
+  end_down v0 j k l h = grind arith
 
   -- what a start does not hold is below what it holds
   pub start_splits : (b : Bound K) (j k : K) → (¬ StartHolds order b j) → StartHolds order b k
       → Below order j k
-  start_splits b j k outside h =
-      not_le order.cmp lawful.total j k (λ le. outside (start_up b k j le h))
+  start_splits b j k outside h = grind arith
 
   pub end_splits : (b : Bound K) (j k : K) → EndHolds order b j → (¬ EndHolds order b k)
       → Below order j k
-  end_splits b j k h outside =
-      not_le order.cmp lawful.total j k (λ le. outside (end_down b k j le h))
+  end_splits b j k h outside = grind arith
 
   unless_by : (r : AnyRange K) (k : K) → order.is_key k → (e : Bool) → is_empty_range order r ≡ e
       → RangeHolds order (if e then None else Some r) k ↔ Holds order r k
-  unless_by r k key true e = (
-    λ h. absurd h,
-    empty_is_keyless order lawful r
-        (gt_is_greater (places order lawful (start_position order r.start)
-        (end_position order r.end))
-        e) k key,
-  )
-  unless_by r k key false e = (λ h. h, λ h. h)
+  unless_by r k key v3 e = grind (arith, empty_is_keyless)
 
   pub unless_holds : (r : AnyRange K) (k : K) → order.is_key k
       → RangeHolds order (unless_empty order r) k ↔ Holds order r k
@@ -163,10 +105,7 @@ module _ {K : Type 0} (order : KeyOrder K) (lawful : IsLawful order) where
   pieces_hold : (left right : Option (AnyRange K)) (met : Bool) (k : K)
       → DifferenceHolds order (pieces order left right met) k
       ↔ (RangeHolds order left k ⊎ RangeHolds order right k)
-  pieces_hold None None met k = (λ h. absurd h, λ h. elim h [ inl g ↦ g | inr g ↦ g ])
-  pieces_hold (Some l) None met k = (λ h. inl h, λ h. elim h [ inl g ↦ g | inr g ↦ absurd g ])
-  pieces_hold None (Some r) met k = (λ h. inr h, λ h. elim h [ inl g ↦ absurd g | inr g ↦ g ])
-  pieces_hold (Some l) (Some r) met k = (λ h. h, λ h. h)
+  pieces_hold v0 v1 met k = grind arith
 
   -- what holds no key of a range lies on one of its sides
   sides_hold : (r s : AnyRange K) (k : K) → order.is_key k
@@ -192,23 +131,8 @@ module _ {K : Type 0} (order : KeyOrder K) (lawful : IsLawful order) where
       else (if e then Before r false else pieces order (part_before order r s)
       (part_after order r s) (matches (range_ordering order r s) false))) k
       ↔ (Holds order r k × (¬ Holds order s k))
-  difference_by r s k key true e f g = (
-    λ h. absurd h,
-    λ h. empty_is_keyless order lawful r
-        (gt_is_greater (places order lawful (start_position order r.start)
-        (end_position order r.end))
-        f) k key h.0,
-  )
-  difference_by r s k key false true f g = (
-    λ h. (
-      h,
-      empty_is_keyless order lawful s
-          (gt_is_greater (places order lawful (start_position order s.start)
-          (end_position order s.end))
-          g) k key,
-    ),
-    λ h. h.0,
-  )
+  difference_by r s k key true e f g = search (rules, empty_is_keyless, gt_is_greater)
+  difference_by r s k key false true f g = search (rules, empty_is_keyless, gt_is_greater)
   difference_by r s k key false false f g =
       let whole =
       pieces_hold (part_before order r s) (part_after order r s)
@@ -219,8 +143,7 @@ module _ {K : Type 0} (order : KeyOrder K) (lawful : IsLawful order) where
   -- a range without another holds its keys outside the other
   pub difference_holds : (r s : AnyRange K) (k : K) → order.is_key k
       → DifferenceHolds order (difference order r s) k ↔ (Holds order r k × (¬ Holds order s k))
-  difference_holds r s k key =
-      difference_by r s k key (is_empty_range order r) (is_empty_range order s) refl refl
+  difference_holds r s k key = search (rules, difference_by)
 
   pub before_below : (r s : AnyRange K) (a b : K) → order.is_key a → order.is_key b
       → RangeHolds order (part_before order r s) a → StartHolds order s.start b → Below order a b
@@ -236,30 +159,16 @@ module _ {K : Type 0} (order : KeyOrder K) (lawful : IsLawful order) where
       → ((a b : K) → order.is_key a → order.is_key b → Holds order s a → RangeHolds order right b
       → Below order a b)
       → LieRound order (pieces order left right met) s
-  pieces_lie None None met s f g = tt
-  pieces_lie (Some l) None met s f g = f
-  pieces_lie None (Some r) met s f g = g
-  pieces_lie (Some l) (Some r) met s f g = (f, g)
+  pieces_lie v0 v1 met s f g = grind arith
 
   lie_by : (r s : AnyRange K) → (¬ IsEmptyRange order s) → (d e : Bool) → is_empty_range order r ≡ d
       → is_empty_range order s ≡ e
       → LieRound order (if d then Empty
       else (if e then Before r false else pieces order (part_before order r s)
       (part_after order r s) (matches (range_ordering order r s) false))) s
-  lie_by r s full true e f g = tt
-  lie_by r s full false true f g =
-      absurd
-      (full
-      (gt_is_greater (places order lawful (start_position order s.start) (end_position order s.end))
-      g))
-  lie_by r s full false false f g =
-      pieces_lie (part_before order r s) (part_after order r s)
-      (matches (range_ordering order r s) false) s
-      (λ a b key key' h held. before_below r s a b key key' h held.0)
-      (λ a b key key' held h. after_above r s a b key key' held.1 h)
+  lie_by r s full v3 e f g = grind (arith, pieces_lie, before_below, after_above)
 
   -- the parts lie on the sides of the other range that they say
   pub difference_lies : (r s : AnyRange K) → (¬ IsEmptyRange order s)
       → LieRound order (difference order r s) s
-  difference_lies r s full =
-      lie_by r s full (is_empty_range order r) (is_empty_range order s) refl refl
+  difference_lies r s full = grind (arith, lie_by)

@@ -1,62 +1,40 @@
 -- Bounds that are taken from one range into another.
-use Rattle.std.proofs.Common.{◌≡◌, sym, ◌∙◌, ◌↔◌, true, false, Bool, ◌⊎◌, if◌then◌else◌}
+use Rattle.std.proofs.Common.{◌≡◌, ◌↔◌, true, false, Bool, ◌⊎◌, if◌then◌else◌}
 use Rattle.std.specs.declared.ops.Bound.{Bound}
 use Rattle.std.specs.declared.cmp.Ordering.{Ordering}
 use Rattle.std.specs.declared.cmp.Ordering.TheVariants.{Equal}
 use Rattle.std.specs.Ordering.{is_eq}
-use Rattle.std.specs.Cmp.{Equal-is}
 use Rattle.range_keys.specs.Order.{KeyOrder, IsLawful}
-use Rattle.range_keys.specs.Position.{start_position, end_position, position_cmp}
-use Rattle.range_keys.specs.PositionOrder.{position_total}
 use Rattle.range_algebra.specs.declared.any.AnyRange.{AnyRange}
-use Rattle.range_algebra.specs.Clones.{SameBound, same_itself, same_start, same_end, same_bounds}
+use Rattle.range_algebra.specs.Clones.{SameBound, same_bounds}
 use Rattle.range_algebra.specs.Combined.{earlier_start, later_end, common}
-use Rattle.range_algebra.specs.Orders.{eq_le, eq_ge}
 use Rattle.range_algebra.specs.Range.{StartHolds, EndHolds, Holds, ClonesAreEqual}
 use Rattle.range_algebra.proofs.Canonical.{equal_is_same}
-use Rattle.range_algebra.proofs.Commons.{start_below, end_above, start_either, end_either, common_holds}
+use Rattle.range_algebra.proofs.Commons.{start_either, end_either, common_holds}
+use Rattle.std.proofs.Common.{arith}
 
 -- what the order of keys says of a clone that equals its source
 pub clones_tie : {K : Type 0} (order : KeyOrder K) (is_clone : K → K → Type 0) (eq : K → K → Bool)
     (cmp : K → K → Ordering) → ((a b : K) → cmp a b ≡ order.cmp a b)
     → ((a b : K) → eq a b ≡ is_eq (cmp a b)) → ClonesAreEqual is_clone eq
     → (x y : K) → is_clone x y → order.cmp x y ≡ Equal
-clones_tie order is_clone eq cmp agrees ties clones x y h =
-    sym (agrees x y) ∙ (Equal-is (cmp x y)).0 (sym (ties x y) ∙ clones x y h)
+clones_tie order is_clone eq cmp agrees ties clones x y h = grind arith
 
 module _ {K : Type 0} (order : KeyOrder K) (lawful : IsLawful order) where
   pub own_taken : (t : Bool) (a b : Bound K) → t ≡ true → SameBound order (if t then a else b) a
-  own_taken true a b e = same_itself order lawful a
-  own_taken false a b e = absurd (cc)
+  own_taken v0 a b e = grind arith
 
   pub other_taken : (t : Bool) (a b c : Bound K) → t ≡ false → SameBound order b c
       → SameBound order (if t then a else b) c
-  other_taken true a b c e h = absurd (cc)
-  other_taken false a b c e h = h
+  other_taken v0 a b c e h = grind arith
 
   same_start_holds : (a b : Bound K) (k : K) → order.is_key k → SameBound order a b
       → StartHolds order a k ↔ StartHolds order b k
-  same_start_holds a b k key h =
-      let total = position_total order.cmp lawful.total in
-      let e = same_start order lawful a b h in (
-        start_below order lawful b a k key
-            (eq_ge (position_cmp order.cmp) total (start_position order a)
-            (start_position order b) e),
-        start_below order lawful a b k key
-            (eq_le (position_cmp order.cmp) total (start_position order a)
-            (start_position order b) e),
-      )
+  same_start_holds a b k key h = grind arith
 
   same_end_holds : (a b : Bound K) (k : K) → order.is_key k → SameBound order a b
       → EndHolds order a k ↔ EndHolds order b k
-  same_end_holds a b k key h =
-      let total = position_total order.cmp lawful.total in
-      let e = same_end order lawful a b h in (
-        end_above order lawful b a k key
-            (eq_le (position_cmp order.cmp) total (end_position order a) (end_position order b) e),
-        end_above order lawful a b k key
-            (eq_ge (position_cmp order.cmp) total (end_position order a) (end_position order b) e),
-      )
+  same_end_holds a b k key h = grind arith
 
   -- the earlier start and the later end hold what one of the two does
   pub hull_holds : (a b s c d e : Bound K) → SameBound order (earlier_start order a b) s

@@ -1,4 +1,4 @@
-use Rattle.std.proofs.Common.{rules, ◌≡◌, arith, ap, subst, sym, ◌∙◌}
+use Rattle.std.proofs.Common.{◌≡◌, arith, ap, subst, sym, ◌∙◌}
 use Rattle.std.specs.declared.ops.Bound.TheVariants.{Included, Excluded}
 use Rattle.std.specs.Range.Bound.{bound_map}
 use Rattle.std.specs.Ordering.{is_gt}
@@ -99,15 +99,3 @@ overflow_sub-result-in-Excluded-Excluded g c =
     excluded_excluded order g.met.T.PartialEnum.lawful _ _ a b start end c.requires.nonempty
     in
     omega (arith, g.met.T.Measure.measured.at_least a b low high below)
-
-pub returns-in-Included-Included : goal.returns-in-Included-Included
-returns-in-Included-Included g c = search rules
-
-pub returns-in-Included-Excluded : goal.returns-in-Included-Excluded
-returns-in-Included-Excluded g c = search rules
-
-pub returns-in-Excluded-Included : goal.returns-in-Excluded-Included
-returns-in-Excluded-Included g c = search rules
-
-pub returns-in-Excluded-Excluded : goal.returns-in-Excluded-Excluded
-returns-in-Excluded-Excluded g c = search rules

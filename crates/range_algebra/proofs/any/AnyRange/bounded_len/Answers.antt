@@ -71,20 +71,8 @@ returns-clause-counted g c = λ counts.
     (sym (returns-clause-measure g c))
     (measure_is_number order g.T.Measure.len g.T.Measure.distance counts r c.known.ensures)
 
-pub returns-then-is_empty-clause-measure : goal.returns-then-is_empty-clause-measure
-returns-then-is_empty-clause-measure g c = search rules
-
-pub returns-then-is_empty-clause-empty : goal.returns-then-is_empty-clause-empty
-returns-then-is_empty-clause-empty g c = search rules
-
 pub returns-then-is_empty-clause-untold : goal.returns-then-is_empty-clause-untold
 returns-then-is_empty-clause-untold g c = search rules
-
-pub returns-then-is_empty-clause-counted : goal.returns-then-is_empty-clause-counted
-returns-then-is_empty-clause-counted g c = search rules
-
-pub returns-clause-empty : goal.returns-clause-empty
-returns-clause-empty g c = search rules
 
 pub returns-clause-untold : goal.returns-clause-untold
 returns-clause-untold g c = search rules

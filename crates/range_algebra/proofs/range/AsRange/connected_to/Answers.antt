@@ -1,7 +1,5 @@
 use Rattle.std.proofs.Common.{rules, ◌≡◌, ◌∙◌, sym, true}
 use Rattle.range_algebra.specs.Compared.{range_ordering, matches}
-use Rattle.range_keys.specs.Position.{start_position, end_position, position_cmp}
-use Rattle.range_keys.proofs.Orderings.{not_greater}
 use Rattle.range_algebra.proofs.Meeting.{connected_holds, holds_connected}
 use Rattle.range_algebra.proofs.range.AsRange.connected_to.Goals as goal
 
@@ -11,17 +9,11 @@ returns-clause-complete g c = λ complete full full'.
     let lawful = g.met.Self.Item.PartialEnum.lawful in
     let r = g.Self.AsRange.range c.args.self.now in
     let s = g.R.AsRange.range c.args.other.now in
-    let exact : c.matches.result ≡ matches (range_ordering order r s) true = search rules in
-    let starts =
-    not_greater (position_cmp order.cmp (start_position order r.start)
-    (end_position order r.end)) full in
-    let ends =
-    not_greater (position_cmp order.cmp (start_position order s.start)
-    (end_position order s.end)) full' in (
+    let exact : c.matches.result ≡ matches (range_ordering order r s) true = search rules in (
       λ e.
-          connected_holds order lawful r s c.known_range.ensures c.known_range-2.ensures starts ends
+          connected_holds order lawful r s c.known_range.ensures c.known_range-2.ensures full full'
           (sym exact ∙ e),
       λ h. exact
-          ∙ holds_connected order lawful r s c.known_range.ensures c.known_range-2.ensures starts
-          ends complete h,
+          ∙ holds_connected order lawful r s c.known_range.ensures c.known_range-2.ensures full
+          full' complete h,
     )

@@ -1,7 +1,5 @@
 use Rattle.std.proofs.Common.{rules, ◌≡◌, ◌∙◌, sym, false}
 use Rattle.range_algebra.specs.Compared.{range_ordering, matches}
-use Rattle.range_keys.specs.Position.{start_position, end_position, position_cmp}
-use Rattle.range_keys.proofs.Orderings.{not_greater}
 use Rattle.range_algebra.proofs.Meeting.{intersects_is}
 use Rattle.range_algebra.proofs.range.AsRange.intersects.Goals as goal
 
@@ -12,13 +10,7 @@ returns-clause-complete g c = λ complete full full'.
     let r = g.Self.AsRange.range c.args.self.now in
     let s = g.R.AsRange.range c.args.other.now in
     let exact : c.matches.result ≡ matches (range_ordering order r s) false = search rules in
-    let starts =
-    not_greater (position_cmp order.cmp (start_position order r.start)
-    (end_position order r.end)) full in
-    let ends =
-    not_greater (position_cmp order.cmp (start_position order s.start)
-    (end_position order s.end)) full' in
     let by_keys =
-    intersects_is order lawful r s starts ends complete c.known_range.ensures
+    intersects_is order lawful r s full full' complete c.known_range.ensures
     c.known_range-2.ensures in
     (λ e. by_keys.0 (sym exact ∙ e), λ h. exact ∙ by_keys.1 h)

@@ -19,6 +19,3 @@ returns-clause-complete g c = λ complete none.
     → IsTrue c.starts_past_end.result = search rules in
     empty (keyless_is_empty order g.met.Self.Item.PartialEnum.lawful complete
     (g.Self.AsRange.range c.args.self.now) c.known_range.ensures none)
-
-pub returns-clause-by_position : goal.returns-clause-by_position
-returns-clause-by_position g c = search rules

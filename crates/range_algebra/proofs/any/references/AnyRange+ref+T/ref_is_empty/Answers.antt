@@ -21,6 +21,3 @@ returns-clause-complete g c = λ complete none.
     (c.known_bound.ensures, c.known_bound-2.ensures) in
     empty (keyless_is_empty order g.met.T.PartialEnum.lawful complete
     (range_of c.args.self.now) known none)
-
-pub returns-clause-by_position : goal.returns-clause-by_position
-returns-clause-by_position g c = search rules
