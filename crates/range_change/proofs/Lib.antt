@@ -16,6 +16,7 @@ pub mod Freeing
 pub mod InsertionFrames
 pub mod InsertionPlans
 pub mod ItemPlaces
+pub mod JoinedItems
 pub mod JoinedMiddle
 pub mod Lengths
 pub mod Listed
@@ -33,6 +34,10 @@ pub mod RangeSides
 pub mod Replaced
 pub mod Results
 pub mod RunItems
+pub mod Sewn
+pub mod SewnChanges
+pub mod SidePlans
+pub mod Sides
 pub mod SpelledChanges
 pub mod Spelling
 pub mod Splices

@@ -1,7 +1,8 @@
 -- What is to become of the items beside a range that is bound.
-use Rattle.std.specs.Prelude.{◌≡◌, ◌+◌, ◌≤◌, ◌++◌}
-use Rattle.range_change.specs.Common.{Every, ℕ, Bool, IsTrue, List, [], length, take, drop, Option, Some, None, IsEquivalence, Bound, KeyOrder, IsLawful, SameBound, IsKnownBound, AnyRange, Item, IsAt, place_before, Border, unwrap_or, Touches, Reach}
+use Rattle.std.specs.Prelude.{◌≡◌, ◌+◌, ◌-◌, ◌<◌, ◌≤◌, ◌++◌}
+use Rattle.range_change.specs.Common.{slice_index_or, position_cmp, lower, upper, Le, Lt, true, Every, ℕ, Bool, IsTrue, List, [], length, take, drop, Option, Some, None, IsEquivalence, Bound, KeyOrder, IsLawful, SameBound, IsKnownBound, AnyRange, Item, IsAt, place_before, Border, unwrap_or, Touches, Reach}
 use Rattle.range_change.specs.Frames.{IsStartOf, IsEndOf, IsNewItem}
+use Rattle.range_change.specs.Stored.{item_lower, item_upper}
 use Rattle.range_change.specs.Window.{option_items}
 use Rattle.range_change.specs.Borders.{IsLeftBorder, IsRightBorder, IsLeftShape, IsRightShape, IsRunStart, joined_count, seam_border}
 use Rattle.range_change.specs.Edits.{flipped_bound}
@@ -63,6 +64,33 @@ module _ {K : Type 0} (order : KeyOrder K) {V : Type 0} (same : V → V → Bool
     pub frame : IsRightFrame order same items r v place count end rest finish
     pub few : length (option_items rest) ≤ length (option_items last)
     pub ends : upto + length (option_items last) ≡ place + count + joined_count border
+
+module _ {K : Type 0} (order : KeyOrder K) {V : Type 0} (same : V → V → Bool) {P : Type 0}
+    (is_good : P → Type 0) (rank : P → ℕ) (items : List (Item (AnyRange K) V)) (r : AnyRange K)
+    (v : V) where
+  -- the last of the first `begin` items, if it reaches the range with an equal value
+  abbrev pub IsJoinedLeft : ℕ → Option P → Type 0
+  IsJoinedLeft begin None = (d : Item (AnyRange K) V) → let x =
+      slice_index_or items (begin - 1) d in 0 < begin
+      → Le (position_cmp order.cmp) (lower order r) (item_upper order x) → same x.value v ≡ true → ⊥
+  IsJoinedLeft begin (Some q) =
+      is_good q × (rank q + 1 ≡ begin)
+      × ((d : Item (AnyRange K) V) → let x =
+      slice_index_or items (rank q) d in Le (position_cmp order.cmp) (item_lower order x)
+      (lower order r)
+      × Le (position_cmp order.cmp) (lower order r) (item_upper order x) × (same x.value v ≡ true))
+
+  -- the item at the place, if the range reaches it with an equal value
+  abbrev pub IsJoinedRight : ℕ → Option P → Type 0
+  IsJoinedRight place None = (d : Item (AnyRange K) V) → let x =
+      slice_index_or items place d in place < length items
+      → Le (position_cmp order.cmp) (item_lower order x) (upper order r) → same x.value v ≡ true → ⊥
+  IsJoinedRight place (Some q) =
+      is_good q × (rank q ≡ place)
+      × ((d : Item (AnyRange K) V) → let x =
+      slice_index_or items (rank q) d in Le (position_cmp order.cmp) (item_lower order x)
+      (upper order r)
+      × Lt (position_cmp order.cmp) (upper order r) (item_upper order x) × (same x.value v ≡ true))
 
 module _ {K : Type 0} (order : KeyOrder K) {V : Type 0} (same : V → V → Bool) {P : Type 0}
     {S : Type 0} (is_good : S → P → Type 0) (rank : S → P → ℕ)

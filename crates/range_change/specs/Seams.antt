@@ -5,7 +5,7 @@ use Rattle.range_change.specs.Borders.{IsLeftRest, IsRightRest, IsLeftShape, IsR
 use Rattle.range_change.specs.Edits.{flipped_bound, with_start, with_end}
 use Rattle.range_change.specs.Frames.{IsPart}
 use Rattle.range_change.specs.Stored.{item_lower, item_upper}
-use Rattle.range_change.specs.Plans.{IsLeftPlan, IsRightPlan}
+use Rattle.range_change.specs.Plans.{IsLeftPlan, IsRightPlan, IsJoinedLeft, IsJoinedRight}
 use Rattle.range_change.specs.Window.{option_items}
 
 module _ {K V : Type 0} where
@@ -64,6 +64,27 @@ module _ {K : Type 0} (order : KeyOrder K) {V : Type 0} (same : V → V → Bool
       ⊎ (((m : Item (AnyRange K) V) → previous ≡ Some m
       → Lt (position_cmp order.cmp) (item_upper order m) (upper order r))
       × IsRightCutting last border)
+
+module _ {K : Type 0} (order : KeyOrder K) {V : Type 0} (same : V → V → Bool) {P : Type 0}
+    (is_good : P → Type 0) (rank : P → ℕ) (items : List (Item (AnyRange K) V)) (r : AnyRange K)
+    (place : ℕ) where
+  -- an item that starts where the range does may join, and before any other nothing does
+  abbrev pub IsFirstSeam : Option (Item (AnyRange K) V) → Option P → Type 0
+  IsFirstSeam next found =
+      ((m : Item (AnyRange K) V) × (next ≡ Some m)
+      × (position_cmp order.cmp (item_lower order m) (lower order r) ≡ Equal)
+      × IsJoinedLeft order same is_good rank items r m.value place found)
+      ⊎ (((m : Item (AnyRange K) V) → next ≡ Some m
+      → Lt (position_cmp order.cmp) (lower order r) (item_lower order m)) × (found ≡ None))
+
+  -- so may one that ends where it does
+  abbrev pub IsLastSeam : Option (Item (AnyRange K) V) → Option P → Type 0
+  IsLastSeam previous found =
+      ((m : Item (AnyRange K) V) × (previous ≡ Some m)
+      × (position_cmp order.cmp (item_upper order m) (upper order r) ≡ Equal)
+      × IsJoinedRight order same is_good rank items r m.value place found)
+      ⊎ (((m : Item (AnyRange K) V) → previous ≡ Some m
+      → Lt (position_cmp order.cmp) (item_upper order m) (upper order r)) × (found ≡ None))
 
 module _ {K : Type 0} (order : KeyOrder K) {V : Type 0} (same : V → V → Bool) {P : Type 0}
     {S : Type 0} (is_good : S → P → Type 0) (rank : S → P → ℕ)
