@@ -1,0 +1,127 @@
+-- Which item a range joins on each side: the one that reaches out of it, or else the one that touches
+-- it.
+use Rattle.range_edit.proofs.Common.{common_steps, arith, Position, ◌≡◌, ◌↔◌, ℕ, ◌+◌, ◌-◌, ◌<◌, ◌∙◌, List, length, take, drop, get_or, get_or_read, get_or-take, get_or-drop, length-take-le, length-drop, ap, sym, subst, Option, Some, None, MatchOption, Bool, true, false, IsEquivalence, KeyOrder, IsLawful, AnyRange, IsKnownRange, Item, Window, IsWindow, ReachesBefore, ReachesAfter, TouchesBefore, TouchesNoneBefore, TouchesAfter, TouchesNoneAfter, Touches, lower, upper, item_lower, item_upper, PLe, PLt, lt_le, le_trans, le_lt_trans, lt_le_trans, every_at}
+use Rattle.range_edit.specs.Plans.{IsJoinedLeft, IsJoinedRight}
+use Rattle.range_runs.proofs.CoveredPlaces.{chained_items_have_places}
+use Rattle.range_runs.proofs.Forms.{nonempty_good, stored_chain, touches_is}
+use Rattle.range_edit.proofs.Sides.{first_reaches, last_starts, range_has_places}
+use Rattle.range_runs.proofs.Tests.{not_both}
+
+module _ {K : Type 0} {order : KeyOrder K} (lawful : IsLawful order) {V : Type 0}
+    {same : V → V → Bool} (equal : IsEquivalence same) {P : Type 0} {is_good : P → Type 0}
+    {rank : P → ℕ} {items : List (Item (AnyRange K) V)} {r : AnyRange K} {w : Window P} {place : ℕ}
+    (window : IsWindow order same is_good rank items r w place) (v : V) where
+  good_at : (n : ℕ) (d : Item (AnyRange K) V) → n < length items
+      → PLt lawful (item_lower order (get_or items n d)) (item_upper order (get_or items n d))
+  good_at n d within = every_at _ items n d (chained_items_have_places order lawful same equal items
+      (stored_chain order lawful same equal items window.stored)) within
+
+  -- the item just before the window ends where the range starts at most
+  ends_before : (d : Item (AnyRange K) V) → 0 < place
+      → PLe lawful (item_upper order (get_or items (place - 1) d)) (lower order r)
+  ends_before d some =
+      let lt : place - 1 < place = omega (arith, some) in
+      let size = length-take-le place items (omega (arith, window.in_range)) in
+      rw (get_or-take place items (place - 1) d lt) at (every_at _ (take place items) (place - 1) d
+      window.below (omega (arith, lt, size)))
+
+  -- the item just after it starts where the range ends at least
+  starts_behind : (d : Item (AnyRange K) V) → place + w.count < length items
+      → PLe lawful (upper order r) (item_lower order (get_or items (place + w.count) d))
+  starts_behind d within =
+      let end = place + w.count in
+      let plus : end + 0 ≡ end = omega arith in
+      rw (get_or-drop end items 0 d, plus) at (every_at _ (drop end items) 0 d window.behind
+      (omega (arith, within, length-drop end items)))
+
+  touches_after : (d : Item (AnyRange K) V) → place + w.count < length items
+      → Touches order r (get_or items (place + w.count) d).key
+      ↔ PLe lawful (item_lower order (get_or items (place + w.count) d)) (upper order r)
+  touches_after d within =
+      let end = place + w.count in
+      touches_is order lawful r.end (get_or items end d).key
+      (every_at (λ i. IsKnownRange order i.key) items end d window.stored.known within)
+      (good_at end d within) (starts_behind d within)
+
+  pub left_reaching : (p : P) (x : Item (AnyRange K) V)
+      → ReachesBefore order is_good rank items r place w.count (Some p)
+      → x ≡ get_or items (rank p) x → same x.value v ≡ true
+      → IsJoinedLeft order same is_good rank items r v (place + 1) (Some p)
+  left_reaching p x reach read alike =
+      let here = rw reach.1 at read in (
+        reach.0,
+        omega (arith, reach.1),
+        λ d. rw (← get_or_read items (rank p) x (omega (arith, reach.1, reach.2, window.in_range)) read
+            d) (lt_le lawful _ _ (reach.3 x here),
+            first_reaches lawful equal window x here reach.2, alike),
+      )
+
+  pub left_other : (p : P) (x : Item (AnyRange K) V)
+      → ReachesBefore order is_good rank items r place w.count (Some p)
+      → x ≡ get_or items (rank p) x → same x.value v ≡ false
+      → IsJoinedLeft order same is_good rank items r v (place + 1) None
+  left_other p x reach read differs = λ d some on t.
+      let index : place + 1 - 1 ≡ rank p = omega (arith, reach.1) in
+      not_both differs (rw (index, ← get_or_read items (rank p) x (omega (arith, reach.1, reach.2,
+      window.in_range)) read d) at t)
+
+  pub left_touching : (joined : Option P)
+      → MatchOption joined (TouchesNoneBefore order same items place r v)
+      (λ q. is_good q × (rank q + 1 ≡ place) × TouchesBefore order same items place r v)
+      → IsJoinedLeft order same is_good rank items r v place joined
+  left_touching None none = λ d some on t. none d some ((touches_is order lawful
+      (get_or items (place - 1) d).key.end r window.known (range_has_places lawful equal window)
+      (ends_before d some)).1 on) t
+  left_touching (Some q) (is, next, touching) = (
+    is,
+    next,
+    λ d.
+        let some : 0 < place = omega (arith, next) in
+        let index : rank q ≡ place - 1 = omega (arith, next) in
+        let ends = ends_before d some in
+        let reaches = (touches_is order lawful (get_or items (place - 1) d).key.end r window.known
+        (range_has_places lawful equal window) ends).0 (touching d).0 in
+        rw index (lt_le lawful _ _ (lt_le_trans lawful _ _ _ (good_at (place - 1) d
+        (omega (arith, some, window.in_range))) ends), reaches, (touching d).1),
+  )
+
+  pub right_reaching : (p : P) (x : Item (AnyRange K) V)
+      → ReachesAfter order is_good rank items r place w.count (Some p)
+      → x ≡ get_or items (rank p) x → same x.value v ≡ true
+      → IsJoinedRight order same is_good rank items r v (place + w.count - 1) (Some p)
+  right_reaching p x reach read alike =
+      let index : rank p ≡ place + w.count - 1 = omega (arith, reach.1) in
+      let here = rw index at read in (
+        reach.0,
+        index,
+        λ d. rw (← get_or_read items (rank p) x (omega (arith, reach.1, reach.2, window.in_range)) read
+            d) (last_starts lawful equal window x here reach.2, reach.3 x here, alike),
+      )
+
+  pub right_other : (p : P) (x : Item (AnyRange K) V)
+      → ReachesAfter order is_good rank items r place w.count (Some p)
+      → x ≡ get_or items (rank p) x → same x.value v ≡ false
+      → IsJoinedRight order same is_good rank items r v (place + w.count - 1) None
+  right_other p x reach read differs = λ d some on t.
+      let index : place + w.count - 1 ≡ rank p = omega (arith, reach.1) in
+      not_both differs (rw (index, ← get_or_read items (rank p) x (omega (arith, reach.1, reach.2,
+      window.in_range)) read d) at t)
+
+  pub right_touching : (joined : Option P) → ((p : P) → is_good p → rank p < length items)
+      → MatchOption joined (TouchesNoneAfter order same items (place + w.count) r v)
+      (λ q. is_good q × (rank q ≡ place + w.count)
+      × TouchesAfter order same items (place + w.count) r v)
+      → IsJoinedRight order same is_good rank items r v (place + w.count) joined
+  right_touching None in_range none = λ d within on t.
+      let x = get_or items (place + w.count) d in
+      none d within ((touches_after d within).1 on) (equal.symm v x.value ∙ t)
+  right_touching (Some q) in_range (is, at, touching) = (
+    is,
+    at,
+    λ d.
+        let within : place + w.count < length items = omega (arith, at, in_range q is) in
+        let x = get_or items (place + w.count) d in
+        rw at ((touches_after d within).0 (touching d).0, le_lt_trans lawful _ _ _
+        (starts_behind d within) (good_at (place + w.count) d within),
+        equal.symm x.value v ∙ (touching d).1),
+  )
