@@ -1,10 +1,10 @@
 -- Which item a range joins on each side: the one that reaches out of it, or else the one that touches
 -- it.
-use Rattle.range_edit.proofs.Common.{common_steps, arith, Position, ◌≡◌, ◌↔◌, ℕ, ◌+◌, ◌-◌, ◌<◌, ◌∙◌, List, length, take, drop, get_or, get_or_read, get_or-take, get_or-drop, length-take-le, length-drop, ap, sym, subst, Option, Some, None, MatchOption, Bool, true, false, IsEquivalence, KeyOrder, IsLawful, AnyRange, IsKnownRange, Item, Window, IsWindow, ReachesBefore, ReachesAfter, TouchesBefore, TouchesNoneBefore, TouchesAfter, TouchesNoneAfter, Touches, lower, upper, item_lower, item_upper, PLe, PLt, lt_le, le_trans, le_lt_trans, lt_le_trans, every_at}
+use Rattle.range_edit.proofs.Common.{arith, ◌≡◌, ◌↔◌, ℕ, ◌+◌, ◌-◌, ◌<◌, ◌∙◌, List, length, take, drop, get_or, get_or_read, get_or-take, get_or-drop, length-take-le, length-drop, Option, Some, None, MatchOption, Bool, true, false, IsEquivalence, KeyOrder, IsLawful, AnyRange, IsKnownRange, Item, Window, IsWindow, ReachesBefore, ReachesAfter, TouchesBefore, TouchesNoneBefore, TouchesAfter, TouchesNoneAfter, Touches, option_items, lower, upper, item_lower, item_upper, PLe, PLt, lt_le, le_lt_trans, lt_le_trans, every_at}
 use Rattle.range_edit.specs.Plans.{IsJoinedLeft, IsJoinedRight}
 use Rattle.range_runs.proofs.CoveredPlaces.{chained_items_have_places}
-use Rattle.range_runs.proofs.Forms.{nonempty_good, stored_chain, touches_is}
-use Rattle.range_edit.proofs.Sides.{first_reaches, last_starts, range_has_places}
+use Rattle.range_runs.proofs.Forms.{stored_chain, touches_is}
+use Rattle.range_edit.proofs.SewnSides.{first_reaches, last_starts, range_has_places}
 use Rattle.range_runs.proofs.Tests.{not_both}
 
 module _ {K : Type 0} {order : KeyOrder K} (lawful : IsLawful order) {V : Type 0}
@@ -52,8 +52,11 @@ module _ {K : Type 0} {order : KeyOrder K} (lawful : IsLawful order) {V : Type 0
         reach.0,
         omega (arith, reach.1),
         λ d. rw (← get_or_read items (rank p) x (omega (arith, reach.1, reach.2, window.in_range)) read
-            d) (lt_le lawful _ _ (reach.3 x here),
-            first_reaches lawful equal window x here reach.2, alike),
+            d) (
+              lt_le lawful _ _ (reach.3 x here),
+              first_reaches lawful equal window x here reach.2,
+              alike,
+            ),
       )
 
   pub left_other : (p : P) (x : Item (AnyRange K) V)
@@ -62,17 +65,24 @@ module _ {K : Type 0} {order : KeyOrder K} (lawful : IsLawful order) {V : Type 0
       → IsJoinedLeft order same is_good rank items r v (place + 1) None
   left_other p x reach read differs = λ d some on t.
       let index : place + 1 - 1 ≡ rank p = omega (arith, reach.1) in
-      not_both differs (rw (index, ← get_or_read items (rank p) x (omega (arith, reach.1, reach.2,
-      window.in_range)) read d) at t)
+      not_both differs (rw (
+        index,
+        ← get_or_read items (rank p) x (omega (
+          arith,
+          reach.1,
+          reach.2,
+          window.in_range,
+        )) read d,
+      ) at t)
 
-  pub left_touching : (joined : Option P)
+  touching_left : (joined : Option P)
       → MatchOption joined (TouchesNoneBefore order same items place r v)
       (λ q. is_good q × (rank q + 1 ≡ place) × TouchesBefore order same items place r v)
       → IsJoinedLeft order same is_good rank items r v place joined
-  left_touching None none = λ d some on t. none d some ((touches_is order lawful
+  touching_left None none = λ d some on t. none d some ((touches_is order lawful
       (get_or items (place - 1) d).key.end r window.known (range_has_places lawful equal window)
       (ends_before d some)).1 on) t
-  left_touching (Some q) (is, next, touching) = (
+  touching_left (Some q) (is, next, touching) = (
     is,
     next,
     λ d.
@@ -81,9 +91,20 @@ module _ {K : Type 0} {order : KeyOrder K} (lawful : IsLawful order) {V : Type 0
         let ends = ends_before d some in
         let reaches = (touches_is order lawful (get_or items (place - 1) d).key.end r window.known
         (range_has_places lawful equal window) ends).0 (touching d).0 in
-        rw index (lt_le lawful _ _ (lt_le_trans lawful _ _ _ (good_at (place - 1) d
-        (omega (arith, some, window.in_range))) ends), reaches, (touching d).1),
+        rw index (
+          lt_le lawful _ _ (lt_le_trans lawful _ _ _ (good_at (place - 1) d
+              (omega (arith, some, window.in_range))) ends),
+          reaches,
+          (touching d).1,
+        ),
   )
+
+  pub left_touching : (first joined : Option P) → first ≡ None
+      → MatchOption joined (TouchesNoneBefore order same items place r v)
+      (λ q. is_good q × (rank q + 1 ≡ place) × TouchesBefore order same items place r v)
+      → IsJoinedLeft order same is_good rank items r v (place + length (option_items first)) joined
+  left_touching first joined none found = let plus : place + 0 ≡ place = omega arith in
+      rw (none, plus) (touching_left joined found)
 
   pub right_reaching : (p : P) (x : Item (AnyRange K) V)
       → ReachesAfter order is_good rank items r place w.count (Some p)
@@ -104,24 +125,45 @@ module _ {K : Type 0} {order : KeyOrder K} (lawful : IsLawful order) {V : Type 0
       → IsJoinedRight order same is_good rank items r v (place + w.count - 1) None
   right_other p x reach read differs = λ d some on t.
       let index : place + w.count - 1 ≡ rank p = omega (arith, reach.1) in
-      not_both differs (rw (index, ← get_or_read items (rank p) x (omega (arith, reach.1, reach.2,
-      window.in_range)) read d) at t)
+      not_both differs (rw (
+        index,
+        ← get_or_read items (rank p) x (omega (
+          arith,
+          reach.1,
+          reach.2,
+          window.in_range,
+        )) read d,
+      ) at t)
 
-  pub right_touching : (joined : Option P) → ((p : P) → is_good p → rank p < length items)
+  touching_right : (joined : Option P) → ((p : P) → is_good p → rank p < length items)
       → MatchOption joined (TouchesNoneAfter order same items (place + w.count) r v)
       (λ q. is_good q × (rank q ≡ place + w.count)
       × TouchesAfter order same items (place + w.count) r v)
       → IsJoinedRight order same is_good rank items r v (place + w.count) joined
-  right_touching None in_range none = λ d within on t.
+  touching_right None in_range none = λ d within on t.
       let x = get_or items (place + w.count) d in
       none d within ((touches_after d within).1 on) (equal.symm v x.value ∙ t)
-  right_touching (Some q) in_range (is, at, touching) = (
+  touching_right (Some q) in_range (is, at, touching) = (
     is,
     at,
     λ d.
         let within : place + w.count < length items = omega (arith, at, in_range q is) in
         let x = get_or items (place + w.count) d in
-        rw at ((touches_after d within).0 (touching d).0, le_lt_trans lawful _ _ _
-        (starts_behind d within) (good_at (place + w.count) d within),
-        equal.symm x.value v ∙ (touching d).1),
+        rw at (
+          (touches_after d within).0 (touching d).0,
+          le_lt_trans lawful _ _ _
+              (starts_behind d within) (good_at (place + w.count) d within),
+          equal.symm x.value v ∙ (touching d).1,
+        ),
   )
+
+  pub right_touching : (last joined : Option P) → last ≡ None
+      → ((p : P) → is_good p → rank p < length items)
+      → MatchOption joined (TouchesNoneAfter order same items (place + w.count) r v)
+      (λ q. is_good q × (rank q ≡ place + w.count)
+      × TouchesAfter order same items (place + w.count) r v)
+      → IsJoinedRight order same is_good rank items r v
+      (place + w.count - length (option_items last)) joined
+  right_touching last joined none in_range found =
+      let plus : place + w.count - 0 ≡ place + w.count = omega arith in
+      rw (none, plus) (touching_right joined in_range found)

@@ -1,16 +1,25 @@
 -- What is planned on both sides of a range for a list that comes to stand there.
-use Rattle.range_edit.proofs.Common.{common_steps, ◌≡◌, ℕ, ◌+◌, ◌-◌, ◌<◌, ◌≤◌, ◌⊎◌, inl, inr, List, [], ◌∷◌, ◌++◌, length, take, drop, get_or, refl, ap, sym, ◌∙◌, arith, Option, Some, None, Bool, true, slice_get, IsEquivalence, ForSome, tied_itself, position_total, Bound, KeyOrder, IsLawful, AnyRange, place_before, IsAt, Item, kept_at, good_at, joined_count, IsGoodBorder, IsLeftShape, IsRightShape, left_side, right_side, IsRunStart, IsReach, IsWindow, IsStored, IsKnownBound, SameBound, flipped_bound, seam_border, border_at, option_items, Border, Window, AreWithin, ReachesBefore, ReachesAfter, with_start, with_end, with_first_start, lower, upper, item_lower, item_upper, PLe, PLt, lt_not_le, le_refl}
+use Rattle.range_edit.proofs.Common.{Bor, option_copied, subst, common_steps, ◌≡◌, ℕ, ◌+◌, ◌-◌, ◌<◌, ◌≤◌, inl, inr, List, [], ◌∷◌, ◌++◌, length, take, get_or, refl, ap, ◌∙◌, arith, Option, Some, None, Bool, true, slice_get, IsEquivalence, tied_itself, position_total, Bound, KeyOrder, IsLawful, AnyRange, IsAt, Item, joined_count, IsLeftShape, IsRightShape, right_side, IsRunStart, IsReach, IsWindow, IsStored, IsKnownBound, SameBound, flipped_bound, seam_border, option_items, Border, Window, AreWithin, ReachesBefore, ReachesAfter, with_start, with_end, with_first_start, lower, upper, item_lower, item_upper, PLe, lt_not_le}
 use Rattle.range_edit.specs.declared.borders.Joins.{Joins}
 use Rattle.range_edit.specs.declared.reach.Reach.{Reach}
 use Rattle.range_edit.specs.Borders.{IsSeamAt, run_length}
 use Rattle.range_edit.specs.Plans.{IsJoinedLeft, IsJoinedRight}
 use Rattle.range_edit.specs.Reach.{AreApart}
 use Rattle.range_edit.specs.Seams.{IsFirstSeam, IsLastSeam}
-use Rattle.range_edit.proofs.BoundEdits.{shape_kept, border_good, cut_joins_none}
+use Rattle.range_edit.proofs.BoundEdits.{cut_joins_none}
 use Rattle.range_runs.proofs.ItemPlaces.{element_at, element_at_is_read}
 use Rattle.range_edit.proofs.Lengths.{border_length}
 use Rattle.range_edit.proofs.OuterBounds.{ending}
-use Rattle.range_edit.proofs.Sides.{IsLeftSide, IsRightSide, first_reaches, last_starts, left_side_cut, left_side_joined, left_side_whole, right_side_cut, right_side_joined, right_side_whole}
+use Rattle.range_edit.proofs.SewnSides.{IsLeftSide, IsRightSide, first_reaches, last_starts, own_stored, own_within, left_side_cut, left_side_joined, left_side_whole, right_side_cut, right_side_joined, right_side_whole}
+
+pub got_none : {X : Type 0} (P : X → Type 0) (o : Option (Bor X)) → o ≡ None → (m : X)
+    → option_copied o ≡ Some m → P m
+got_none P o is m e = absurd (cc)
+
+pub got_only : {X : Type 0} (P : X → Type 0) (o : Option (Bor X)) (i : Bor X) → o ≡ Some i → P i.now
+    → (m : X) → option_copied o ≡ Some m → P m
+got_only P o i is h m e = let item : i.now ≡ m =
+    cc in subst P item h
 
 first_of : {X : Type 0} (xs : List X) (m : X) → slice_get xs 0 ≡ Some m
     → (ms : List X) × (xs ≡ m ∷ ms)
@@ -255,10 +264,14 @@ module _ {K : Type 0} {order : KeyOrder K} (lawful : IsLawful order) {V : Type 0
     plan_one {v} first last =
         let own : Item (AnyRange K) V = record { key = r; value = v } in
         let total = position_total order.cmp lawful.total in
-        plan_run {middle = own ∷ []} (record {
-          known = (found.window.known, tt);
-          nonempty = (found.window.nonempty, tt);
-          rising = (tt, tt);
-        }) (record { starts = le_refl lawful _; ends = le_refl lawful _ }, tt)
-        (inl (own, refl, tied_itself total (lower order r), first))
+        plan_run (own_stored lawful equal v found.window.known found.window.nonempty)
+        (own_within lawful equal r v) (inl (own, refl, tied_itself total (lower order r), first))
         (inl (own, refl, tied_itself total (upper order r), last))
+
+    -- for none
+    pub plan_none : joins.before ≡ None → joins.after ≡ None
+        → IsPlan order same lawful equal is_good rank items r place reach.window.count [] reach.first
+        reach.last border behind from count
+    plan_none no_first no_last =
+        plan_run (record { known = tt; nonempty = tt; rising = tt }) tt
+        (inr (λ m is. absurd (cc), no_first)) (inr (λ m is. absurd (cc), no_last))

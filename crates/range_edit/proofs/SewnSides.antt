@@ -1,5 +1,5 @@
 -- What stands on each side of a range, and how it is sewn to a list that comes to stand there.
-use Rattle.range_edit.proofs.Common.{common_steps, Line, Position, ◌≡◌, ℕ, zero, suc, ◌+◌, ◌-◌, ◌<◌, ◌≤◌, List, [], ◌∷◌, ◌++◌, length, take, drop, get_or, refl, ap, sym, ◌∙◌, arith, subst, inl, inr, Option, Some, None, Bool, true, IsTrue, slice_get, append_assoc, append-nil, length-drop, length-take-le, get_or-take, get_or-drop, drop_more, IsEquivalence, Every, Any, KeyOrder, IsLawful, position_total, tied_itself, AnyRange, IsKnownRange, Item, Equal, lt_le, eq_le, eq_ge, le_refl, le_trans, le_lt_trans, lt_le_trans, lt_not_le, PLe, PLt, line_of, IsLeft, IsRight, Leading, lower, upper, past, end_position, item_lower, item_upper, IsWindow, option_items, Window, every_at, list_is_take_and_drop, every_weaker, every_append, every_left, every_right, any_left, any_right, Bound, Touches, IsPart, HasValue, IsStored, ReachesBefore, ReachesAfter, flipped_bound, with_start, with_end, SameBound, IsKnownBound, unwrap_or, with_first_start, with_last_end, AreWithin}
+use Rattle.range_edit.proofs.Common.{common_steps, Line, Position, ◌≡◌, ℕ, zero, suc, ◌+◌, ◌-◌, ◌<◌, ◌≤◌, List, [], ◌∷◌, ◌++◌, length, take, drop, get_or, refl, ap, sym, ◌∙◌, arith, subst, inl, inr, Option, Some, None, Bool, true, IsTrue, slice_get, append_assoc, append-nil, length-drop, length-take-le, get_or-take, get_or-drop, IsEquivalence, Every, Any, KeyOrder, IsLawful, position_total, tied_itself, AnyRange, IsEmptyRange, IsKnownRange, Item, Equal, lt_le, eq_le, eq_ge, le_refl, le_trans, le_lt_trans, lt_le_trans, PLe, PLt, line_of, IsLeft, IsRight, Leading, lower, upper, past, end_position, item_lower, item_upper, IsWindow, option_items, Window, every_at, list_is_take_and_drop, every_weaker, every_append, every_left, every_right, any_left, any_right, Bound, Touches, IsPart, IsStored, ReachesBefore, ReachesAfter, flipped_bound, with_start, with_end, SameBound, IsKnownBound, with_first_start, with_last_end, AreWithin}
 use Rattle.range_runs.proofs.Tests.{same_some}
 use Rattle.range_runs.proofs.Chains.{chain_above, chain_before, chain_right, strictly_leads, same_is_symmetric}
 use Rattle.range_runs.proofs.ChainSides.{left_whole, left_cut, right_whole, right_cut}
@@ -9,7 +9,7 @@ use Rattle.range_runs.proofs.Forms.{places, nonempty_good, Known, Chained, store
 use Rattle.range_runs.proofs.CutParts.{cut_end, cut_start}
 use Rattle.range_runs.proofs.Extents.{past_le}
 use Rattle.range_edit.proofs.InsertionFrames.{any_of_run}
-use Rattle.range_edit.proofs.OuterBounds.{ending, every_started, last_of, item_with_end, regrouped_last, started_last, with_last}
+use Rattle.range_edit.proofs.OuterBounds.{ending, regrouped_last, started_last, with_last}
 use Rattle.range_runs.proofs.RangePieces.{any_over, every_with}
 use Rattle.range_runs.proofs.ItemPlaces.{element_at, element_at_is_read, listed_at, upto_item, from_item}
 
@@ -371,8 +371,11 @@ module _ {K : Type 0} {order : KeyOrder K} (lawful : IsLawful order) {V : Type 0
               let s = last_is init m list in
               let ends = every_right _ init (m ∷ []) (rw list at inner_ends) in
               rw s.whole (leading_last line (Front ++ s.more) s.z (upper order r) v s.chain
-              (rw (s.same_end, s.same_value) (ends.0, λ on t. apart m last on
-              (same_is_symmetric line m.value v t))))
+              (rw (s.same_end, s.same_value) (
+                ends.0,
+                λ on t. apart m last on
+                    (same_is_symmetric line m.value v t),
+              )))
         ]
 
         right_apart : (beyond : Option (Item (AnyRange K) V)) → IsRight line items (option_items beyond
@@ -436,11 +439,14 @@ module _ {K : Type 0} {order : KeyOrder K} (lawful : IsLawful order) {V : Type 0
             (rw split at in_order) (last_starts x read some) ends
             (cut_start order lawful x.key.end r.end b known_x.1 ends cut.1)
             (tied_itself (position_total order.cmp lawful.total) (item_upper order x)) copied))
-            ((cut.0, known_x.1), tt) (record {
-              start = inr (inr cut.1);
-              end = inr (inl (last_met x read some (λ i. x.key.end ≡ i.key.end) refl));
-              value = last_met x read some (λ i. IsTrue (same u i.value)) copied;
-            }, tt) (λ z zs is le. let first : u ≡ z.value = cc in body_leads z.value (rw first at other))
+            ((cut.0, known_x.1), tt) (
+              record {
+                start = inr (inr cut.1);
+                end = inr (inl (last_met x read some (λ i. x.key.end ≡ i.key.end) refl));
+                value = last_met x read some (λ i. IsTrue (same u i.value)) copied;
+              },
+              tt,
+            ) (λ z zs is le. let first : u ≡ z.value = cc in body_leads z.value (rw first at other))
             (other, tt)
 
         -- no item of the window ends after it
@@ -552,3 +558,12 @@ module _ {K : Type 0} {order : KeyOrder K} (lawful : IsLawful order) {V : Type 0
               made = tt;
               apart = tt;
             }
+
+  -- one item, whose range is that of the change
+  pub own_stored : {r : AnyRange K} (v : V) → IsKnownRange order r → (IsEmptyRange order r → ⊥)
+      → IsStored order same (record { key = r; value = v } ∷ [])
+  own_stored v known full =
+      record { known = (known, tt); nonempty = (full, tt); rising = (tt, tt) }
+
+  pub own_within : (r : AnyRange K) (v : V) → AreWithin order (record { key = r; value = v } ∷ []) r
+  own_within r v = (record { starts = le_refl lawful _; ends = le_refl lawful _ }, tt)
