@@ -37,7 +37,7 @@ pub use Rattle.range_runs.proofs.PlaceOrder.{PLe, PLt, both, eq_ge, eq_le, le_lt
 pub use Rattle.range_runs.specs.Answers.{Answered, AnswersPiece, AreAnswersTo, IsAsAnswered, IsGathered, IsGivenBy, IsUpdated, MayAnswer, SucceedsAtFirst, piece_of}
 pub use Rattle.range_runs.specs.Bindings.{Binds, IsSomeOf}
 pub use Rattle.range_edit.specs.Borders.{BorderSide, IsBorderShape, IsDivided, IsGoodBorder, IsLeftEdited, IsLeftShape, IsRightEdited, IsRightShape, IsRunStart, TouchesAfter, TouchesBefore, TouchesNoneAfter, TouchesNoneBefore, border_at, joined_count, joined_item, left_side, right_side, seam_border}
-pub use Rattle.range_runs.specs.Chains.{Has, IsBoundTo, IsChain, IsLeft, IsRight, IsSpliced, Leading, Line, Trails, line_of}
+pub use Rattle.range_runs.specs.Chains.{Has, IsBoundTo, IsChain, IsLeft, IsRight, IsSpliced, Leading, Line, line_of}
 pub use Rattle.range_edit.specs.Changes.{IsInserted, IsRemoved}
 pub use Rattle.range_runs.specs.Edits.{flipped_bound, with_end, with_start}
 pub use Rattle.range_runs.specs.Frames.{HasValue, IsEndOf, IsInsertionFrame, IsMergeFrame, IsMergedInto, IsNewItem, IsPart, IsRemovalFrame, IsSpliceFrame, IsStartOf, IsUpdateFrame, JoinsOrMeets}

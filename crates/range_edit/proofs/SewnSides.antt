@@ -3,8 +3,7 @@ use Rattle.range_edit.proofs.Common.{common_steps, Line, Position, ◌≡◌, �
 use Rattle.range_runs.proofs.Tests.{same_some}
 use Rattle.range_runs.proofs.Chains.{chain_above, chain_before, chain_right, strictly_leads, same_is_symmetric}
 use Rattle.range_runs.proofs.ChainSides.{left_whole, left_cut, right_whole, right_cut}
-use Rattle.range_runs.proofs.ChainJoins.{leading_by, leading_last}
-use Rattle.range_runs.proofs.Sewn.{IsSewn, sewn_apart, sewn_joined}
+use Rattle.range_runs.proofs.Sewn.{IsSewn, leading_by, leading_last, sewn_apart, sewn_joined}
 use Rattle.range_runs.proofs.Forms.{places, nonempty_good, Known, Chained, stored_chain, every_front, every_back, touches_is}
 use Rattle.range_runs.proofs.CutParts.{cut_end, cut_start}
 use Rattle.range_runs.proofs.Extents.{past_le}
@@ -25,6 +24,17 @@ module _ {K : Type 0} {order : KeyOrder K} (lawful : IsLawful order) {V : Type 0
   TakesEndOf i xs = Any (λ j. (j.key.end ≡ i.key.end) × (PLt lawful (item_lower order j)
       (upper order r) × PLt lawful (lower order r) (item_upper order j))
       × IsTrue (same i.value j.value)) xs
+
+  module _ (middle : List (Item (AnyRange K) V)) (v : V) where
+    -- what starts the list starts after the range does, or has another value
+    abbrev pub StartsApart : Type 0
+    StartsApart = (m : Item (AnyRange K) V) → slice_get middle 0 ≡ Some m
+        → PLe lawful (item_lower order m) (lower order r) → same v m.value ≡ true → ⊥
+
+    -- what ends it ends before the range does, or has another value
+    abbrev pub EndsApart : Type 0
+    EndsApart = (m : Item (AnyRange K) V) → slice_get middle (length middle - 1) ≡ Some m
+        → PLe lawful (upper order r) (item_upper order m) → same v m.value ≡ true → ⊥
 
 module _ {K : Type 0} (order : KeyOrder K) (lawful : IsLawful order) {V : Type 0}
     (same : V → V → Bool) (equal : IsEquivalence same) (items : List (Item (AnyRange K) V))
@@ -50,9 +60,7 @@ module _ {K : Type 0} (order : KeyOrder K) (lawful : IsLawful order) {V : Type 0
           × TakesStartOf lawful same r i (with_first_start start middle)) extra
       pub given : (b : Bound K) → start ≡ Some b → Any (λ i. b ≡ i.key.start) (extra ++ Met)
       pub made : Every (IsPart order same Met r) (option_items rest)
-      pub apart : Every (λ j. (m : Item (AnyRange K) V) → slice_get middle 0 ≡ Some m
-          → PLe lawful (item_lower order m) (lower order r) → same j.value m.value ≡ true → ⊥)
-          (option_items rest)
+      pub apart : Every (λ j. StartsApart lawful same r middle j.value) (option_items rest)
 
     -- what stands there, sewn with the end that it joins to a rest and the items after the range
     pub record IsRightSide (front body : List (Item (AnyRange K) V)) (end : ℕ)
@@ -71,10 +79,7 @@ module _ {K : Type 0} (order : KeyOrder K) (lawful : IsLawful order) {V : Type 0
           → PLt lawful (lower order r) (past order (end_position order b))
       pub given : (b : Bound K) → finish ≡ Some b → Any (λ i. b ≡ i.key.end) (Met ++ extra)
       pub made : Every (IsPart order same Met r) (option_items rest)
-      pub apart : Every (λ j. (m : Item (AnyRange K) V)
-          → slice_get middle (length middle - 1) ≡ Some m
-          → PLe lawful (upper order r) (item_upper order m) → same j.value m.value ≡ true → ⊥)
-          (option_items rest)
+      pub apart : Every (λ j. EndsApart lawful same r middle j.value) (option_items rest)
 
 module _ {K : Type 0} {order : KeyOrder K} (lawful : IsLawful order) {V : Type 0}
     {same : V → V → Bool} (equal : IsEquivalence same) where
@@ -166,6 +171,9 @@ module _ {K : Type 0} {order : KeyOrder K} (lawful : IsLawful order) {V : Type 0
 
     module _ {middle : List (Item (AnyRange K) V)} (others : IsStored order same middle)
         (within : AreWithin order middle r) where
+      abbrev LeftSide : ℕ → Option (Item (AnyRange K) V) → Option (Bound K) → Type 0
+      LeftSide = IsLeftSide order lawful same equal items r place w.count middle
+
       inner : Chained order lawful same equal middle
       inner = stored_chain order lawful same equal middle others
 
@@ -179,14 +187,12 @@ module _ {K : Type 0} {order : KeyOrder K} (lawful : IsLawful order) {V : Type 0
       left_apart : (rest : Option (Item (AnyRange K) V)) → IsLeft line items (take place items
           ++ option_items rest) (lower order r)
           → Every (λ i. IsKnownRange order i.key) (option_items rest)
-          → Every (IsPart order same (Met order lawful same equal items r place w.count) r)
+          → Every (IsPart order same (take w.count (drop place items)) r)
           (option_items rest) → ((m : Item (AnyRange K) V) → slice_get middle 0 ≡ Some m
           → PLe lawful (item_lower order m) (lower order r)
           → Leading line (lower order r) m.value (take place items ++ option_items rest)) →
-          Every (λ j. (m : Item (AnyRange K) V) → slice_get middle 0 ≡ Some m
-          → PLe lawful (item_lower order m) (lower order r) → same j.value m.value ≡ true → ⊥)
-          (option_items rest)
-          → IsLeftSide order lawful same equal items r place w.count middle place rest None
+          Every (λ j. StartsApart lawful same r middle j.value) (option_items rest)
+          → LeftSide place rest None
       left_apart rest left known made leads apart =
           let front = take place items ++ option_items rest in
           record {
@@ -212,9 +218,7 @@ module _ {K : Type 0} {order : KeyOrder K} (lawful : IsLawful order) {V : Type 0
       pub left_side_cut : (x : Item (AnyRange K) V) → x ≡ get_or items place x → 0 < w.count
           → PLt lawful (item_lower order x) (lower order r) → (b : Bound K)
           → IsKnownBound order b × SameBound order (flipped_bound r.start) b
-          → ((m : Item (AnyRange K) V) → slice_get middle 0 ≡ Some m
-          → PLe lawful (item_lower order m) (lower order r) → same x.value m.value ≡ true → ⊥)
-          → IsLeftSide order lawful same equal items r place w.count middle place
+          → StartsApart lawful same r middle x.value → LeftSide place
           (Some (with_end x b)) None
       left_side_cut x read some starts b cut apart =
           let inside : place < length items = omega (arith, some, window.in_range) in
@@ -237,8 +241,7 @@ module _ {K : Type 0} {order : KeyOrder K} (lawful : IsLawful order) {V : Type 0
           → ((m : Item (AnyRange K) V) → slice_get middle 0 ≡ Some m
           → PLe lawful (item_lower order m) (lower order r) → (d : Item (AnyRange K) V) → 0 < place
           → PLe lawful (lower order r) (item_upper order (get_or items (place - 1) d))
-          → same (get_or items (place - 1) d).value m.value ≡ true → ⊥)
-          → IsLeftSide order lawful same equal items r place w.count middle place None None
+          → same (get_or items (place - 1) d).value m.value ≡ true → ⊥) → LeftSide place None None
       left_side_whole reach apart =
           let parts = list_is_take_and_drop items place in
           let front = take place items in
@@ -286,7 +289,7 @@ module _ {K : Type 0} {order : KeyOrder K} (lawful : IsLawful order) {V : Type 0
           → places order lawful (item_lower order m) (lower order r) ≡ Equal
           → PLe lawful (item_lower order x) (lower order r)
           → PLe lawful (lower order r) (item_upper order x) → same x.value m.value ≡ true
-          → IsLeftSide order lawful same equal items r place w.count middle n None
+          → LeftSide n None
           (Some x.key.start)
       left_side_joined first m ms list before n at inside x read starts from reaches alike =
           let total = position_total order.cmp lawful.total in
@@ -324,12 +327,15 @@ module _ {K : Type 0} {order : KeyOrder K} (lawful : IsLawful order) {V : Type 0
           }
 
       module _ {at : ℕ} {rest : Option (Item (AnyRange K) V)} {start : Option (Bound K)}
-          (left : IsLeftSide order lawful same equal items r place w.count middle at rest start) where
+          (left : LeftSide at rest start) where
         abbrev Front : List (Item (AnyRange K) V)
         Front = take at items ++ option_items rest
 
         abbrev Body : List (Item (AnyRange K) V)
         Body = with_first_start start middle
+
+        abbrev RightSide : ℕ → Option (Item (AnyRange K) V) → Option (Bound K) → Type 0
+        RightSide = IsRightSide order lawful same equal items r place w.count middle Front Body
 
         -- another start leaves the last item its end and its value
         record IsLast (m : Item (AnyRange K) V) : Type 0 where
@@ -359,9 +365,7 @@ module _ {K : Type 0} {order : KeyOrder K} (lawful : IsLawful order) {V : Type 0
             }
 
         -- what stands there leads to the end of the range, if its last item does
-        body_leads : (v : V) → ((m : Item (AnyRange K) V)
-            → slice_get middle (length middle - 1) ≡ Some m
-            → PLe lawful (upper order r) (item_upper order m) → same v m.value ≡ true → ⊥)
+        body_leads : (v : V) → EndsApart lawful same r middle v
             → Leading line (upper order r) v (Front ++ Body)
         body_leads v apart = elim (ending middle) [
           | inl none ↦ every_weaker _ _ (Front ++ Body)
@@ -386,10 +390,7 @@ module _ {K : Type 0} {order : KeyOrder K} (lawful : IsLawful order) {V : Type 0
             ++ drop (place + w.count) items ≡ y ∷ ys
             → PLe lawful (item_lower order y) (upper order r)
             → Leading line (upper order r) y.value (Front ++ Body)) →
-            Every (λ j. (m : Item (AnyRange K) V) → slice_get middle (length middle - 1) ≡ Some m
-            → PLe lawful (upper order r) (item_upper order m) → same j.value m.value ≡ true → ⊥)
-            (option_items beyond)
-            → IsRightSide order lawful same equal items r place w.count middle Front Body
+            Every (λ j. EndsApart lawful same r middle j.value) (option_items beyond) → RightSide
             (place + w.count) beyond None
         right_apart beyond right known made leads apart =
             let end = place + w.count in
@@ -417,10 +418,7 @@ module _ {K : Type 0} {order : KeyOrder K} (lawful : IsLawful order) {V : Type 0
         pub right_side_cut : (x : Item (AnyRange K) V) → x ≡ get_or items (place + w.count - 1) x
             → 0 < w.count → PLt lawful (upper order r) (item_upper order x) → (b : Bound K)
             → IsKnownBound order b × SameBound order (flipped_bound r.end) b → (u : V)
-            → same u x.value ≡ true → ((m : Item (AnyRange K) V)
-            → slice_get middle (length middle - 1) ≡ Some m
-            → PLe lawful (upper order r) (item_upper order m) → same x.value m.value ≡ true → ⊥)
-            → IsRightSide order lawful same equal items r place w.count middle Front Body
+            → same u x.value ≡ true → EndsApart lawful same r middle x.value → RightSide
             (place + w.count) (Some (record { key = record { start = b; end = x.key.end }; value = u }))
             None
         right_side_cut x read some ends b cut u copied apart =
@@ -455,8 +453,7 @@ module _ {K : Type 0} {order : KeyOrder K} (lawful : IsLawful order) {V : Type 0
             → PLe lawful (upper order r) (item_upper order m) → (d : Item (AnyRange K) V)
             → place + w.count < length items
             → PLe lawful (item_lower order (get_or items (place + w.count) d)) (upper order r)
-            → same (get_or items (place + w.count) d).value m.value ≡ true → ⊥)
-            → IsRightSide order lawful same equal items r place w.count middle Front Body
+            → same (get_or items (place + w.count) d).value m.value ≡ true → ⊥) → RightSide
             (place + w.count) None None
         right_side_whole reach apart =
             let end = place + w.count in
@@ -510,7 +507,7 @@ module _ {K : Type 0} {order : KeyOrder K} (lawful : IsLawful order) {V : Type 0
             → places order lawful (item_upper order m) (upper order r) ≡ Equal
             → PLe lawful (item_lower order x) (upper order r)
             → PLt lawful (upper order r) (item_upper order x) → same x.value m.value ≡ true
-            → IsRightSide order lawful same equal items r place w.count middle Front Body (n + 1) None
+            → RightSide (n + 1) None
             (Some x.key.end)
         right_side_joined last init m list after n at inside x read ends reaches over alike =
             let total = position_total order.cmp lawful.total in

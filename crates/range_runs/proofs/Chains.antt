@@ -1,5 +1,5 @@
 -- Chains in parts, and chains that are joined.
-use Rattle.range_runs.proofs.Common.{arith, common_steps, inl, inr, ◌≡◌, ◌∙◌, ◌⊎◌, true, List, [], ◌∷◌, ◌++◌, Every, Equal, Le, Lt, Line, Leads, Trails, Follows, IsChain}
+use Rattle.range_runs.proofs.Common.{arith, common_steps, inl, inr, ◌≡◌, ◌∙◌, ◌⊎◌, true, List, [], ◌∷◌, ◌++◌, Every, Equal, Le, Lt, Line, Leads, Follows, IsChain}
 use Rattle.range_algebra.specs.Orders
 
 module _ {L V X : Type 0} (line : Line L V X) where
@@ -76,9 +76,6 @@ module _ {L V X : Type 0} (line : Line L V X) where
 
   pub strictly_leads : (x : X) (p : L) (v : V) → Lt line.cmp (line.hi x) p → Leads line x p v
   strictly_leads x p v h = grind (arith, common_steps)
-
-  pub strictly_trails : (x : X) (p : L) (v : V) → Lt line.cmp p (line.lo x) → Trails line p v x
-  strictly_trails x p v h = grind (arith, common_steps)
 
   -- all that stand before an item lead to it
   pub chain_before : (xs : List X) (y : X) (ys : List X) → IsChain line (xs ++ y ∷ ys)

@@ -1,5 +1,4 @@
 pub mod AnswerLists
-pub mod ChainJoins
 pub mod ChainSides
 pub mod Chains
 pub mod Common

@@ -1,6 +1,6 @@
 -- Two chains sewn together at a place: below it stands what the one holds, and from it on what the
 -- other does.
-use Rattle.range_runs.proofs.Common.{arith, common_steps, ◌≡◌, refl, ℕ, suc, ◌+◌, length, get_or, Bool, true, List, [], ◌∷◌, ◌++◌, ◌↔◌, ◌⊎◌, inl, inr, append-nil, Every, Equal, Le, Lt, any_left, any_right, any_split, every_weaker, every_append, Line, Leads, IsChain, Has, Held, Respects, Leading, IsLeft, IsRight, IsSpliced}
+use Rattle.range_runs.proofs.Common.{arith, common_steps, ◌≡◌, refl, ℕ, suc, ◌+◌, length, get_or, Bool, true, List, [], ◌∷◌, ◌++◌, ◌↔◌, inl, inr, append-nil, Every, Equal, Le, Lt, any_left, any_right, any_split, every_weaker, every_append, Line, Leads, IsChain, Has, Respects, Leading, IsLeft, IsRight, IsSpliced}
 use Rattle.range_runs.proofs.Chains.{same_is_symmetric, chain_left, chain_right, follows_above, follows_like, strictly_leads, chain_before, chains_join, cases, lt_le, eq_le, eq_ge, le_trans, lt_le_trans, le_lt_trans}
 use Rattle.range_runs.proofs.ChainSides.{none_below, none_above, only_first, only_second, like_item, leading_like}
 
@@ -8,6 +8,27 @@ pub through : {A B C : Type 0} → A ↔ B → B ↔ C → A ↔ C
 through f g = (λ a. g.0 (f.0 a), λ c. f.1 (g.1 c))
 
 module _ {L V X : Type 0} (line : Line L V X) where
+  pub leading_last : (front : List X) (y : X) (c : L) (v : V) → IsChain line (front ++ y ∷ [])
+      → Leads line y c v → Leading line c v (front ++ y ∷ [])
+  leading_last front y c v chain leads =
+      let before = chain_before line front y [] chain in
+      let good = chain_right line front (y ∷ []) chain in
+      every_append _ front (y ∷ []) (grind (arith, common_steps, every_weaker, strictly_leads, le_lt_trans, lt_le_trans)) (leads, tt)
+
+  -- a chain leads to a place where its last item does
+  pub leading_by : (xs : List X) (c : L) (v : V) → IsChain line xs
+      → Every (λ x. Le line.cmp (line.hi x) c) xs
+      → ((n : ℕ) → n + 1 ≡ length xs → (d : X) → Le line.cmp (line.hi (get_or xs n d)) c
+      → Le line.cmp c (line.hi (get_or xs n d)) → line.same (line.value (get_or xs n d)) v ≡ true
+      → ⊥) → Leading line c v xs
+  leading_by [] c v chain ends apart = tt
+  leading_by (x ∷ []) c v chain ends apart = ((ends.0, apart 0 refl x ends.0), tt)
+  leading_by (x ∷ y ∷ ys) c v chain ends apart = (
+    strictly_leads line x c v (le_lt_trans line _ _ _ chain.1.0.0
+        (lt_le_trans line _ _ _ chain.1.1.0 ends.1.0)),
+    leading_by (y ∷ ys) c v chain.1.1 ends.1 (λ n at. apart (suc n) (omega (arith, at))),
+  )
+
   pub record IsSewn (low high new : List X) (c : L) : Type 0 where
     pub chain : IsChain line new
     pub below : (p : L) (W : V → Bool) → Respects line W → Lt line.cmp p c
