@@ -70,5 +70,4 @@ module _ {K : Type 0} {order : KeyOrder K} (lawful : IsLawful order) {V : Type 0
         (subst (λ (y : Item (AnyRange K) V). Overlap order y.key r) (there ∙ sym read) met)
 
     pub some_meets : 0 < w.count → Every (λ i. Overlap order i.key r → ⊥) items → ⊥
-    some_meets some none = any_none (λ i. Overlap order i.key r) (λ i. Overlap order i.key r → ⊥)
-        items none (λ i no met. no met) (meets_some some)
+    some_meets some none = grind (arith, common_steps, any_none, meets_some)

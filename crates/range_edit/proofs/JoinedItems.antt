@@ -6,6 +6,7 @@ use Rattle.range_runs.proofs.CoveredPlaces.{chained_items_have_places}
 use Rattle.range_runs.proofs.Forms.{stored_chain, touches_is}
 use Rattle.range_edit.proofs.SewnSides.{first_reaches, last_starts, range_has_places}
 use Rattle.range_runs.proofs.Tests.{not_both}
+use Rattle.std.proofs.lemmas.Grind.{common_steps}
 
 module _ {K : Type 0} {order : KeyOrder K} (lawful : IsLawful order) {V : Type 0}
     {same : V → V → Bool} (equal : IsEquivalence same) {P : Type 0} {is_good : P → Type 0}
@@ -28,52 +29,24 @@ module _ {K : Type 0} {order : KeyOrder K} (lawful : IsLawful order) {V : Type 0
   -- the item just after it starts where the range ends at least
   starts_behind : (d : Item (AnyRange K) V) → place + w.count < length items
       → PLe lawful (upper order r) (item_lower order (get_or items (place + w.count) d))
-  starts_behind d within =
-      let end = place + w.count in
-      let plus : end + 0 ≡ end = omega arith in
-      rw (get_or-drop end items 0 d, plus) at (every_at _ (drop end items) 0 d window.behind
-      (omega (arith, within, length-drop end items)))
+  starts_behind d within = grind (arith, common_steps, get_or-drop, every_at, length-drop)
 
   touches_after : (d : Item (AnyRange K) V) → place + w.count < length items
       → Touches order r (get_or items (place + w.count) d).key
       ↔ PLe lawful (item_lower order (get_or items (place + w.count) d)) (upper order r)
-  touches_after d within =
-      let end = place + w.count in
-      touches_is order lawful r.end (get_or items end d).key
-      (every_at (λ i. IsKnownRange order i.key) items end d window.stored.known within)
-      (good_at end d within) (starts_behind d within)
+  touches_after d within = grind (arith, common_steps, touches_is, every_at, good_at, starts_behind)
 
   pub left_reaching : (p : P) (x : Item (AnyRange K) V)
       → ReachesBefore order is_good rank items r place w.count (Some p)
       → x ≡ get_or items (rank p) x → same x.value v ≡ true
       → IsJoinedLeft order same is_good rank items r v (place + 1) (Some p)
-  left_reaching p x reach read alike =
-      let here = rw reach.1 at read in (
-        reach.0,
-        omega (arith, reach.1),
-        λ d. rw (← get_or_read items (rank p) x (omega (arith, reach.1, reach.2, window.in_range)) read
-            d) (
-              lt_le lawful _ _ (reach.3 x here),
-              first_reaches lawful equal window x here reach.2,
-              alike,
-            ),
-      )
+  left_reaching p x reach read alike = grind (arith, common_steps, get_or_read, lt_le, first_reaches)
 
   pub left_other : (p : P) (x : Item (AnyRange K) V)
       → ReachesBefore order is_good rank items r place w.count (Some p)
       → x ≡ get_or items (rank p) x → same x.value v ≡ false
       → IsJoinedLeft order same is_good rank items r v (place + 1) None
-  left_other p x reach read differs = λ d some on t.
-      let index : place + 1 - 1 ≡ rank p = omega (arith, reach.1) in
-      not_both differs (rw (
-        index,
-        ← get_or_read items (rank p) x (omega (
-          arith,
-          reach.1,
-          reach.2,
-          window.in_range,
-        )) read d,
-      ) at t)
+  left_other p x reach read differs = grind (arith, common_steps, not_both, get_or_read)
 
   touching_left : (joined : Option P)
       → MatchOption joined (TouchesNoneBefore order same items place r v)
@@ -110,52 +83,21 @@ module _ {K : Type 0} {order : KeyOrder K} (lawful : IsLawful order) {V : Type 0
       → ReachesAfter order is_good rank items r place w.count (Some p)
       → x ≡ get_or items (rank p) x → same x.value v ≡ true
       → IsJoinedRight order same is_good rank items r v (place + w.count - 1) (Some p)
-  right_reaching p x reach read alike =
-      let index : rank p ≡ place + w.count - 1 = omega (arith, reach.1) in
-      let here = rw index at read in (
-        reach.0,
-        index,
-        λ d. rw (← get_or_read items (rank p) x (omega (arith, reach.1, reach.2, window.in_range)) read
-            d) (last_starts lawful equal window x here reach.2, reach.3 x here, alike),
-      )
+  right_reaching p x reach read alike = grind (arith, common_steps, get_or_read, last_starts)
 
   pub right_other : (p : P) (x : Item (AnyRange K) V)
       → ReachesAfter order is_good rank items r place w.count (Some p)
       → x ≡ get_or items (rank p) x → same x.value v ≡ false
       → IsJoinedRight order same is_good rank items r v (place + w.count - 1) None
-  right_other p x reach read differs = λ d some on t.
-      let index : place + w.count - 1 ≡ rank p = omega (arith, reach.1) in
-      not_both differs (rw (
-        index,
-        ← get_or_read items (rank p) x (omega (
-          arith,
-          reach.1,
-          reach.2,
-          window.in_range,
-        )) read d,
-      ) at t)
+  right_other p x reach read differs = grind (arith, common_steps, not_both, get_or_read)
 
   touching_right : (joined : Option P) → ((p : P) → is_good p → rank p < length items)
       → MatchOption joined (TouchesNoneAfter order same items (place + w.count) r v)
       (λ q. is_good q × (rank q ≡ place + w.count)
       × TouchesAfter order same items (place + w.count) r v)
       → IsJoinedRight order same is_good rank items r v (place + w.count) joined
-  touching_right None in_range none = λ d within on t.
-      let x = get_or items (place + w.count) d in
-      none d within ((touches_after d within).1 on) (equal.symm v x.value ∙ t)
-  touching_right (Some q) in_range (is, at, touching) = (
-    is,
-    at,
-    λ d.
-        let within : place + w.count < length items = omega (arith, at, in_range q is) in
-        let x = get_or items (place + w.count) d in
-        rw at (
-          (touches_after d within).0 (touching d).0,
-          le_lt_trans lawful _ _ _
-              (starts_behind d within) (good_at (place + w.count) d within),
-          equal.symm x.value v ∙ (touching d).1,
-        ),
-  )
+  touching_right None in_range none = grind (arith, common_steps, touches_after)
+  touching_right (Some q) in_range (is, at, touching) = grind (arith, common_steps, touches_after, le_lt_trans, starts_behind, good_at)
 
   pub right_touching : (last joined : Option P) → last ≡ None
       → ((p : P) → is_good p → rank p < length items)

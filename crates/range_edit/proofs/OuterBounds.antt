@@ -81,8 +81,7 @@ module _ {K V : Type 0} where
   length_ended None xs = refl
   length_ended (Some b) [] = refl
   length_ended (Some b) (i ∷ []) = refl
-  length_ended (Some b) (i ∷ j ∷ rest) = let more =
-      length_ended (Some b) (j ∷ rest) in omega (arith, more)
+  length_ended (Some b) (i ∷ j ∷ rest) = grind (arith, common_steps, length_ended (Some b) (j ∷ rest))
 
   -- what holds of each item, and of one with another outer bound, holds of each once it has that
   pub every_started : (P : Item (AnyRange K) V → Type 0) (start : Option (Bound K))

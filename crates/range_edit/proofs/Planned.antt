@@ -30,22 +30,7 @@ module _ {K V P : Type 0} {is_good is_good' : P → Type 0} {rank rank' : P → 
       → IsRightShape is_good rank items right upto end after finish →
       IsAt is_good rank (length items) from begin → begin + count ≡ upto → end ≤ length items →
       IsFit is_good' rank' items' left right from count at end before after start finish
-  plan_fits left right from count at begin upto end before after start finish on_left on_right is_at
-      sum within =
-      let moved = kept_at is_good is_good' rank rank' (length items) from begin kept is_at in
-      let size : length items' ≡ length items = ap length same_list in
-      let here : place_before rank' (length items') from ≡ begin = grind (arith, common_steps) in
-      let least =
-      border_length is_good rank items right_side right upto end after finish on_right in
-      record {
-        left_good = border_good kept same_list left_side left at begin before start on_left;
-        right_good = border_good kept same_list right_side right upto end after finish on_right;
-        good = good_at is_good' rank' (length items) from begin moved;
-        in_range = rw (here, size, sum) (omega (arith, least, within));
-        on_left = subst (λ n. IsLeftShape is_good' rank' items' left at n before start) (sym here)
-            (shape_kept kept same_list left_side left at begin before start on_left);
-        on_right = grind (arith, common_steps, right, shape_kept, on_right);
-      }
+  plan_fits left right from count at begin upto end before after start finish on_left on_right is_at sum within = grind (arith, common_steps, kept_at, common_steps, border_length, border_good, good_at, shape_kept)
 
 module _ {K : Type 0} {order : KeyOrder K} {lawful : IsLawful order} {V : Type 0}
     {same : V → V → Bool} {equal : IsEquivalence same} {P : Type 0} {is_good : P → Type 0}
@@ -70,24 +55,4 @@ module _ {K : Type 0} {order : KeyOrder K} {lawful : IsLawful order} {V : Type 0
       ++ option_items plan.left.rest ++ put ++ option_items plan.right.rest
       ++ drop plan.right.end items
       → 2 * length new + reach.window.count ≤ 2 * length items + 2 * length put + 2
-  planned_size {reach} plan found apart new put made =
-      let left = plan.left in
-      let right = plan.right in
-      let left_is = border_length is_good rank items left_side border left.at left.begin left.rest
-      left.start left.shape in
-      let right_is = border_length is_good rank items right_side behind right.upto right.end
-      right.rest right.finish right.shape in
-      let size = changed_length items new (option_items left.rest) put (option_items right.rest)
-      left.at right.end (omega (arith, left_is, left.begins, apart, found.window.in_range))
-      right.side.in_range made in
-      omega (
-        arith,
-        size,
-        left_is,
-        right_is,
-        left.begins,
-        right.ends,
-        apart,
-        one_item reach.first,
-        one_item reach.last,
-      )
+  planned_size {reach} plan found apart new put made = grind (arith, common_steps, border_length, changed_length, one_item)

@@ -87,9 +87,7 @@ module _ {K : Type 0} {order : KeyOrder K} (lawful : IsLawful order) {V : Type 0
 
     parted : new ≡ ((take at items ++ option_items rest) ++ Inner)
         ++ (option_items beyond ++ drop end items)
-    parted = changed
-        ∙ append_assoc (take at items ++ option_items rest ++ Inner) (option_items beyond)
-        (drop end items)
+    parted = grind (arith, common_steps, changed)
 
     made : IsSpliced line items middle new (lower order r) (upper order r)
     made = rw parted (sewn_between line (range_has_places lawful equal window) left.sewn right.sewn)
@@ -111,13 +109,11 @@ module _ {K : Type 0} {order : KeyOrder K} (lawful : IsLawful order) {V : Type 0
 
     every_run : (Q : Item (AnyRange K) V → Type 0) → Every Q left.extra → Every Q Met
         → Every Q right.extra → Every Q Run
-    every_run Q first met last = every_append Q (left.extra ++ Met) right.extra
-        (every_append Q left.extra Met first met) last
+    every_run Q first met last = grind (arith, common_steps, every_append)
 
     every_other : (Q : Item (AnyRange K) V → Type 0) → Every Q (option_items rest) → Every Q Inner
         → Every Q (option_items beyond) → Every Q Others
-    every_other Q first inner last = every_append Q (option_items rest ++ Inner)
-        (option_items beyond) (every_append Q (option_items rest) Inner first inner) last
+    every_other Q first inner last = grind (arith, common_steps, every_append)
 
     part_of_run : (j : Item (AnyRange K) V) → IsPart order same Met r j → IsPart order same Run r j
     part_of_run j h = record {
@@ -248,30 +244,16 @@ module _ {K : Type 0} {order : KeyOrder K} (lawful : IsLawful order) {V : Type 0
         → TakesStartOf lawful same r i (with_first_start start (own ∷ []))
         ⊎ TakesEndOf lawful same r i (with_last_end finish (with_first_start start (own ∷ [])))
         → IsTrue (same i.value v)
-    takes_value i h =
-        let ys = with_first_start start (own ∷ []) in
-        let all = every_started (λ j. j.value ≡ u) start (own ∷ []) (λ j b is h. h) (refl, tt) in
-        let alike = λ (j : Item (AnyRange K) V) (t : IsTrue (same i.value j.value)) (e : j.value ≡ u).
-        equal.congr i.value u v (rw e at t) ∙ values in
-        elim h [
-          | inl k ↦ any_use _ _ ys k all (λ j t. alike j t.2)
-          | inr k ↦ any_use _ _ (with_last_end finish ys) k
-              (every_ended (λ j. j.value ≡ u) finish ys (λ j b is h. h) all) (λ j t. alike j t.2)
-        ]
+    takes_value i h = grind (arith, common_steps, every_started, any_use, every_ended)
 
     starts_of : (b : Bound K) → start ≡ Some b → Any (λ i. b ≡ i.key.start) Whole
     starts_of b is = any_left _ (left.extra ++ Met) right.extra (left.given b is)
 
     ends_of : (b : Bound K) → finish ≡ Some b → Any (λ i. b ≡ i.key.end) Whole
-    ends_of b is = rw (append_assoc left.extra Met right.extra)
-        (any_right _ left.extra (Met ++ right.extra) (right.given b is))
+    ends_of b is = grind (arith, common_steps, any_right)
 
     own_is_new : IsNewItem order same Whole r v (joined_item own start finish)
-    own_is_new = record {
-      start = given_start order Whole r start starts_of;
-      end = given_end order Whole r finish ends_of;
-      value = inl values;
-    }
+    own_is_new = grind (arith, common_steps, given_start, starts_of, given_end, ends_of)
 
     no_rest : (o : Option (Item (AnyRange K) V)) → Every (IsPart order same Met r) (option_items o)
         → Every (λ i. IsTrue (same i.value v)) Whole

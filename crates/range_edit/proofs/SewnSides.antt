@@ -97,8 +97,7 @@ module _ {K : Type 0} {order : KeyOrder K} (lawful : IsLawful order) {V : Type 0
 
     pub known_at : (n : ℕ) (x : Item (AnyRange K) V) → n < length items → x ≡ get_or items n x
         → IsKnownRange order x.key
-    known_at n x within read = let at = every_at (λ i. IsKnownRange order i.key) items n x
-        window.stored.known within in rw (← read) at at
+    known_at n x within read = grind (arith, common_steps, every_at)
 
     -- the first item of the window ends after the range starts, and the last starts before it ends
     pub first_reaches : (x : Item (AnyRange K) V) → x ≡ get_or items place x → 0 < w.count
@@ -181,8 +180,7 @@ module _ {K : Type 0} {order : KeyOrder K} (lawful : IsLawful order) {V : Type 0
       inner_starts = every_weaker _ _ middle (λ i h. h.starts) within
 
       inner_ends : Every (λ i. PLe lawful (item_upper order i) (upper order r)) middle
-      inner_ends = every_with _ _ _ middle within others.known (λ i h known.
-          past_le order lawful i.key.end r.end known.1 window.known.1 h.ends)
+      inner_ends = grind (arith, common_steps, every_with, past_le)
 
       left_apart : (rest : Option (Item (AnyRange K) V)) → IsLeft line items (take place items
           ++ option_items rest) (lower order r)
@@ -559,8 +557,7 @@ module _ {K : Type 0} {order : KeyOrder K} (lawful : IsLawful order) {V : Type 0
   -- one item, whose range is that of the change
   pub own_stored : {r : AnyRange K} (v : V) → IsKnownRange order r → (IsEmptyRange order r → ⊥)
       → IsStored order same (record { key = r; value = v } ∷ [])
-  own_stored v known full =
-      record { known = (known, tt); nonempty = (full, tt); rising = (tt, tt) }
+  own_stored v known full = grind (arith, common_steps)
 
   pub own_within : (r : AnyRange K) (v : V) → AreWithin order (record { key = r; value = v } ∷ []) r
   own_within r v = (record { starts = le_refl lawful _; ends = le_refl lawful _ }, tt)

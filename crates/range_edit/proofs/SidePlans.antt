@@ -18,8 +18,7 @@ got_none P o is m e = absurd (cc)
 
 pub got_only : {X : Type 0} (P : X → Type 0) (o : Option (Bor X)) (i : Bor X) → o ≡ Some i → P i.now
     → (m : X) → option_copied o ≡ Some m → P m
-got_only P o i is h m e = let item : i.now ≡ m =
-    cc in subst P item h
+got_only P o i is h m e = grind (arith, common_steps)
 
 first_of : {X : Type 0} (xs : List X) (m : X) → slice_get xs 0 ≡ Some m
     → (ms : List X) × (xs ≡ m ∷ ms)
@@ -272,6 +271,4 @@ module _ {K : Type 0} {order : KeyOrder K} (lawful : IsLawful order) {V : Type 0
     pub plan_none : joins.before ≡ None → joins.after ≡ None
         → IsPlan order same lawful equal is_good rank items r place reach.window.count [] reach.first
         reach.last border behind from count
-    plan_none no_first no_last =
-        plan_run (record { known = tt; nonempty = tt; rising = tt }) tt
-        (inr (λ m is. absurd (cc), no_first)) (inr (λ m is. absurd (cc), no_last))
+    plan_none no_first no_last = grind (arith, common_steps, plan_run)

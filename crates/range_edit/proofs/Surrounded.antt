@@ -12,9 +12,6 @@ use Rattle.range_edit.proofs.MergedItems.{surrounded_alone}
 use Rattle.range_edit.proofs.BoundEdits.{standing_item_splits_list}
 use Rattle.range_edit.proofs.UpdatedLists.{whole_piece}
 
-none_of : {P : Type 0} (o : Option P) → length (option_items o) ≤ 0 → o ≡ None
-none_of option few = grind (arith, common_steps)
-
 module _ {K : Type 0} {order : KeyOrder K} {V : Type 0} {same : V → V → Bool} {P : Type 0}
     {is_good : P → Type 0} {rank : P → ℕ} {items : List (Item (AnyRange K) V)} {r : AnyRange K}
     {place : ℕ} where
@@ -35,8 +32,7 @@ module _ {K : Type 0} {order : KeyOrder K} (lawful : IsLawful order) {V : Type 0
   next = ap (λ n. place + n) within.one
 
   here_end : x ≡ get_or items (place + w.count - 1) x
-  here_end = let at_end : place ≡ place + w.count - 1 =
-      omega (arith, next) in here ∙ ap (λ n. get_or items n x) at_end
+  here_end = grind (arith, common_steps, next, here)
 
   some : 0 < w.count
   some = omega (arith, within.one)
@@ -48,9 +44,7 @@ module _ {K : Type 0} {order : KeyOrder K} (lawful : IsLawful order) {V : Type 0
   before = (within.good, within.here, some, within.starts)
 
   after : ReachesAfter order is_good rank items r place w.count (Some p)
-  after =
-      let at_end : place + w.count - 1 ≡ place = omega (arith, next) in
-      (within.good, omega (arith, within.here, next), some, λ x is. within.ends x (rw at_end at is))
+  after = grind (arith, common_steps, next, some)
 
   -- it has an equal value: nothing changes
   pub stands : (v : V) → same x.value v ≡ true → IsInserted order same items items r v
@@ -89,8 +83,7 @@ module _ {K : Type 0} {order : KeyOrder K} (lawful : IsLawful order) {V : Type 0
     list_is : (middle : Option (Item (AnyRange K) V)) → IsDivided others new at parts middle
         → new ≡ take place items ++ option_items (Some front) ++ option_items middle
         ++ option_items (Some behind) ++ drop (place + w.count) items
-    list_is middle divided = let at_place : at ≡ place =
-        same_rank ∙ within.here in rw (same_list, at_place, sym here, sym next) at (divided x)
+    list_is middle divided = grind (arith, common_steps, here, next)
 
     pub divided_size : (middle : Option (Item (AnyRange K) V)) → IsDivided others new at parts middle
         → length new ≡ length items + 1 + length (option_items middle)

@@ -91,18 +91,6 @@ module _ {L V X : Type 0} (line : Line L V X) where
   chains_join (x ∷ []) y ys h k e = (h.0, (e.0, k))
   chains_join (x ∷ x' ∷ xs) y ys h k e = (h.0, (h.1.0, chains_join (x' ∷ xs) y ys h.1.1 k e.1))
 
-  strict_follows : (x : X) (ys : List X) (c d : L) → Le line.cmp (line.hi x) c → Lt line.cmp c d
-      → IsChain line ys → Every (λ y. Le line.cmp d (line.lo y)) ys → Follows line x ys
-  strict_follows x list c d h l k e = grind (arith, common_steps)
-
-  pub join_apart : (xs ys : List X) (c d : L) → Lt line.cmp c d → IsChain line xs → IsChain line ys
-      → Every (λ x. Le line.cmp (line.hi x) c) xs → Every (λ y. Le line.cmp d (line.lo y)) ys
-      → IsChain line (xs ++ ys)
-  join_apart [] ys c d l h k e f = k
-  join_apart (x ∷ []) ys c d l h k e f = (h.0, strict_follows x ys c d e.0 l k f)
-  join_apart (x ∷ x' ∷ xs) ys c d l h k e f =
-      (h.0, (h.1.0, join_apart (x' ∷ xs) ys c d l h.1.1 k e.1 f))
-
   -- an item that follows at the same end with an equal value
   pub follows_like : (x y : X) (ys : List X) → line.cmp (line.hi y) (line.hi x) ≡ Equal
       → line.same (line.value y) (line.value x) ≡ true → Follows line x ys → Follows line y ys

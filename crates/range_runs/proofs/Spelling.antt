@@ -53,10 +53,6 @@ module _ {K : Type 0} {order : KeyOrder K} (lawful : IsLawful order) where
       → Spans s (place_on order side (bound_on side s))
   spans_own side s h = grind (arith, common_steps, le_refl, reaching_is_before_past)
 
-  same_place : (side : RangeSide) (a b : Bound K) → SameBound order a b
-      → places order lawful (place_on order side a) (place_on order side b) ≡ Equal
-  same_place side a b clone = grind (arith, common_steps, same_start, same_end)
-
   -- one that has the place of a bound has that of its clone
   back : (side : RangeSide) (p : Position K) (a b : Bound K) → SameBound order a b
       → places order lawful p (place_on order side b) ≡ Equal
