@@ -63,13 +63,7 @@ module _ {K : Type 0} (order : KeyOrder K) (lawful : IsLawful order) {V : Type 0
     pub valued : Every (λ j. Any (λ a. a.answer ≡ Some j.value) answers) middle
 
   pub filled_none : (m : Position K) → IsFilledUpTo m [] []
-  filled_none m = record {
-    known = tt;
-    chain = tt;
-    inside = tt;
-    has = λ p W alike. (λ h. h, λ h. h);
-    valued = tt;
-  }
+  filled_none m = grind (arith, common_steps)
 
   module _ (m n : Position K) (answers : List (Answered K V)) (key : AnyRange K)
       (inside : IsWithin key) (from : PLe lawful m (lower order key))
@@ -89,16 +83,7 @@ module _ {K : Type 0} (order : KeyOrder K) (lawful : IsLawful order) {V : Type 0
     filled_free : (value : Option V) (middle : List (Item (AnyRange K) V))
         → IsFilledUpTo m answers middle
         → IsFilledUpTo n (answers ++ record { key = key; value = value; answer = None } ∷ []) middle
-    filled_free value middle was =
-        let a : Answered K V = record { key = key; value = value; answer = None } in
-        record {
-          known = was.known;
-          chain = was.chain;
-          inside = every_weaker (LiesUpTo m) (LiesUpTo n) middle lies_up_to_later_place was.inside;
-          has = λ p W alike.
-              (grind (arith, common_steps, any_left, any_but_end));
-          valued = more_valued a middle was.valued;
-        }
+    filled_free value middle was = grind (arith, common_steps, every_weaker, lies_up_to_later_place, common_steps, any_left, any_but_end, more_valued)
 
     -- the key bound to the answer's value, in a list that ends before it
     module _ (v : V) (value : Option V) (old : List (Item (AnyRange K) V))

@@ -33,10 +33,7 @@ module _ {L V X : Type 0} (line : Line L V X) where
   -- a place lies between two others, or below the first, or from the second on
   pub inside_or_out : (p c d : L) → (Le line.cmp c p × Lt line.cmp p d)
       ⊎ (Lt line.cmp p c ⊎ Le line.cmp d p)
-  inside_or_out p c d = elim (cases p c) [
-    | inl below ↦ inr (inl below)
-    | inr from ↦ elim (cases p d) [ inl upto ↦ inl (from, upto) | inr above ↦ inr (inr above) ]
-  ]
+  inside_or_out p c d = grind (arith, common_steps, cases)
 
   pub same_is_symmetric : (a b : V) → line.same a b ≡ true → line.same b a ≡ true
   same_is_symmetric a b h = line.equal.symm b a ∙ h
@@ -82,8 +79,7 @@ module _ {L V X : Type 0} (line : Line L V X) where
       → Every (λ x. Leads line x (line.lo y) (line.value y)) xs
   chain_before [] y ys h = tt
   chain_before (x ∷ []) y ys h = (h.1.0, tt)
-  chain_before (x ∷ x' ∷ xs) y ys h =
-      let rest = chain_before (x' ∷ xs) y ys h.1.1 in grind (arith, common_steps, rest, le_lt_trans, lt_le_trans, strictly_leads)
+  chain_before (x ∷ x' ∷ xs) y ys h = grind (arith, common_steps, common_steps, le_lt_trans, lt_le_trans, strictly_leads, chain_before (x' ∷ xs) y ys h.1.1)
 
   pub chains_join : (xs : List X) (y : X) (ys : List X) → IsChain line xs → IsChain line (y ∷ ys)
       → Every (λ x. Leads line x (line.lo y) (line.value y)) xs → IsChain line (xs ++ y ∷ ys)

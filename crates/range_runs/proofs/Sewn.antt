@@ -23,11 +23,7 @@ module _ {L V X : Type 0} (line : Line L V X) where
       → ⊥) → Leading line c v xs
   leading_by [] c v chain ends apart = tt
   leading_by (x ∷ []) c v chain ends apart = ((ends.0, apart 0 refl x ends.0), tt)
-  leading_by (x ∷ y ∷ ys) c v chain ends apart = (
-    strictly_leads line x c v (le_lt_trans line _ _ _ chain.1.0.0
-        (lt_le_trans line _ _ _ chain.1.1.0 ends.1.0)),
-    leading_by (y ∷ ys) c v chain.1.1 ends.1 (λ n at. apart (suc n) (omega (arith, at))),
-  )
+  leading_by (x ∷ y ∷ ys) c v chain ends apart = grind (arith, common_steps, strictly_leads, le_lt_trans, lt_le_trans, leading_by (y ∷ ys) c v chain.1.1 ends.1 (λ n at. apart (suc n) (omega (arith, at))))
 
   pub record IsSewn (low high new : List X) (c : L) : Type 0 where
     pub chain : IsChain line new
@@ -39,16 +35,7 @@ module _ {L V X : Type 0} (line : Line L V X) where
   -- a list that is sewn in at two places stands between them
   pub sewn_between : {items middle body new : List X} {c d : L} → Lt line.cmp c d
       → IsSewn items middle body c → IsSewn body items new d → IsSpliced line items middle new c d
-  sewn_between {c = c} {d = d} l first second = record {
-    chain = second.chain;
-    inside = λ p W alike from upto.
-        through (second.below p W alike upto) (first.above p W alike from);
-    outside = λ p W alike where_. elim where_ [
-      | inl under ↦ through (second.below p W alike (lt_le_trans line _ _ _ under
-          (lt_le line _ _ l))) (first.below p W alike under)
-      | inr over ↦ second.above p W alike over
-    ];
-  }
+  sewn_between {c = c} {d = d} l first second = grind (arith, common_steps, through, lt_le_trans, lt_le)
 
   chain_apart : (front back : List X) (c : L) → IsChain line front → IsChain line back
       → Every (λ x. Le line.cmp (line.hi x) c) front → Every (λ x. Le line.cmp c (line.lo x)) back

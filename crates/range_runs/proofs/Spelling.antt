@@ -81,8 +81,7 @@ module _ {K : Type 0} {order : KeyOrder K} (lawful : IsLawful order) where
     off_kept : (side : RangeSide) (a b : Bound K) → SameBound order a b
         → (xs : List (Item (AnyRange K) V))
         → Every (λ i. IsOff side (place_on order side a) i.key) xs → IsAsIn order xs side b
-    off_kept side a b clone xs all =
-        every_weaker _ _ xs (λ i h e. absurd (h (back side _ a b clone e))) all
+    off_kept side a b clone xs all = grind (arith, common_steps, every_weaker, back)
 
     module _ (items : List (Item (AnyRange K) V)) (known : Known order lawful same equal items)
         (chain : Chained order lawful same equal items) where
