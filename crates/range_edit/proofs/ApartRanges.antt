@@ -63,8 +63,7 @@ module _ {K : Type 0} (order : KeyOrder K) (lawful : IsLawful order) where
 
       known_at : (n : ℕ) (x : Item (AnyRange K) V) → n < length items → x ≡ get_or items n x
           → IsKnownRange order x.key
-      known_at n x within read =
-          item_at (λ i. IsKnownRange order i.key) items n x stored.known within read
+      known_at n x within read = grind (arith, common_steps, item_at)
 
       -- by the answers at positions of a container
       module _ {P : Type 0} (is_good : P → Type 0) (rank : P → ℕ)
@@ -137,8 +136,7 @@ module _ {K : Type 0} (order : KeyOrder K) (lawful : IsLawful order) where
             → IsAnswerAt order (λ i. LiesApart order i.key r) rank items before b
             → Every (λ i. PLt lawful (end_position order i.key.end) (lower order r)) (take place items)
             → b ≡ false → IsConnectedToSome order items r
-        refused_previous_is_connected None place b at answer below f =
-            absurd (cc)
+        refused_previous_is_connected None place b at answer below f = grind (arith, common_steps)
         refused_previous_is_connected (Some q) place b at answer below f =
             let within = good_in_range q at.0 in
             let x = element_at items (rank q) within in
@@ -157,8 +155,7 @@ module _ {K : Type 0} (order : KeyOrder K) (lawful : IsLawful order) where
             → IsAnswerAt order (λ i. LiesApart order r i.key) rank items from b
             → Every (λ i. PLe lawful (lower order r) (end_position order i.key.end)) (drop place items)
             → b ≡ false → IsConnectedToSome order items r
-        refused_next_is_connected None place b at answer above f =
-            absurd (cc)
+        refused_next_is_connected None place b at answer above f = grind (arith, common_steps)
         refused_next_is_connected (Some q) place b at answer above f =
             let within = good_in_range q at.0 in
             let x = element_at items (rank q) within in

@@ -41,16 +41,7 @@ module _ {K V P : Type 0} (is_good : P → Type 0) (rank : P → ℕ) (items : L
       (rest : Option (Item (AnyRange K) V)) (start given : Option (Bound K))
       → IsLeftShape is_good rank items border at from rest start
       → IsLeftEdited rank items new border given → IsOpenedLeft new border at from rest start given
-  left_opened new border at from rest start given shape edited = grind (
-    arith,
-    common_steps,
-    append-nil,
-    take_more_set,
-    drop-set-lt,
-    length-set,
-    take-set,
-    in_range,
-  )
+  left_opened new border at from rest start given shape edited = grind (arith, common_steps, common_steps, append-nil, take_more_set, drop-set-lt, length-set, take-set)
 
   -- what the second edit leaves of the list that the first one left
   pub record IsOpenedRight (base new : List (Item (AnyRange K) V)) (border : Border K P)
@@ -69,8 +60,7 @@ module _ {K V P : Type 0} (is_good : P → Type 0) (rank : P → ℕ) (items : L
       → IsRightShape is_good rank items border upto end rest finish
       → IsRightEdited rank' base new border given
       → IsOpenedRight base new border upto end rest finish given
-  right_opened base new rank' clear ranks kept same_size Plain upto end rest finish given le shape
-      edited = grind (arith, common_steps)
+  right_opened base new rank' clear ranks kept same_size Plain upto end rest finish given le shape edited = grind (arith, common_steps, common_steps)
   right_opened base new rank' clear ranks kept same_size
       (Cut p b) upto end rest finish given le shape edited =
       let item = same_at base items upto shape.4.0 (kept upto (omega arith)) in

@@ -3,7 +3,7 @@ pub use Rattle.std.proofs.Common.{Bool, Err, IsTrue, List, None, Ok, OnErr, OnOk
 pub use Rattle.std.proofs.Math.ListN.{length-set, set}
 pub use Rattle.std.proofs.lemmas.Bool.{cases_lt, false≢true}
 pub use Rattle.std.proofs.lemmas.Grind.{common_steps}
-pub use Rattle.std.proofs.lemmas.List.{append-nil, drop-drop, drop-set, drop-set-lt, drop_at, get_or-drop, get_or-take, get_or_read, length-take-le, take-set, take-set-le, take_at, take_more_set}
+pub use Rattle.std.proofs.lemmas.List.{append-nil, drop-drop, drop-set, drop-set-lt, drop_at, drop_more, get_or-drop, get_or-take, get_or_read, length-take-le, take-set, take-set-le, take_at, take_more_set}
 pub use Rattle.std.specs.Cmp.{IsEquivalence, tied_itself}
 pub use Rattle.std.specs.Fn.{Shared}
 pub use Rattle.std.specs.List.{AllByRecursion as Every}
@@ -36,17 +36,16 @@ pub use Rattle.range_store.specs.declared.storage.Item.{Item}
 pub use Rattle.range_runs.proofs.PlaceOrder.{PLe, PLt, both, eq_ge, eq_le, le_lt_trans, le_refl, le_trans, lt_le, lt_le_trans, lt_not_le, lt_trans, not_le, not_lt}
 pub use Rattle.range_runs.specs.Answers.{Answered, AnswersPiece, AreAnswersTo, IsAsAnswered, IsGathered, IsGivenBy, IsUpdated, MayAnswer, SucceedsAtFirst, piece_of}
 pub use Rattle.range_runs.specs.Bindings.{Binds, IsSomeOf}
-pub use Rattle.range_edit.specs.Borders.{BorderSide, IsBorderShape, IsDivided, IsGoodBorder, IsLeftBorder, IsLeftEdited, IsLeftRest, IsLeftShape, IsRightBorder, IsRightEdited, IsRightRest, IsRightShape, IsRunStart, TouchesAfter, TouchesBefore, TouchesNoneAfter, TouchesNoneBefore, border_at, joined_count, joined_item, left_side, right_side, seam_border}
-pub use Rattle.range_runs.specs.Chains.{Has, IsChain, IsLeft, IsLeftOf, IsRight, IsRightOf, IsSpliced, Line, Trails, line_of}
+pub use Rattle.range_edit.specs.Borders.{BorderSide, IsBorderShape, IsDivided, IsGoodBorder, IsLeftEdited, IsLeftShape, IsRightEdited, IsRightShape, IsRunStart, TouchesAfter, TouchesBefore, TouchesNoneAfter, TouchesNoneBefore, border_at, joined_count, joined_item, left_side, right_side, seam_border}
+pub use Rattle.range_runs.specs.Chains.{Has, IsBoundTo, IsChain, IsLeft, IsRight, IsSpliced, Leading, Line, line_of}
 pub use Rattle.range_edit.specs.Changes.{IsInserted, IsRemoved}
 pub use Rattle.range_runs.specs.Edits.{flipped_bound, with_end, with_start}
 pub use Rattle.range_runs.specs.Frames.{HasValue, IsEndOf, IsInsertionFrame, IsMergeFrame, IsMergedInto, IsNewItem, IsPart, IsRemovalFrame, IsSpliceFrame, IsStartOf, IsUpdateFrame, JoinsOrMeets}
 pub use Rattle.range_runs.specs.Lookups.{IsConnectedTo, IsConnectedToSome, MeetsSome, Overlap}
 pub use Rattle.range_runs.specs.Pieces.{ArePieces, IsCommonPart, LiesIn}
-pub use Rattle.range_edit.specs.Plans.{IsLeftFrame, IsLeftPlan, IsRightFrame, IsRightPlan}
 pub use Rattle.range_edit.specs.Reach.{IsReach, IsSurrounded, ReachesAfter, ReachesBefore}
 pub use Rattle.range_edit.specs.Replaced.{AreWithin, IsReplaced}
-pub use Rattle.range_edit.specs.Seams.{IsJoiningFirst, IsJoiningLast, IsLeftCutting, IsLeftSeam, IsRightCutting, IsRightSeam, with_first_start, with_last_end}
+pub use Rattle.range_edit.specs.Seams.{with_first_start, with_last_end}
 pub use Rattle.range_runs.specs.Spelling.{IsEndAsIn, IsSpelledAsIn, IsStartAsIn, KeepsSpelling}
 pub use Rattle.range_runs.specs.Stored.{IsStored, item_lower, item_upper}
 pub use Rattle.range_runs.specs.Window.{IsFound, IsJustBefore, IsWindow, option_items}

@@ -22,9 +22,3 @@ module _ {K V P : Type 0} (is_good : P → Type 0) (rank : P → ℕ)
       → IsBorderShape side is_good rank items border low high rest given
       → high ≡ low + length (option_items rest)
   border_length side border low high rest given h = grind (arith, common_steps)
-
-  -- where no bound is given, nothing is joined
-  pub border_joins_none : (side : BorderSide K V) (border : Border K P) (low high : ℕ)
-      (rest : Option (Item (AnyRange K) V))
-      → IsBorderShape side is_good rank items border low high rest None → joined_count border ≡ 0
-  border_joins_none side border low high rest h = grind (arith, common_steps)

@@ -1,5 +1,5 @@
 -- A list whose first item has another start, and its last another end.
-use Rattle.range_edit.proofs.Common.{common_steps, unwrap_or, ◌≡◌, ◌+◌, ◌-◌, ◌<◌, ◌≤◌, ℕ, suc, List, [], ◌∷◌, ◌++◌, length, take, drop, get_or, refl, ap, sym, ◌∙◌, arith, Option, Some, None, Bool, inl, inr, append_assoc, take_at, drop_at, drop-drop, set, Every, slice_get, IsEquivalence, Bound, KeyOrder, every_weaker, Any, AnyRange, Item, with_start, with_end, HasValue, with_first_start, with_last_end}
+use Rattle.range_edit.proofs.Common.{common_steps, unwrap_or, ◌≡◌, ◌+◌, ◌-◌, ◌<◌, ◌≤◌, ℕ, suc, List, [], ◌∷◌, ◌++◌, length, take, drop, get_or, refl, ap, sym, ◌∙◌, arith, Option, Some, None, Bool, inl, inr, append_assoc, take_at, drop_at, ◌⊎◌, drop-drop, set, Every, slice_get, IsEquivalence, Bound, KeyOrder, every_weaker, Any, AnyRange, Item, with_start, with_end, HasValue, with_first_start, with_last_end}
 
 -- the last of some items
 pub last_of : {X : Type 0} (x : X) (xs : List X)
@@ -10,6 +10,12 @@ last_of x (y ∷ ys) =
     let rest = last_of y ys in
     let at : length (x ∷ y ∷ ys) - 1 ≡ suc (length (y ∷ ys) - 1) = omega arith in
     (x ∷ rest.0, rest.1, ap (λ zs. x ∷ zs) rest.2, ap (slice_get (x ∷ y ∷ ys)) at ∙ rest.3)
+
+-- no items, or some with a last one
+pub ending : {X : Type 0} (xs : List X) → (xs ≡ []) ⊎ ((front : List X) × (m : X)
+    × (xs ≡ front ++ m ∷ []) × (slice_get xs (length xs - 1) ≡ Some m))
+ending [] = inl refl
+ending (x ∷ xs) = inr (last_of x xs)
 
 pub regrouped_last : {X : Type 0} (a b c : List X) (z : X)
     → (a ++ (b ++ z ∷ [])) ++ c ≡ (a ++ b) ++ z ∷ c
@@ -75,8 +81,7 @@ module _ {K V : Type 0} where
   length_ended None xs = refl
   length_ended (Some b) [] = refl
   length_ended (Some b) (i ∷ []) = refl
-  length_ended (Some b) (i ∷ j ∷ rest) = let more =
-      length_ended (Some b) (j ∷ rest) in omega (arith, more)
+  length_ended (Some b) (i ∷ j ∷ rest) = grind (arith, common_steps, length_ended (Some b) (j ∷ rest))
 
   -- what holds of each item, and of one with another outer bound, holds of each once it has that
   pub every_started : (P : Item (AnyRange K) V → Type 0) (start : Option (Bound K))

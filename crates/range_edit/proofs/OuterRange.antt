@@ -1,11 +1,19 @@
 -- A range that comes before or after all stored ones.
-use Rattle.range_edit.proofs.Common.{IsLeft, IsRight, every_append, every_weaker, line_of, lower, upper, lt_le, lt_trans, subst, ◌≡◌, ℕ, ◌++◌, ◌∷◌, ◌∙◌, List, [], take, drop, refl, sym, ap, append_assoc, Bool, inl, arith, insert, IsEquivalence, append-nil, KeyOrder, IsLawful, IsEmptyRange, IsKnownRange, AnyRange, list_is_take_and_drop, Item, IsInserted, IsStored}
+use Rattle.range_edit.proofs.Common.{◌≡◌, ℕ, zero, suc, ◌+◌, ◌-◌, ◌<◌, List, take, drop, get_or-take, get_or-drop, length-drop, length-take-le, refl, arith, Option, Some, None, Bool, insert, IsEquivalence, every_at, every_weaker, KeyOrder, IsLawful, IsEmptyRange, IsKnownRange, AnyRange, lt_le, lt_trans, lt_not_le, Item, Window, IsWindow, IsJustBefore, IsInserted, IsStored}
 use Rattle.range_edit.specs.Apart.{LiesApartAt}
-use Rattle.range_runs.proofs.Chains.{strictly_leads, strictly_trails}
-use Rattle.range_runs.proofs.ChainSides.{left_whole, right_whole}
-use Rattle.range_runs.proofs.ChainJoins.{left_apart, right_apart}
-use Rattle.range_runs.proofs.Forms.{Chained, every_back, every_front, nonempty_good, stored_chain}
-use Rattle.range_edit.proofs.RangeSides.{inserted_between}
+use Rattle.range_runs.proofs.CoveredPlaces.{chained_items_have_places}
+use Rattle.range_runs.proofs.Forms.{every_back, nonempty_good, stored_chain}
+use Rattle.range_runs.proofs.RangePieces.{every_with}
+use Rattle.range_edit.proofs.RangeSides.{put_between}
+
+place_under : ℕ → Option ℕ
+place_under zero = None
+place_under (suc n) = Some n
+
+just_before : (place : ℕ) → IsJustBefore (λ n. Unit {0}) (λ n. n) (place_under place) place
+unfolding place_under
+just_before zero = refl
+just_before (suc n) = (tt, omega arith)
 
 module _ {K : Type 0} (order : KeyOrder K) (lawful : IsLawful order) {V : Type 0}
     (same : V → V → Bool) (equal : IsEquivalence same) (items : List (Item (AnyRange K) V))
@@ -17,41 +25,38 @@ module _ {K : Type 0} (order : KeyOrder K) (lawful : IsLawful order) {V : Type 0
       → new ≡ insert items place (record { key = r; value = v })
       → IsInserted order same items new r v
   inserted_apart place apart new v done =
-      let x : Item (AnyRange K) V = record { key = r; value = v } in
-      let line = line_of order lawful same equal in
-      let c = lower order r in
-      let d = upper order r in
-      let front = take place items in
-      let behind = drop place items in
-      let parts = list_is_take_and_drop items place in
+      let plus : place + 0 ≡ place = omega arith in
       let good = (nonempty_good order lawful r known).0 full in
-      let whole = subst (λ ys. Chained order lawful same equal ys) parts
-      (stored_chain order lawful same equal items stored) in
-      let left = subst (λ ys. IsLeft line ys front c) (sym parts) (left_whole line front behind c
-      whole (every_weaker _ _ front (λ i h. lt_le lawful _ _ h) apart.before)
-      (every_weaker _ _ behind (λ i h. lt_le lawful _ _ (lt_trans lawful _ _ _ good h))
-      apart.behind)) in
-      let right = subst (λ ys. IsRight line ys behind d) (sym parts) (right_whole line front behind d
-      whole (every_weaker _ _ front (λ i h. lt_le lawful _ _ (lt_trans lawful _ _ _ h good))
-      apart.before) (every_weaker _ _ behind (λ i h. lt_le lawful _ _ h) apart.behind)) in
-      inserted_between lawful equal front behind x stored known good (left_apart line items front c
-      v left (every_weaker _ _ front (λ i h. strictly_leads line i c v h) apart.before))
-      (right_apart line items behind d v right (every_weaker _ _ behind
-      (λ i h. strictly_trails line i d v h) apart.behind)) (equal.refl v) (every_append _ front
-      (x ∷ behind) (every_front _ place items stored.known)
-      (known, every_back _ place items stored.known)) done (record {
-        front = front;
-        run = [];
-        others = x ∷ [];
-        behind = drop place items;
-        before = list_is_take_and_drop items place ∙ ap (λ xs. xs ++ drop place items)
-            (sym (append-nil front));
-        after = done ∙ sym (append_assoc front (x ∷ []) (drop place items));
-        such = record {
-          concerned = tt;
-          few = omega arith;
-          whole = λ none. refl;
-          one = λ all. omega arith;
-          made = (record { start = inl refl; end = inl refl; value = inl (equal.refl v) }, tt);
-        };
-      })
+      let w : Window ℕ = record {
+        before = place_under place;
+        from = Some place;
+        count = 0;
+        last = None;
+        after = Some place;
+      } in
+      let window : IsWindow order same (λ n. Unit {0}) (λ n. n) items r w place = record {
+        stored = stored;
+        known = known;
+        nonempty = full;
+        position = (tt, refl);
+        previous = just_before place;
+        in_range = omega (arith, apart.in_range);
+        last_is = refl;
+        after_is = (tt, omega arith);
+        below = every_weaker _ _ (take place items) (λ i h. lt_le lawful _ _ h) apart.before;
+        above = every_with _ _ _ (drop place items) apart.behind (every_back _ place items
+            (chained_items_have_places order lawful same equal items
+            (stored_chain order lawful same equal items stored)))
+            (λ i h full. lt_trans lawful _ _ _ good (lt_trans lawful _ _ _ h full));
+        meets = λ d some. absurd (omega (arith, some));
+        behind = rw plus (every_weaker _ _ (drop place items) (λ i h. lt_le lawful _ _ h)
+            apart.behind);
+      } in
+      put_between lawful equal window v refl (λ d some on t.
+      let under : place - 1 < place = omega (arith, some) in
+      let size = length-take-le place items (omega (arith, apart.in_range)) in
+      lt_not_le lawful _ _ (rw (get_or-take place items (place - 1) d under) at (every_at _
+      (take place items) (place - 1) d apart.before (omega (arith, under, size)))) on)
+      (λ d within on t. lt_not_le lawful _ _ (rw (get_or-drop place items 0 d) at (every_at _
+      (drop place items) 0 d apart.behind (omega (arith, within, length-drop place items)))) on)
+      new done

@@ -1,382 +1,354 @@
--- What stands on each side of a range, and the list in which it is bound or unbound.
-use Rattle.range_edit.proofs.Common.{common_steps, Line, Position, ◌≡◌, ℕ, zero, suc, ◌+◌, ◌-◌, ◌<◌, ◌≤◌, List, [], ◌∷◌, ◌++◌, length, take, drop, get_or, refl, ap, sym, ◌∙◌, arith, subst, Option, Some, None, Bool, true, false, length-drop, append-nil, length-take-le, get_or-take, get_or-drop, IsEquivalence, Every, KeyOrder, IsLawful, position_total, AnyRange, IsKnownRange, Item, lt_le, le_trans, PLe, PLt, line_of, Trails, IsLeft, IsRight, IsLeftOf, IsRightOf, lower, upper, item_lower, item_upper, IsWindow, option_items, Window, every_at, list_is_take_and_drop, every_weaker, every_append, every_right, tied_itself, Bound, Touches, IsInserted, IsRemoved, Overlap, IsPart, IsRemovalFrame, IsInsertionFrame, IsStored, IsLeftFrame, IsRightFrame, ReachesBefore, ReachesAfter, flipped_bound, with_end, SameBound, IsKnownBound, joined_item, IsLeftRest, IsRightRest, IsLeftBorder, IsRightBorder, TouchesNoneBefore, TouchesNoneAfter}
-use Rattle.range_runs.proofs.Tests.{not_both}
-use Rattle.range_runs.proofs.Chains.{chain_above, chain_before, chain_right}
-use Rattle.range_runs.proofs.ChainSides.{left_whole, left_cut, right_whole, right_cut}
-use Rattle.range_runs.proofs.ChainJoins.{places_between_are_unbound, left_apart, left_joined, right_apart, right_joined, leading_by, leading_last, trailing_first, places_between_are_bound}
-use Rattle.range_runs.proofs.Forms.{nonempty_good, Known, Chained, stored_chain, chain_stored, unbound_after, every_front, every_back}
-use Rattle.range_edit.proofs.InsertionFrames.{insertion_frame, cut_way, not_cut}
-use Rattle.range_runs.proofs.Forms.{before_is}
-use Rattle.range_runs.proofs.Windows.{every_both}
-use Rattle.range_runs.proofs.CoveredPlaces.{meets_bound}
-use Rattle.range_runs.proofs.CutParts.{cut_end, cut_start}
-use Rattle.range_runs.proofs.Forms.{touches_is, bound_after}
-use Rattle.range_runs.proofs.ItemPlaces.{element_at, element_at_is_read, listed_at, upto_item, from_item}
+-- The list in which a middle stands for what a range held, by what stands on both sides of it: for
+-- one item the range is bound, for none it is unbound.
+use Rattle.range_edit.proofs.Common.{common_steps, Line, Position, ◌≡◌, ℕ, ◌+◌, ◌<◌, ◌≤◌, List, [], ◌∷◌, ◌++◌, ◌∙◌, ap, sym, insert, append-nil, length, take, drop, refl, arith, Option, Some, None, Bool, true, IsTrue, ◌⊎◌, inl, inr, append_assoc, length-append, IsEquivalence, Every, KeyOrder, IsLawful, Beside, At, Any, AnyRange, any_left, any_right, every_weaker, every_append, every_left, every_right, held_between, line_of, IsBoundTo, IsSpliced, lower, upper, le_refl, Item, Bound, HasValue, IsPart, IsStartOf, IsEndOf, IsNewItem, IsSpliceFrame, IsInserted, IsRemoved, IsReplaced, Overlap, joined_item, unwrap_or, with_first_start, with_last_end, IsWindow, IsStored, option_items, Window}
+use Rattle.range_edit.specs.Plans.{IsJoinedLeft, IsJoinedRight}
+use Rattle.range_runs.proofs.ChainSides.{held_alone}
+use Rattle.range_runs.proofs.CoveredPlaces.{meets_bound, met_range_is_covered, chained_items_have_places, overlap_is}
+use Rattle.range_runs.proofs.Forms.{Known, bound_after, chain_stored, respects_any, same_binds, stored_chain, unbound_after, unheld_lies_outside}
+use Rattle.range_edit.proofs.InsertionFrames.{run_size, widened_frame}
+use Rattle.range_runs.proofs.WindowItems.{all_meet}
+use Rattle.range_edit.proofs.Lengths.{one_item}
+use Rattle.range_edit.proofs.OuterBounds.{every_started, every_ended, any_ended, own_values}
+use Rattle.range_runs.proofs.RangePieces.{any_use, any_with}
+use Rattle.range_runs.proofs.Sewn.{sewn_between, through}
+use Rattle.range_edit.proofs.SewnSides.{IsLeftSide, IsRightSide, TakesStartOf, TakesEndOf, left_side_whole, own_stored, own_within, range_has_places, right_side_whole}
+
+any_some : {X : Type 0} (P : X → Type 0) (xs : List X) → Any P xs → 0 < length xs
+any_some P [] h = absurd h
+any_some P (x ∷ xs) h = omega arith
+
+no_length : {X : Type 0} (xs : List X) → length xs ≤ 0 → xs ≡ []
+no_length [] h = refl
+no_length (x ∷ xs) h = absurd (omega arith)
+
+every_not : {X : Type 0} (P : X → Type 0) (xs : List X) → (Any P xs → ⊥) → Every (λ x. P x → ⊥) xs
+every_not P [] none = tt
+every_not P (x ∷ xs) none = (λ h. none (inl h), every_not P xs (λ h. none (inr h)))
+
+-- where some item of a run is the reason, one of a wider run is
+within_wider : {A B some wide : Type 0} → (some → wide) → A ⊎ (some ⊎ B) → A ⊎ (wide ⊎ B)
+within_wider f either = grind (arith, common_steps)
+
+module _ {K V : Type 0} where
+  none_inside : (start finish : Option (Bound K))
+      → with_last_end {V = V} finish (with_first_start start []) ≡ []
+  none_inside start finish = grind (arith, common_steps)
+
+  one_inside : (m : Item (AnyRange K) V) (start finish : Option (Bound K))
+      → with_last_end finish (with_first_start start (m ∷ []))
+      ≡ joined_item m start finish ∷ []
+  one_inside m start finish = grind (arith, common_steps)
+
+  given_start : (order : KeyOrder K) (run : List (Item (AnyRange K) V)) (r : AnyRange K)
+      (o : Option (Bound K)) → ((b : Bound K) → o ≡ Some b → Any (λ i. b ≡ i.key.start) run)
+      → IsStartOf order run r (unwrap_or o r.start)
+  given_start order run r None given = inl refl
+  given_start order run r (Some b) given = inr (inl (given b refl))
+
+  given_end : (order : KeyOrder K) (run : List (Item (AnyRange K) V)) (r : AnyRange K)
+      (o : Option (Bound K)) → ((b : Bound K) → o ≡ Some b → Any (λ i. b ≡ i.key.end) run)
+      → IsEndOf order run r (unwrap_or o r.end)
+  given_end order run r None given = inl refl
+  given_end order run r (Some b) given = inr (inl (given b refl))
+
+none_of : {P : Type 0} (o : Option P) → length (option_items o) ≤ 0 → o ≡ None
+none_of option few = grind (arith, common_steps)
+
+not_given : {X : Type 0} (o : Option X) → ((b : X) → o ≡ Some b → ⊥) → o ≡ None
+not_given None given = refl
+not_given (Some b) given = absurd (given b refl)
 
 module _ {K : Type 0} {order : KeyOrder K} (lawful : IsLawful order) {V : Type 0}
-    {same : V → V → Bool} (equal : IsEquivalence same) where
+    {same : V → V → Bool} (equal : IsEquivalence same) {P : Type 0} {is_good : P → Type 0}
+    {rank : P → ℕ} {items : List (Item (AnyRange K) V)} {r : AnyRange K} {w : Window P} {place : ℕ}
+    (window : IsWindow order same is_good rank items r w place) where
   abbrev line : Line (Position K) V (Item (AnyRange K) V)
   line = line_of order lawful same equal
 
-  -- the list in which a range is bound, by what stands on both sides of it
-  pub inserted_between : {items new : List (Item (AnyRange K) V)} {r : AnyRange K} {v : V}
-      (front behind : List (Item (AnyRange K) V)) (m : Item (AnyRange K) V)
-      → IsStored order same items → IsKnownRange order r
-      → PLt lawful (lower order r) (upper order r)
-      → IsLeftOf line items front (lower order r) (item_lower order m) v
-      → IsRightOf line items behind (upper order r) (item_upper order m) v
-      → same m.value v ≡ true → Known order lawful same equal (front ++ m ∷ behind)
-      → new ≡ front ++ m ∷ behind → IsInsertionFrame order same items new r v
-      → IsInserted order same items new r v
-  inserted_between {items} {new} {r} {v} front behind m stored known good left right values others
-      list frame =
-      let made = places_between_are_bound line items front behind m (lower order r) (upper order r) v
-      left right good values in
-      record {
-        stored =
-            rw list (chain_stored order lawful same equal (front ++ m ∷ behind) others made.chain);
-        bound = rw list (bound_after order lawful same equal items (front ++ m ∷ behind) r v known
-            stored.known others made);
-        frame = frame;
-        meets = rw list (meets_bound order lawful same equal items (front ++ m ∷ behind) r v
-            stored.known others (stored_chain order lawful same equal items stored) known good made);
-      }
+  abbrev Met : List (Item (AnyRange K) V)
+  Met = take w.count (drop place items)
 
-  module _ {P : Type 0} {is_good : P → Type 0} {rank : P → ℕ} {items : List (Item (AnyRange K) V)}
-      {r : AnyRange K} {w : Window P} {place : ℕ}
-      (window : IsWindow order same is_good rank items r w place) where
-    range_has_places : PLt lawful (lower order r) (upper order r)
-    range_has_places = (nonempty_good order lawful r window.known).0 window.nonempty
+  module _ {middle : List (Item (AnyRange K) V)} {at end : ℕ}
+      {rest beyond : Option (Item (AnyRange K) V)} {start finish : Option (Bound K)}
+      (left : IsLeftSide order lawful same equal items r place w.count middle at rest start)
+      (right : IsRightSide order lawful same equal items r place w.count middle (take at items
+      ++ option_items rest) (with_first_start start middle) end beyond finish)
+      (new : List (Item (AnyRange K) V)) (changed : new ≡ take at items ++ option_items rest
+      ++ with_last_end finish (with_first_start start middle) ++ option_items beyond
+      ++ drop end items) where
+    abbrev Inner : List (Item (AnyRange K) V)
+    Inner = with_last_end finish (with_first_start start middle)
 
-    in_order : Chained order lawful same equal items
-    in_order = stored_chain order lawful same equal items window.stored
+    abbrev Run : List (Item (AnyRange K) V)
+    Run = left.extra ++ Met ++ right.extra
 
-    known_at : (n : ℕ) (x : Item (AnyRange K) V) → n < length items → x ≡ get_or items n x
-        → IsKnownRange order x.key
-    known_at n x within read = let at = every_at (λ i. IsKnownRange order i.key) items n x
-        window.stored.known within in rw (← read) at at
+    abbrev Others : List (Item (AnyRange K) V)
+    Others = option_items rest ++ Inner ++ option_items beyond
 
-    -- the first item of the window ends after the range starts, and the last starts before it ends
-    pub first_reaches : (x : Item (AnyRange K) V) → x ≡ get_or items place x → 0 < w.count
-        → PLe lawful (lower order r) (item_upper order x)
-    first_reaches x read some = grind (arith, common_steps)
+    parted : new ≡ ((take at items ++ option_items rest) ++ Inner)
+        ++ (option_items beyond ++ drop end items)
+    parted = grind (arith, common_steps, changed)
 
-    pub last_starts : (x : Item (AnyRange K) V) → x ≡ get_or items (place + w.count - 1) x
-        → 0 < w.count → PLe lawful (item_lower order x) (upper order r)
-    last_starts x read some = rw (← read) at (lt_le lawful _ _ (window.meets x some))
+    made : IsSpliced line items middle new (lower order r) (upper order r)
+    made = rw parted (sewn_between line (range_has_places lawful equal window) left.sewn right.sewn)
 
-    -- an item beside the window that touches the range lies up to it
-    pub touching_before : (n : ℕ) (x : Item (AnyRange K) V) → n + 1 ≡ place → n < length items
-        → x ≡ get_or items n x → Touches order x.key r
-        → PLe lawful (item_lower order x) (lower order r)
-        × PLe lawful (lower order r) (item_upper order x)
-    touching_before n x at within read touching =
-        let full = chain_right line (take n items) (x ∷ drop (n + 1) items)
-        (rw (listed_at items n x within read) at in_order) in
-        let ends : Every (λ i. PLe lawful (item_upper order i) (lower order r)) (x ∷ []) =
-        every_right _ (take n items) (x ∷ [])
-        (rw (upto_item items n place x at within read) at window.below) in (grind (arith, common_steps, le_trans, lt_le, touches_is, range_has_places))
+    known_new : Known order lawful same equal new
+    known_new = rw parted right.known
 
-    pub touching_after : (x : Item (AnyRange K) V) → place + w.count < length items
-        → x ≡ get_or items (place + w.count) x → Touches order r x.key
-        → PLe lawful (item_lower order x) (upper order r)
-        × PLe lawful (upper order r) (item_upper order x)
-    touching_after x within read touching =
-        let full =
-        chain_right line (take (place + w.count) items) (x ∷ drop (place + w.count + 1) items)
-        (rw (listed_at items (place + w.count) x within read) at in_order) in
-        (grind (arith, common_steps, touches_is, le_trans, lt_le))
+    stored_new : IsStored order same new
+    stored_new = chain_stored order lawful same equal new known_new made.chain
 
-    -- no item of the window starts before the range
-    met_start : (n : ℕ) → w.count ≡ n → ReachesBefore order is_good rank items r place w.count None
-        → Every (λ i. PLe lawful (lower order r) (item_lower order i)) (drop place items)
-    met_start zero e reach =
-        let at : place + w.count ≡ place = omega (arith, e) in
-        let behind : Every (λ i. PLe lawful (upper order r) (item_lower order i))
-        (drop place items) = rw at at window.behind in
-        every_weaker _ _ (drop place items)
-        (λ i h. le_trans lawful _ _ _ (lt_le lawful _ _ range_has_places) h) behind
-    met_start (suc n) e reach =
-        let within : place < length items = omega (arith, e, window.in_range) in
-        let x = element_at items place within in
-        let read = element_at_is_read items place within x in
-        let rest = drop (place + 1) items in
-        let whole = chain_right line (take place items) (x ∷ rest)
-        (rw (listed_at items place x within read) at in_order) in
-        rw (from_item items place x within read) (chain_above line (lower order r) x rest whole
-        (reach x (omega (arith, e)) read))
+    framed : (Way : List (Item (AnyRange K) V) → List (Item (AnyRange K) V) → Type 0)
+        → Way Run Others → IsSpliceFrame items new Way
+    framed Way such = widened_frame items new Way place w.count (take at items) left.extra
+        (option_items rest) Inner (option_items beyond) right.extra (drop end items) left.split
+        right.split changed such
 
-    -- no item of the window ends after the range
-    met_end : (n : ℕ) → w.count ≡ n → ReachesAfter order is_good rank items r place w.count None
-        → Every (λ i. PLe lawful (item_upper order i) (upper order r)) (take (place + w.count) items)
-    met_end zero e reach =
-        let at : place + w.count ≡ place = omega (arith, e) in
-        rw at (every_weaker _ _ (take place items)
-        (λ i h. le_trans lawful _ _ _ h (lt_le lawful _ _ range_has_places)) window.below)
-    met_end (suc n) e reach =
-        let k = place + w.count - 1 in
-        let within : k < length items = omega (arith, e, window.in_range) in
-        let x = element_at items k within in
-        let read = element_at_is_read items k within x in
-        let some : 0 < w.count = omega (arith, e) in
-        let before = chain_before line (take k items) x (drop (k + 1) items)
-        (rw (listed_at items k x within read) at in_order) in
-        rw (upto_item items k (place + w.count) x (omega (arith, e)) within read)
-        (every_append _ (take k items) (x ∷ []) (every_weaker _ _ (take k items)
-        (λ i h. le_trans lawful _ _ _ h.0 (last_starts x read some)) before)
-        (reach x some read, tt))
+    in_run : (Q : Item (AnyRange K) V → Type 0) → Any Q Met → Any Q Run
+    in_run Q h = any_left Q (left.extra ++ Met) right.extra (any_right Q left.extra Met h)
 
-    pub left_rest_whole : ReachesBefore order is_good rank items r place w.count None
-        → IsLeftRest order same lawful equal items r place None
-    left_rest_whole reach =
-        let parts = list_is_take_and_drop items place in
-        record {
-          left = rw (append-nil (take place items)) (subst (λ ys. IsLeft line ys (take place items)
-              (lower order r)) (sym parts) (left_whole line (take place items) (drop place items)
-              (lower order r) (rw parts at in_order) window.below (met_start w.count refl reach)));
-          known = tt;
-        }
+    every_run : (Q : Item (AnyRange K) V → Type 0) → Every Q left.extra → Every Q Met
+        → Every Q right.extra → Every Q Run
+    every_run Q first met last = grind (arith, common_steps, every_append)
 
-    -- an item that starts before the range
-    pub left_rest_cut : (x : Item (AnyRange K) V) → x ≡ get_or items place x → 0 < w.count
-        → PLt lawful (item_lower order x) (lower order r) → (b : Bound K) → IsKnownBound order b
-        → SameBound order (flipped_bound r.start) b
-        → IsLeftRest order same lawful equal items r place (Some (with_end x b))
-    left_rest_cut x read some starts b known_b same_b =
-        let within : place < length items = omega (arith, some, window.in_range) in
-        let known_x = known_at place x within read in
-        let split = listed_at items place x within read in
-        record {
-          left = subst (λ ys. IsLeft line ys (take place items ++ with_end x b ∷ [])
-              (lower order r)) (sym split) (left_cut line (take place items) x
-              (drop (place + 1) items) (with_end x b) (lower order r) (rw split at in_order) starts
-              (first_reaches x read some) (tied_itself (position_total order.cmp lawful.total)
-              (item_lower order x)) (cut_end order lawful x.key.start r.start b known_x.0 starts
-              same_b) (equal.refl x.value));
-          known = ((known_x.0, known_b), tt);
-        }
+    every_other : (Q : Item (AnyRange K) V → Type 0) → Every Q (option_items rest) → Every Q Inner
+        → Every Q (option_items beyond) → Every Q Others
+    every_other Q first inner last = grind (arith, common_steps, every_append)
 
-    pub right_rest_whole : ReachesAfter order is_good rank items r place w.count None
-        → IsRightRest order same lawful equal items r (place + w.count) None
-    right_rest_whole reach =
-        let end = place + w.count in
-        let parts = list_is_take_and_drop items end in
-        record {
-          right = subst (λ ys. IsRight line ys (drop end items) (upper order r)) (sym parts)
-              (right_whole line (take end items) (drop end items) (upper order r)
-              (rw parts at in_order) (met_end w.count refl reach) window.behind);
-          known = tt;
-        }
-
-    -- an item that ends after the range, with a value that equals its own
-    pub right_rest_cut : (x : Item (AnyRange K) V) → x ≡ get_or items (place + w.count - 1) x
-        → 0 < w.count → PLt lawful (upper order r) (item_upper order x) → (b : Bound K)
-        → IsKnownBound order b → SameBound order (flipped_bound r.end) b → (u : V)
-        → same u x.value ≡ true → IsRightRest order same lawful equal items r (place + w.count)
-        (Some (record { key = record { start = b; end = x.key.end }; value = u }))
-    right_rest_cut x read some ends b known_b same_b u values =
-        let k = place + w.count - 1 in
-        let end = place + w.count in
-        let within : k < length items = omega (arith, some, window.in_range) in
-        let known_x = known_at k x within read in
-        let y : Item (AnyRange K) V =
-        record { key = record { start = b; end = x.key.end }; value = u } in
-        let split : items ≡ take k items ++ x ∷ drop end items = grind (arith, common_steps) in
-        record {
-          right = subst (λ ys. IsRight line ys (y ∷ drop end items) (upper order r)) (sym split)
-              (right_cut line (take k items) x (drop end items) y (upper order r)
-              (rw split at in_order) (last_starts x read some) ends
-              (cut_start order lawful x.key.end r.end b known_x.1 ends same_b)
-              (tied_itself (position_total order.cmp lawful.total) (item_upper order x)) values);
-          known = ((known_b, known_x.1), tt);
-        }
-
-    -- an item that reaches or touches the range has an equal value: the range takes its start
-    pub left_border_at : (v : V) (n : ℕ) (x : Item (AnyRange K) V) → n < length items
-        → x ≡ get_or items n x → PLe lawful (item_lower order x) (lower order r)
-        → PLe lawful (lower order r) (item_upper order x) → same x.value v ≡ true
-        → IsLeftBorder order same lawful equal items r v n None (Some x.key.start)
-    left_border_at v n x within read starts reaches values =
-        let split = listed_at items n x within read in
-        record {
-          left = rw (append-nil (take n items)) (subst (λ ys. IsLeftOf line ys (take n items)
-              (lower order r) (item_lower order x) v) (sym split) (left_joined line (take n items) x
-              (drop (n + 1) items) (lower order r) v (rw split at in_order) starts reaches values));
-          known = tt;
-          known_start = (known_at n x within read).0;
-        }
-
-    -- it has another value: its lower part stays
-    pub left_border_rest : (v : V) (y : Item (AnyRange K) V)
-        → IsLeftRest order same lawful equal items r place (Some y) → same y.value v ≡ false
-        → IsLeftBorder order same lawful equal items r v place (Some y) None
-    left_border_rest v y rest values =
-        let ends = every_right _ (take place items) (y ∷ []) rest.left.ends in
-        record {
-          left = left_apart line items (take place items ++ y ∷ []) (lower order r) v rest.left
-              (leading_last line (take place items) y (lower order r) v rest.left.chain
-              (ends.0, λ k t. not_both values t));
-          known = rest.known;
-          known_start = window.known.0;
-        }
-
-    pub left_border_none : (v : V) → IsLeftRest order same lawful equal items r place None
-        → TouchesNoneBefore order same items place r v
-        → IsLeftBorder order same lawful equal items r v place None None
-    left_border_none v rest none =
-        let chain = rw (append-nil (take place items)) at rest.left.chain in
-        let size = length-take-le place items (omega (arith, window.in_range)) in
-        record {
-          left = left_apart line items (take place items ++ []) (lower order r) v rest.left
-              (rw (append-nil (take place items)) (leading_by line (take place items)
-              (lower order r) v chain window.below (λ n at d le.
-              let lt : n < place = omega (arith, at, size) in
-              let index : place - 1 ≡ n = omega (arith, at, size) in
-              let here = sym (get_or-take place items n d lt) in
-              let apart = rw (index, here) at (none d (omega (arith, lt))) in
-              λ k t. apart ((touches_is order lawful (get_or (take place items) n d).key.end r
-              window.known range_has_places le).1 k) t)));
-          known = tt;
-          known_start = window.known.0;
-        }
-
-    pub right_border_at : (end n : ℕ) (v : V) (x : Item (AnyRange K) V) → n + 1 ≡ end
-        → n < length items → x ≡ get_or items n x → PLe lawful (item_lower order x) (upper order r)
-        → PLe lawful (upper order r) (item_upper order x) → same x.value v ≡ true
-        → IsRightBorder order same lawful equal items r v end None (Some x.key.end)
-    right_border_at end n v x at within read reaches ends values =
-        let split : items ≡ take n items ++ x ∷ drop end items =
-        listed_at items n x within read ∙ ap (λ m. take n items ++ x ∷ drop m items) at in
-        record {
-          in_range = omega (arith, at, within);
-          right = subst (λ ys. IsRightOf line ys (drop end items) (upper order r)
-              (item_upper order x) v) (sym split) (right_joined line (take n items) x
-              (drop end items) (upper order r) v (rw split at in_order) reaches ends values);
-          known = tt;
-          known_end = (known_at n x within read).1;
-        }
-
-    pub right_border_rest : (end : ℕ) (v : V) (y : Item (AnyRange K) V) → end ≤ length items
-        → IsRightRest order same lawful equal items r end (Some y) → same y.value v ≡ false
-        → IsRightBorder order same lawful equal items r v end (Some y) None
-    right_border_rest end v y within rest values = record {
-      in_range = within;
-      right = right_apart line items (y ∷ drop end items) (upper order r) v rest.right
-          (trailing_first line y (drop end items) (upper order r) v rest.right.chain (grind (arith, common_steps)));
-      known = rest.known;
-      known_end = window.known.1;
+    part_of_run : (j : Item (AnyRange K) V) → IsPart order same Met r j → IsPart order same Run r j
+    part_of_run j h = record {
+      start = within_wider (in_run _) h.start;
+      end = within_wider (in_run _) h.end;
+      value = in_run _ h.value;
     }
 
-    all_trail : (end : ℕ) (v : V) (ys : List (Item (AnyRange K) V))
-        → Known order lawful same equal ys → IsRight line items ys (upper order r)
-        → ((d : Item (AnyRange K) V) → 0 < length ys → Touches order r (get_or ys 0 d).key
-        → same v (get_or ys 0 d).value ≡ true → ⊥) → Every (λ i. Trails line (upper order r) v i) ys
-    all_trail end v [] others right none = tt
-    all_trail end v (y ∷ ys) others right none =
-        trailing_first line y ys (upper order r) v right.chain (
-          right.starts.0,
-          λ k t. none y (omega arith)
-              ((touches_is order lawful r.end y.key others.0 right.chain.0 right.starts.0).1 k) t,
-        )
+    -- a rest is left only of an item that was there
+    few_rests : (o : Option (Item (AnyRange K) V))
+        → Every (IsPart order same Met r) (option_items o)
+        → length (option_items o) ≤ length Run
+    few_rests None parts = omega arith
+    few_rests (Some y) parts = omega (arith, any_some _ Run (in_run _ parts.0.value))
 
-    pub right_border_none : (end : ℕ) (v : V) → end ≤ length items
-        → IsRightRest order same lawful equal items r end None
-        → TouchesNoneAfter order same items end r v
-        → IsRightBorder order same lawful equal items r v end None None
-    right_border_none end v within rest none =
-        let plus : end + 0 ≡ end = omega arith in
-        let others = every_back _ end items window.stored.known in
-        record {
-          in_range = within;
-          right = right_apart line items (drop end items) (upper order r) v rest.right
-              (all_trail end v (drop end items) others rest.right
-              (λ d some. let at : get_or (drop end items) 0 d ≡ get_or items end d = get_or-drop end
-              items 0 d ∙ ap (λ n. get_or items n d) plus in rw at
-              (none d (omega (arith, length-drop end items)))));
-          known = tt;
-          known_end = window.known.1;
-        }
+    sizes : length Others ≡ length (option_items rest) + length Inner + length (option_items beyond)
+    sizes = grind (arith, common_steps, length-append)
 
-    -- the list with the range bound to v
-    pub borders_insert : (new : List (Item (AnyRange K) V)) (v u : V) {at end : ℕ}
-        {left right : Option (Item (AnyRange K) V)} {start finish : Option (Bound K)} →
-        IsLeftBorder order same lawful equal items r v at left start
-        → IsRightBorder order same lawful equal items r v end right finish →
-        IsLeftFrame order same items r v place w.count at left start
-        → IsRightFrame order same items r v place w.count end right finish →
-        length (option_items left) + length (option_items right) ≤ w.count + 1 →
-        same u v ≡ true → (w.count ≡ 0 → u ≡ v) → new ≡ take at items ++ option_items left
-        ++ option_items (Some (joined_item (record { key = r; value = u }) start finish))
-        ++ option_items right ++ drop end items → IsInserted order same items new r v
-    borders_insert new v u {at} {end} {left} {right} {start} {finish} on_left on_right frame_left
-        frame_right few values own_value changed =
-        let m : Item (AnyRange K) V = joined_item (record { key = r; value = u }) start finish in
-        let all = window.stored.known in
-        let front = take at items ++ option_items left in
-        let behind = option_items right ++ drop end items in
-        let list : new ≡ front ++ m ∷ behind = grind (arith, common_steps) in
-        inserted_between front behind m window.stored window.known range_has_places on_left.left
-        on_right.right values (every_append _ front (m ∷ behind) (every_append _ (take at items)
-        (option_items left) (every_front _ at items all) on_left.known) (grind (arith, common_steps))) list (insertion_frame lawful equal window new v u frame_left frame_right few values
-        own_value changed)
-
-    -- the list with the range unbound
-    removed_by : (new : List (Item (AnyRange K) V)) (at end : ℕ)
-        (left right : Option (Item (AnyRange K) V)) →
-        IsLeftRest order same lawful equal items r at left
-        → IsRightRest order same lawful equal items r end right →
-        IsRemovalFrame order same items new r →
-        new ≡ take at items ++ option_items left ++ [] ++ option_items right ++ drop end items →
-        IsRemoved order same items new r
-    removed_by new at end left right on_left on_right frame changed =
-        let all = window.stored.known in
-        let front = take at items ++ option_items left in
-        let behind = option_items right ++ drop end items in
-        let list : new ≡ front ++ behind = grind (arith, common_steps) in
-        let result = places_between_are_unbound line items front behind (lower order r)
-        (upper order r) on_left.left on_right.right range_has_places in
-        let known_front = every_append _ (take at items) (option_items left)
-        (every_front _ at items all) on_left.known in
-        let known_behind = every_append _ (option_items right) (drop end items) on_right.known
-        (every_back _ end items all) in
-        let others = every_append _ front behind known_front known_behind in
-        let before = every_weaker _ _ front (λ i h m. m.0 ((before_is order lawful i.key.end r.start
-        h.0.1 window.known.0).1 h.1)) (every_both (λ i. IsKnownRange order i.key) _ front
-        known_front on_left.left.ends)
+    pub replaced : IsStored order same middle → IsReplaced order same items new middle r
+    replaced others =
+        let known_inner = every_right _ (take at items ++ option_items rest) Inner (every_left _
+        ((take at items ++ option_items rest) ++ Inner) (option_items beyond ++ drop end items)
+        right.known) in
+        let in_others = λ (Q : Item (AnyRange K) V → Type 0) (h : Any Q Inner). any_left Q
+        (option_items rest ++ Inner) (option_items beyond) (any_right Q (option_items rest) Inner h)
         in
-        let after = every_weaker _ _ behind (λ i h m. m.1 ((before_is order lawful r.end i.key.start
-        window.known.1 h.0.0).1 h.1)) (every_both (λ i. IsKnownRange order i.key) _ behind
-        known_behind on_right.right.starts) in
+        let Valued = λ (j : Item (AnyRange K) V).
+        HasValue order same Run j.value ⊎ HasValue order same middle j.value in
         record {
-          stored =
-              rw list (chain_stored order lawful same equal (front ++ behind) others result.chain);
-          unbound = rw list (unbound_after order lawful same equal items (front ++ behind) r
-              window.known all others result);
-          apart = rw list (every_append (λ i. Overlap order i.key r → ⊥) front behind before after);
-          frame = frame;
+          stored = stored_new;
+          held = λ k key h. let within = (held_between order lawful r k window.known key).0 h in
+              same_binds order lawful same equal middle new k others.known known_new key
+              (λ W alike. made.inside (Beside k At) W alike within.0 within.1);
+          others = λ k key h. same_binds order lawful same equal items new k window.stored.known
+              known_new key (λ W alike. made.outside (Beside k At) W alike
+              (unheld_lies_outside order lawful same equal r k window.known key h));
+          frame = framed _ (record {
+            concerned = every_run _ (every_weaker _ _ left.extra (λ i h. inr (inl (
+              h.0,
+              in_others _ (any_with _ _ (λ j. (j.key.start ≡ i.key.start) × Overlap order j.key r
+                  × IsTrue (same i.value j.value)) Inner (any_ended _ finish (with_first_start start middle)
+                  (λ j b is g. (g.0, (g.1.0, right.reaches b is), g.2)) h.1) known_inner (λ j g own.
+                  (g.0, (overlap_is order lawful j.key r own window.known).1 g.1, g.2))),
+            ))) left.touched) (every_weaker _ _ Met (λ i h. inl h) (all_meet lawful equal window))
+                (every_weaker _ _ right.extra (λ i h. inr (inr (
+                  h.0,
+                  in_others _ (any_with _ _ (λ j. (j.key.end ≡ i.key.end) × Overlap order j.key r
+                      × IsTrue (same i.value j.value)) Inner h.1 known_inner (λ j g own.
+                      (g.0, (overlap_is order lawful j.key r own window.known).1 g.1, g.2))),
+                ))) right.touched);
+            valued = every_other Valued
+                (every_weaker _ _ (option_items rest) (λ j h. inl (in_run _ h.value)) left.made)
+                (every_ended Valued finish (with_first_start start middle) (λ i b is h. h)
+                (every_started Valued start middle (λ i b is h. h)
+                (every_weaker _ _ middle (λ j h. inr h) (own_values order same equal middle))))
+                (every_weaker _ _ (option_items beyond) (λ j h. inl (in_run _ h.value)) right.made);
+          });
         }
 
-    pub borders_remove : (new : List (Item (AnyRange K) V))
-        (left right : Option (Item (AnyRange K) V)) → 0 < w.count →
-        IsLeftRest order same lawful equal items r place left
-        → IsRightRest order same lawful equal items r (place + w.count) right →
-        Every (IsPart order same (take w.count (drop place items)) r) (option_items left)
-        → Every (IsPart order same (take w.count (drop place items)) r) (option_items right) →
-        new ≡ take place items ++ option_items left ++ [] ++ option_items right
-        ++ drop (place + w.count) items → IsRemoved order same items new r
-    borders_remove new left right some on_left on_right made_left made_right changed =
-        removed_by new place (place + w.count) left right on_left on_right
-        (cut_way lawful equal window new left right some made_left made_right changed) changed
+  module _ {at end : ℕ} {rest beyond : Option (Item (AnyRange K) V)}
+      {start finish : Option (Bound K)}
+      (left : IsLeftSide order lawful same equal items r place w.count [] at rest start)
+      (right : IsRightSide order lawful same equal items r place w.count [] (take at items
+      ++ option_items rest) (with_first_start start []) end beyond finish)
+      (new : List (Item (AnyRange K) V)) (list : new ≡ take at items ++ option_items rest ++ []
+      ++ option_items beyond ++ drop end items) where
+    changed : new ≡ take at items ++ option_items rest ++ with_last_end finish
+        (with_first_start start []) ++ option_items beyond ++ drop end items
+    changed = rw (none_inside start finish) list
 
-    -- a range that meets nothing is unbound
-    pub unmet_is_unbound : w.count ≡ 0 → IsRemoved order same items items r
-    unmet_is_unbound none =
-        let list : items ≡ take place items ++ [] ++ [] ++ [] ++ drop (place + w.count) items = grind (arith, common_steps) in
-        removed_by items place (place + w.count) None None
-        (left_rest_whole (λ x some read. absurd (omega (arith, some, none))))
-        (right_rest_whole (λ x some read. absurd (omega (arith, some, none))))
-        (not_cut lawful equal window) list
+    pub removed : IsRemoved order same items new r
+    removed =
+        let change = made left right new changed in
+        let known = known_new left right new changed in
+        let good = range_has_places lawful equal window in
+        let few = few_rests left right new changed in
+        let size = sizes left right new changed in
+        let none = ap length (none_inside {V = V} start finish) in
+        let part = part_of_run left right new changed in
+        record {
+          stored = stored_new left right new changed;
+          unbound = unbound_after order lawful same equal items new r window.known
+              window.stored.known known change;
+          apart = every_not _ new (λ met. let at = met_range_is_covered order lawful same equal r new
+              window.known good known (chained_items_have_places order lawful same equal new
+              change.chain) met in (change.inside at.place (λ u. true)
+              (respects_any order lawful same equal) at.from at.upto).0 at.held);
+          frame = framed left right new changed _ (record {
+            concerned = every_run left right new changed _
+                (every_weaker _ _ left.extra (λ i h. absurd (let e = h.1 in grind (arith, common_steps))) left.touched)
+                (all_meet lawful equal window)
+                (every_weaker _ _ right.extra (λ i h. absurd (let e = h.1 in grind (arith, common_steps))) right.touched);
+            few = omega (arith, size, none, few rest left.made, few beyond right.made, one_item rest);
+            whole = λ e. no_length _ (omega (
+              arith,
+              size,
+              none,
+              few rest left.made,
+              few beyond right.made,
+              ap length e,
+            ));
+            made = every_other left right new changed _ (every_weaker _ _ (option_items rest) part left.made)
+                (rw (none_inside start finish) tt) (every_weaker _ _ (option_items beyond) part right.made);
+          });
+        }
 
-    -- an empty window leaves no item that meets the range
-    pub none_meets : w.count ≡ 0 → Every (λ i. Overlap order i.key r → ⊥) items
-    none_meets none = (unmet_is_unbound none).apart
+  module _ (v u : V) {at end : ℕ} {rest beyond : Option (Item (AnyRange K) V)}
+      {start finish : Option (Bound K)} (left : IsLeftSide order lawful same equal items r place
+      w.count (record { key = r; value = u } ∷ []) at rest start)
+      (right : IsRightSide order lawful same equal items r place w.count
+      (record { key = r; value = u } ∷ []) (take at items ++ option_items rest)
+      (with_first_start start (record { key = r; value = u } ∷ [])) end beyond finish)
+      (values : same u v ≡ true) (own_value : w.count ≡ 0 → u ≡ v)
+      (new : List (Item (AnyRange K) V)) (list : new ≡ take at items ++ option_items rest
+      ++ option_items (Some (joined_item (record { key = r; value = u }) start finish))
+      ++ option_items beyond ++ drop end items) where
+    abbrev own : Item (AnyRange K) V
+    own = record { key = r; value = u }
+
+    put : new ≡ take at items ++ option_items rest ++ with_last_end finish
+        (with_first_start start (own ∷ [])) ++ option_items beyond ++ drop end items
+    put = rw (one_inside own start finish) list
+
+    abbrev Whole : List (Item (AnyRange K) V)
+    Whole = Run left right new put
+
+    takes_value : (i : Item (AnyRange K) V)
+        → TakesStartOf lawful same r i (with_first_start start (own ∷ []))
+        ⊎ TakesEndOf lawful same r i (with_last_end finish (with_first_start start (own ∷ [])))
+        → IsTrue (same i.value v)
+    takes_value i h = grind (arith, common_steps, every_started, any_use, every_ended)
+
+    starts_of : (b : Bound K) → start ≡ Some b → Any (λ i. b ≡ i.key.start) Whole
+    starts_of b is = any_left _ (left.extra ++ Met) right.extra (left.given b is)
+
+    ends_of : (b : Bound K) → finish ≡ Some b → Any (λ i. b ≡ i.key.end) Whole
+    ends_of b is = grind (arith, common_steps, any_right)
+
+    own_is_new : IsNewItem order same Whole r v (joined_item own start finish)
+    own_is_new = grind (arith, common_steps, given_start, starts_of, given_end, ends_of)
+
+    no_rest : (o : Option (Item (AnyRange K) V)) → Every (IsPart order same Met r) (option_items o)
+        → Every (λ i. IsTrue (same i.value v)) Whole
+        → Every (λ j. same j.value u ≡ true → ⊥) (option_items o) → length (option_items o) ≡ 0
+    no_rest None parts all apart = refl
+    no_rest (Some y) parts all apart = absurd (any_use _ _ Whole
+        (in_run left right new put _ parts.0.value) all (λ i h k. apart.0
+        (equal.congr y.value i.value u h ∙ (equal.congr i.value v u k ∙ (equal.symm v u ∙ values)))))
+
+    new_part : (j : Item (AnyRange K) V) → IsPart order same Met r j → IsNewItem order same Whole r v j
+    new_part j h = let wide = part_of_run left right new put j h in
+        record { start = wide.start; end = wide.end; value = inr wide.value }
+
+    pub inserted : IsInserted order same items new r v
+    inserted =
+        let change = made left right new put in
+        let known = known_new left right new put in
+        let good = range_has_places lawful equal window in
+        let few = few_rests left right new put in
+        let size = sizes left right new put in
+        let one = ap length (one_inside own start finish) in
+        let bound : IsBoundTo line items new (lower order r) (upper order r) v = record {
+          chain = change.chain;
+          inside = λ p W alike from upto. through (change.inside p W alike from upto)
+              (held_alone line [] own [] p W v (good, tt) (from, upto) alike values);
+          outside = change.outside;
+        } in
+        record {
+          stored = stored_new left right new put;
+          bound = bound_after order lawful same equal items new r v window.known
+              window.stored.known known bound;
+          frame = framed left right new put _ (record {
+            concerned = every_run left right new put _
+                (every_weaker _ _ left.extra (λ i h. inr (inl h.0, takes_value i (inl h.1))) left.touched)
+                (every_weaker _ _ Met (λ i h. inl h) (all_meet lawful equal window))
+                (every_weaker _ _ right.extra (λ i h. inr (inr h.0, takes_value i (inr h.1))) right.touched);
+            few = omega (arith, size, one, few rest left.made, few beyond right.made, one_item rest);
+            whole = λ e.
+                let no_rest = none_of rest (omega (arith, few rest left.made, ap length e)) in
+                let no_beyond = none_of beyond (omega (arith, few beyond right.made, ap length e)) in
+                let no_start = not_given start (λ b is. rw e at (starts_of b is)) in
+                let no_finish = not_given finish (λ b is. rw e at (ends_of b is)) in
+                let same_value = own_value (omega (
+                  arith,
+                  run_size items place w.count window.in_range,
+                  length-append (left.extra ++ Met) right.extra,
+                  length-append left.extra Met,
+                  ap length e,
+                )) in
+                rw (no_rest, no_beyond, no_start, no_finish, same_value) refl;
+            one = λ all. omega (
+              arith,
+              size,
+              one,
+              no_rest rest left.made all (every_weaker _ _ (option_items rest)
+                  (λ j h. h own refl (le_refl lawful _)) left.apart),
+              no_rest beyond right.made all (every_weaker _ _ (option_items beyond)
+                  (λ j h. h own refl (le_refl lawful _)) right.apart),
+            );
+            made = every_other left right new put _ (every_weaker _ _ (option_items rest) new_part left.made)
+                (rw (one_inside own start finish) (own_is_new, tt))
+                (every_weaker _ _ (option_items beyond) new_part right.made);
+          });
+          meets = meets_bound order lawful same equal items new r v window.stored.known known
+              (stored_chain order lawful same equal items window.stored) window.known good bound;
+        }
+
+  -- a range that meets nothing is unbound
+  pub unmet_is_unbound : w.count ≡ 0 → IsRemoved order same items items r
+  unmet_is_unbound none =
+      let nothing : IsStored order same [] = record { known = tt; nonempty = tt; rising = tt } in
+      let left = left_side_whole lawful equal window nothing tt
+      (λ x some read. absurd (omega (arith, some, none))) (λ m is. absurd (cc)) in
+      removed left (right_side_whole lawful equal window nothing tt left
+      (λ x some read. absurd (omega (arith, some, none))) (λ m is. absurd (cc))) items (grind (arith, common_steps))
+
+  -- an empty window leaves no item that meets the range
+  pub none_meets : w.count ≡ 0 → Every (λ i. Overlap order i.key r → ⊥) items
+  none_meets none = (unmet_is_unbound none).apart
+
+  -- a range that meets nothing and joins nothing is put between two items
+  pub put_between : (v : V) → w.count ≡ 0 → IsJoinedLeft order same is_good rank items r v place None
+      → IsJoinedRight order same is_good rank items r v (place + w.count) None
+      → (new : List (Item (AnyRange K) V))
+      → new ≡ insert items place (record { key = r; value = v }) → IsInserted order same items new r v
+  put_between v none before after new put =
+      let own : Item (AnyRange K) V = record { key = r; value = v } in
+      let stored = own_stored lawful equal v window.known window.nonempty in
+      let within = own_within lawful equal r v in
+      let end : place + w.count ≡ place = omega (arith, none) in
+      let left = left_side_whole lawful equal window stored within
+      (λ x some read. absurd (omega (arith, some, none)))
+      (λ m is le. let item : own ≡ m = cc in rw (← item) before) in
+      inserted v v left (right_side_whole lawful equal window stored within left
+      (λ x some read. absurd (omega (arith, some, none)))
+      (λ m is le. let item : own ≡ m = cc in rw (← item) after)) (equal.refl v) (λ e. refl) new
+      (rw (end, append-nil (take place items), append-nil (take place items ++ own ∷ [])) (put ∙ sym
+      (append_assoc (take place items) (own ∷ []) (drop place items))))

@@ -8,7 +8,7 @@ use Rattle.range_runs.proofs.Extents.{past_le, end_le}
 use Rattle.range_runs.proofs.Forms.{Known, Chained, stored_chain, nonempty_good}
 use Rattle.range_runs.proofs.Spelling.{StartSide, EndSide, own_spelling, within_is_kept, cut_end_is_kept, cut_start_is_kept}
 use Rattle.range_edit.proofs.OuterBounds.{every_started, every_ended}
-use Rattle.range_edit.proofs.Replaced.{IsReplacement}
+use Rattle.range_edit.proofs.SidePlans.{IsPlan}
 
 module _ {K : Type 0} {order : KeyOrder K} (lawful : IsLawful order) {V : Type 0}
     {same : V → V → Bool} (equal : IsEquivalence same) {items : List (Item (AnyRange K) V)}
@@ -73,14 +73,16 @@ module _ {K : Type 0} {order : KeyOrder K} (lawful : IsLawful order) {V : Type 0
           (one_is_spelled (rank p) x within read).1,
         )
 
-    pub replaced_keeps_spelling : {middle : List (Item (AnyRange K) V)}
-        {joined other from : Option P} (plan : IsReplacement order lawful same equal is_good rank items r reach middle
-        joined other from) (new : List (Item (AnyRange K) V))
+    pub replaced_keeps_spelling : {middle : List (Item (AnyRange K) V)} (joined other : Option P)
+        {from : Option P} {size : ℕ} (plan : IsPlan order same lawful equal is_good rank
+        items r place reach.window.count middle reach.first reach.last
+        (seam_border joined reach.first (flipped_bound r.start))
+        (seam_border other reach.last (flipped_bound r.end)) from size) (new : List (Item (AnyRange K) V))
         → new ≡ take plan.left.at items ++ option_items plan.left.rest
         ++ with_last_end plan.right.finish (with_first_start plan.left.start middle)
         ++ option_items plan.right.rest ++ drop plan.right.end items
         → KeepsSpelling order items middle → KeepsSpelling order items new
-    replaced_keeps_spelling {middle} {joined} {other} plan new changed kept =
+    replaced_keeps_spelling {middle} joined other plan new changed kept =
         let at = plan.left.at in
         let end = plan.right.end in
         let rest = plan.left.rest in

@@ -1,5 +1,6 @@
 -- That the closure of an update may have answered the first pieces without an error.
 use Rattle.range_edit.proofs.Common.{◌≡◌, ◌<◌, Bool, List, [], ◌∷◌, length, map, arith, Option, Some, Result, Ok, Shared, Bor, Every, KeyOrder, AnyRange, Any, Item, Answered, AreAnswersTo, IsGathered, MayAnswer, SucceedsAtFirst, piece_of}
+use Rattle.std.proofs.lemmas.Grind.{common_steps}
 
 module _ {K : Type 0} (order : KeyOrder K) {V : Type 0} (same : V → V → Bool) {F E : Type 0}
     (calls : Shared F (Option (Bor V) × Unit {0}) (Result (Option V) E)) (f : F)
@@ -27,5 +28,4 @@ module _ {K : Type 0} (order : KeyOrder K) {V : Type 0} (same : V → V → Bool
       → IsGathered order same calls f items r middle → 0 < length middle
       → SucceedsAtFirst order same calls f items r
   gathered_succeeds [] h some = absurd (omega (arith, some))
-  gathered_succeeds (j ∷ middle) h some =
-      first_succeeds (λ a. a.answer ≡ Some j.value) h.answers h.pieces h.given h.valued.0
+  gathered_succeeds (j ∷ middle) h some = grind (arith, common_steps, first_succeeds)

@@ -1,18 +1,16 @@
 -- What becomes of the one item that a range meets where it surrounds the range.
-use Rattle.range_edit.proofs.Common.{common_steps, ◌≡◌, ℕ, ◌+◌, ◌-◌, ◌<◌, ◌≤◌, List, [], ◌∷◌, ◌++◌, length, take, drop, get_or, refl, ap, sym, ◌∙◌, arith, Option, Some, None, Result, Bool, true, false, IsTrue, IsEquivalence, Shared, Bor, Every, KeyOrder, IsLawful, SameBound, lower, upper, IsKnownBound, AnyRange, Item, AnswersPiece, MayAnswer, IsInserted, IsRemoved, IsDivided, flipped_bound, with_end, Overlap, IsConnectedTo, ArePieces, IsReach, IsSurrounded, option_items, Window, PLt, lt_le}
+use Rattle.range_edit.proofs.Common.{ReachesBefore, ReachesAfter, IsStored, position_total, tied_itself, common_steps, ◌≡◌, ℕ, ◌+◌, ◌-◌, ◌<◌, ◌≤◌, List, [], ◌∷◌, ◌++◌, length, take, drop, get_or, refl, ap, sym, ◌∙◌, arith, Option, Some, None, Result, Bool, true, false, IsTrue, IsEquivalence, Shared, Bor, Every, KeyOrder, IsLawful, SameBound, lower, upper, IsKnownBound, AnyRange, Item, AnswersPiece, MayAnswer, IsInserted, IsRemoved, IsDivided, flipped_bound, with_end, Overlap, IsConnectedTo, ArePieces, IsReach, IsSurrounded, option_items, Window, PLt, lt_le}
 use Rattle.range_edit.specs.declared.cut.DividedItem.{DividedItem}
 use Rattle.range_edit.specs.declared.reach.Reach.{Reach}
 use Rattle.range_runs.proofs.RangePieces.{IsFull, all_full, item_at}
 use Rattle.range_runs.proofs.ItemPlaces.{listed_at}
-use Rattle.range_edit.proofs.RangeSides.{borders_insert, borders_remove, left_border_at, right_border_at, first_reaches, last_starts, left_rest_cut, right_rest_cut, left_border_rest, right_border_rest}
+use Rattle.range_edit.proofs.RangeSides.{inserted, removed}
+use Rattle.range_edit.proofs.SewnSides.{first_reaches, last_starts, left_side_cut, left_side_joined, own_stored, own_within, right_side_cut, right_side_joined}
+use Rattle.range_runs.proofs.Tests.{not_both}
 use Rattle.range_runs.proofs.Forms.{Chained, stored_chain, nonempty_good}
 use Rattle.range_edit.proofs.MergedItems.{surrounded_alone}
 use Rattle.range_edit.proofs.BoundEdits.{standing_item_splits_list}
-use Rattle.range_edit.proofs.InsertionPlans.{left_frame_inside, left_frame_cut, right_frame_inside, right_frame_cut, left_part}
 use Rattle.range_edit.proofs.UpdatedLists.{whole_piece}
-
-none_of : {P : Type 0} (o : Option P) → length (option_items o) ≤ 0 → o ≡ None
-none_of option few = grind (arith, common_steps)
 
 module _ {K : Type 0} {order : KeyOrder K} {V : Type 0} {same : V → V → Bool} {P : Type 0}
     {is_good : P → Type 0} {rank : P → ℕ} {items : List (Item (AnyRange K) V)} {r : AnyRange K}
@@ -34,8 +32,7 @@ module _ {K : Type 0} {order : KeyOrder K} (lawful : IsLawful order) {V : Type 0
   next = ap (λ n. place + n) within.one
 
   here_end : x ≡ get_or items (place + w.count - 1) x
-  here_end = let at_end : place ≡ place + w.count - 1 =
-      omega (arith, next) in here ∙ ap (λ n. get_or items n x) at_end
+  here_end = grind (arith, common_steps, next, here)
 
   some : 0 < w.count
   some = omega (arith, within.one)
@@ -43,21 +40,29 @@ module _ {K : Type 0} {order : KeyOrder K} (lawful : IsLawful order) {V : Type 0
   within_list : place < length items
   within_list = omega (arith, within.window.in_range, some)
 
+  before : ReachesBefore order is_good rank items r place w.count (Some p)
+  before = (within.good, within.here, some, within.starts)
+
+  after : ReachesAfter order is_good rank items r place w.count (Some p)
+  after = grind (arith, common_steps, next, some)
+
   -- it has an equal value: nothing changes
   pub stands : (v : V) → same x.value v ≡ true → IsInserted order same items items r v
   stands v values =
       let window = within.window in
-      let left = left_border_at lawful equal window v place x within_list here
-      (lt_le lawful _ _ (within.starts x here)) (first_reaches lawful equal window x here some)
-      values in
-      let right = right_border_at lawful equal window (place + w.count) place v x (sym next)
-      within_list here (last_starts lawful equal window x here_end some)
-      (lt_le lawful _ _ (within.ends x here)) values in
-      let list = standing_item_splits_list items place (place + w.count) x
-      (omega (arith, window.in_range, some)) here next in
-      borders_insert lawful equal window items v x.value left right
-      (left_frame_inside lawful equal window v x here some) (right_frame_inside lawful equal window
-      v x here_end some) (omega arith) values (λ e. absurd (omega (arith, within.one, e))) list
+      let own : Item (AnyRange K) V = record { key = r; value = x.value } in
+      let total = position_total order.cmp lawful.total in
+      let stored = own_stored lawful equal x.value window.known window.nonempty in
+      let inside = own_within lawful equal r x.value in
+      let left = left_side_joined lawful equal window stored inside (Some p) own [] refl before place
+      refl within_list x here (tied_itself total (lower order r)) (lt_le lawful _ _
+      (within.starts x here)) (first_reaches lawful equal window x here some) (equal.refl x.value) in
+      let right = right_side_joined lawful equal window stored inside left (Some p) [] own refl after
+      place (sym next) within_list x here (tied_itself total (upper order r))
+      (last_starts lawful equal window x here_end some) (within.ends x here) (equal.refl x.value) in
+      inserted lawful equal window v x.value left right values
+      (λ e. absurd (omega (arith, within.one, e))) items
+      (standing_item_splits_list items place (place + 1) x within_list here refl)
 
   -- the range is cut out of it: what the copies are, and the list with the parts
   module _ (parts : DividedItem K V)
@@ -78,8 +83,7 @@ module _ {K : Type 0} {order : KeyOrder K} (lawful : IsLawful order) {V : Type 0
     list_is : (middle : Option (Item (AnyRange K) V)) → IsDivided others new at parts middle
         → new ≡ take place items ++ option_items (Some front) ++ option_items middle
         ++ option_items (Some behind) ++ drop (place + w.count) items
-    list_is middle divided = let at_place : at ≡ place =
-        same_rank ∙ within.here in rw (same_list, at_place, sym here, sym next) at (divided x)
+    list_is middle divided = grind (arith, common_steps, here, next)
 
     pub divided_size : (middle : Option (Item (AnyRange K) V)) → IsDivided others new at parts middle
         → length new ≡ length items + 1 + length (option_items middle)
@@ -91,28 +95,28 @@ module _ {K : Type 0} {order : KeyOrder K} (lawful : IsLawful order) {V : Type 0
         → IsInserted order same items new r v
     divided_around v differs divided =
         let window = within.window in
-        let other : same parts.value v ≡ false =
-        equal.congr parts.value x.value v copied ∙ differs in
-        let left = left_border_rest lawful equal window v front (left_rest_cut lawful equal window x
-        here some (within.starts x here) parts.end end_is.0 end_is.1) differs in
-        let right = right_border_rest lawful equal window (place + w.count) v behind window.in_range
-        (right_rest_cut lawful equal window x here_end some (within.ends x here) parts.start
-        start_is.0 start_is.1 parts.value copied) other in
-        borders_insert lawful equal window new v v left right (left_frame_cut lawful equal window v
-        x here some parts.end end_is.1 differs) (right_frame_cut lawful equal window v x here_end
-        some parts.start parts.value start_is.1 copied other) (omega (arith, within.one))
-        (equal.refl v) (λ e. refl) (list_is (Some (record { key = r; value = v })) divided)
+        let own : Item (AnyRange K) V = record { key = r; value = v } in
+        let stored = own_stored lawful equal v window.known window.nonempty in
+        let inside = own_within lawful equal r v in
+        let left = left_side_cut lawful equal window stored inside x here some
+        (within.starts x here) parts.end end_is
+        (λ m is le t. let item : own ≡ m = cc in not_both differs (rw (← item) at t)) in
+        let right = right_side_cut lawful equal window stored inside left x here_end some
+        (within.ends x here) parts.start start_is parts.value copied
+        (λ m is on t. let item : own ≡ m = cc in not_both differs (rw (← item) at t)) in
+        inserted lawful equal window v v left right (equal.refl v) (λ e. refl) new
+        (list_is (Some own) divided)
 
     -- the range is unbound
     pub divided_alone : IsDivided others new at parts None → IsRemoved order same items new r
     divided_alone divided =
         let window = within.window in
-        let left = left_rest_cut lawful equal window x here some (within.starts x here) parts.end
-        end_is.0 end_is.1 in
-        let right = right_rest_cut lawful equal window x here_end some (within.ends x here)
-        parts.start start_is.0 start_is.1 parts.value copied in
-        borders_remove lawful equal window new (Some front) (Some behind) some left right
-        (left_part lawful equal window x here some parts.end end_is.1, tt) (grind (arith, common_steps)) (list_is None divided)
+        let nothing : IsStored order same [] = record { known = tt; nonempty = tt; rising = tt } in
+        let left = left_side_cut lawful equal window nothing tt x here some (within.starts x here)
+        parts.end end_is (λ m is. absurd (cc)) in
+        removed lawful equal window left (right_side_cut lawful equal window nothing tt left x
+        here_end some (within.ends x here) parts.start start_is parts.value copied
+        (λ m is. absurd (cc))) new (list_is None divided)
 
   split : items ≡ take place items ++ x ∷ drop (place + 1) items
   split = listed_at items place x within_list here

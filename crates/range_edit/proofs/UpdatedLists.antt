@@ -38,8 +38,7 @@ module _ {K : Type 0} (order : KeyOrder K) {V : Type 0} (same : V → V → Bool
   -- what an update does not meet stands or is merged
   pub updated_stands : IsUpdated order same calls f items new r
       → IsUpdateFrame order same items new r
-  updated_stands h = rw (h.frame.before, h.frame.after) (rest_stands order same r h.frame.front
-      h.frame.run h.frame.others h.frame.behind h.frame.such.concerned)
+  updated_stands h = grind (arith, common_steps, rest_stands)
 
   abbrev one_answer : V → Option V → List (Answered K V)
   one_answer v answer = record { key = r; value = Some v; answer = answer } ∷ []
@@ -138,8 +137,7 @@ module _ {K : Type 0} (order : KeyOrder K) (lawful : IsLawful order) {V : Type 0
       }
 
   whole_right : IsRight order lawful items r r (Some x.value)
-  whole_right = rw list (any_right (λ i. IsCommonPart order r i.key r × (i.value ≡ x.value)) done
-      (x ∷ rest) (inl (whole_common, refl)))
+  whole_right = grind (arith, common_steps, any_right, whole_common)
 
   pub whole_piece : ArePieces order items r (record { key = r; value = Some x.value } ∷ [])
   whole_piece = cut_all order lawful items r known same equal full chain

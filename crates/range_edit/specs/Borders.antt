@@ -1,13 +1,12 @@
 -- How a range that is bound joins what stands beside it.
 use Rattle.std.specs.Prelude.{◌≡◌, ◌+◌, ◌-◌, ◌<◌, ◌≤◌, ◌++◌}
-use Rattle.range_edit.specs.Common.{Every, ℕ, Bool, true, List, length, take, drop, slice_index_or, slice_set, Option, Some, None, MatchOption, ⊤, Bound, IsEquivalence, KeyOrder, IsLawful, start_position, end_position, IsKnownRange, IsKnownBound, unwrap_or, Border, Reach, SameBound, AnyRange, place_before, IsAt, Item, Window, past, lower, upper, Touches}
+use Rattle.range_edit.specs.Common.{ℕ, Bool, true, List, length, take, drop, slice_index_or, slice_set, Option, Some, None, MatchOption, ⊤, Bound, KeyOrder, IsKnownBound, unwrap_or, Border, Reach, SameBound, AnyRange, place_before, IsAt, Item, Window, Touches}
 use Rattle.std.specs.declared.ops.Bound.TheVariants.{Unbounded}
 use Rattle.range_edit.specs.declared.borders.Border.TheVariants.{Plain, Cut, Joined}
 use Rattle.range_edit.specs.declared.borders.Joins.{Joins}
 use Rattle.range_runs.specs.Edits.{flipped_bound, with_start, with_end}
 use Rattle.range_store.specs.declared.inner.cursor.Cursor.{Cursor}
 use Rattle.range_edit.specs.declared.cut.DividedItem.{DividedItem}
-use Rattle.range_runs.specs.Chains.{line_of, IsLeft, IsRight, IsLeftOf, IsRightOf}
 use Rattle.range_edit.specs.Reach.{inner_count}
 use Rattle.range_runs.specs.Window.{option_items}
 
@@ -33,40 +32,6 @@ module _ {K : Type 0} (order : KeyOrder K) {V : Type 0} (same : V → V → Bool
   TouchesAfter items place r v = (d : Item (AnyRange K) V)
       → Touches order r (slice_index_or items place d).key
       × (same v (slice_index_or items place d).value ≡ true)
-
-  module _ (lawful : IsLawful order) (equal : IsEquivalence same) where
-    -- what stands before the range when it is cut out
-    pub record IsLeftRest (items : List (Item (AnyRange K) V)) (r : AnyRange K) (place : ℕ)
-        (rest : Option (Item (AnyRange K) V)) : Type 0 where
-      pub left : IsLeft (line_of order lawful same equal) items
-          (take place items ++ option_items rest) (lower order r)
-      pub known : Every (λ i. IsKnownRange order i.key) (option_items rest)
-
-    pub record IsRightRest (items : List (Item (AnyRange K) V)) (r : AnyRange K) (end : ℕ)
-        (rest : Option (Item (AnyRange K) V)) : Type 0 where
-      pub right : IsRight (line_of order lawful same equal) items
-          (option_items rest ++ drop end items) (upper order r)
-      pub known : Every (λ i. IsKnownRange order i.key) (option_items rest)
-
-    -- what stands before the range when it is bound to v: the first `at` items and a rest, after
-    -- which the range starts at `start`
-    pub record IsLeftBorder (items : List (Item (AnyRange K) V)) (r : AnyRange K) (v : V) (at : ℕ)
-        (rest : Option (Item (AnyRange K) V)) (start : Option (Bound K)) : Type 0 where
-      pub left : IsLeftOf (line_of order lawful same equal) items
-          (take at items ++ option_items rest) (lower order r)
-          (start_position order (unwrap_or start r.start)) v
-      pub known : Every (λ i. IsKnownRange order i.key) (option_items rest)
-      pub known_start : IsKnownBound order (unwrap_or start r.start)
-
-    -- what stands after it
-    pub record IsRightBorder (items : List (Item (AnyRange K) V)) (r : AnyRange K) (v : V) (end : ℕ)
-        (rest : Option (Item (AnyRange K) V)) (finish : Option (Bound K)) : Type 0 where
-      pub in_range : end ≤ length items
-      pub right : IsRightOf (line_of order lawful same equal) items
-          (option_items rest ++ drop end items) (upper order r)
-          (past order (end_position order (unwrap_or finish r.end))) v
-      pub known : Every (λ i. IsKnownRange order i.key) (option_items rest)
-      pub known_end : IsKnownBound order (unwrap_or finish r.end)
 
 -- the bounds that a run joins, and the list before the run and after it
 pub record IsOpened {K V : Type 0} (items new : List (Item (AnyRange K) V))

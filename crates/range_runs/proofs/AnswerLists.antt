@@ -1,8 +1,8 @@
 -- Answers put one after the other, those that touch with equal values as one.
-use Rattle.range_runs.proofs.Common.{common_steps, ◌⊎◌, ◌≡◌, refl, ap, ◌∙◌, ℕ, zero, suc, ◌+◌, ◌-◌, ◌<◌, Option, Some, None, Bool, true, List, [], ◌∷◌, ◌++◌, inl, inr, ◌↔◌, length, get_or, arith, Every, slice_set, Bound, Equal, IsEquivalence, tied_back, KeyOrder, IsLawful, end_position, position_cmp, position_total, Position, AnyRange, past, lower, upper, IsBoundClone, SameBound, same_start, IsKnownRange, Any, lt_le, eq_le, eq_ge, le_trans, PLe, PLt, any_left, any_split, every_weaker, every_append, every_left, every_right, line_of, Respects, IsBoundTo, IsLeftOf, sym, append-nil, lt_not_le, IsKnownBound, Touches, Item, Answered, JoinsNoLast, IsPut, with_end, item_lower}
-use Rattle.range_runs.proofs.Chains.{chain_right, inside_or_out}
-use Rattle.range_runs.proofs.ChainJoins.{leading_by, left_joined, places_between_are_bound}
-use Rattle.range_runs.proofs.ChainSides.{none_above}
+use Rattle.range_runs.proofs.Common.{cases, tied_itself, le_refl, le_lt_trans, lt_le_trans, common_steps, ◌⊎◌, ◌≡◌, refl, ap, ◌∙◌, ℕ, zero, suc, ◌+◌, ◌-◌, ◌<◌, Option, Some, None, Bool, true, List, [], ◌∷◌, ◌++◌, inl, inr, ◌↔◌, length, get_or, arith, Every, slice_set, Bound, Equal, IsEquivalence, tied_back, KeyOrder, IsLawful, end_position, position_cmp, position_total, Position, AnyRange, past, lower, upper, IsBoundClone, SameBound, same_start, IsKnownRange, Any, lt_le, eq_le, eq_ge, le_trans, PLe, PLt, any_left, any_split, every_weaker, every_append, every_left, every_right, line_of, Respects, sym, append-nil, lt_not_le, IsKnownBound, Touches, Item, Answered, JoinsNoLast, IsPut, with_end, item_lower}
+use Rattle.range_runs.proofs.Chains.{chain_right}
+use Rattle.range_runs.proofs.ChainSides.{like_item, none_above}
+use Rattle.range_runs.proofs.Sewn.{IsSewn, leading_by, sewn_apart, sewn_joined, through}
 use Rattle.range_runs.proofs.CutParts.{same_past}
 use Rattle.range_runs.proofs.RangePieces.{any_end}
 use Rattle.range_runs.proofs.Forms.{Known, Chained, Hold, touches_is}
@@ -63,13 +63,7 @@ module _ {K : Type 0} (order : KeyOrder K) (lawful : IsLawful order) {V : Type 0
     pub valued : Every (λ j. Any (λ a. a.answer ≡ Some j.value) answers) middle
 
   pub filled_none : (m : Position K) → IsFilledUpTo m [] []
-  filled_none m = record {
-    known = tt;
-    chain = tt;
-    inside = tt;
-    has = λ p W alike. (λ h. h, λ h. h);
-    valued = tt;
-  }
+  filled_none m = grind (arith, common_steps)
 
   module _ (m n : Position K) (answers : List (Answered K V)) (key : AnyRange K)
       (inside : IsWithin key) (from : PLe lawful m (lower order key))
@@ -89,16 +83,7 @@ module _ {K : Type 0} (order : KeyOrder K) (lawful : IsLawful order) {V : Type 0
     filled_free : (value : Option V) (middle : List (Item (AnyRange K) V))
         → IsFilledUpTo m answers middle
         → IsFilledUpTo n (answers ++ record { key = key; value = value; answer = None } ∷ []) middle
-    filled_free value middle was =
-        let a : Answered K V = record { key = key; value = value; answer = None } in
-        record {
-          known = was.known;
-          chain = was.chain;
-          inside = every_weaker (LiesUpTo m) (LiesUpTo n) middle lies_up_to_later_place was.inside;
-          has = λ p W alike.
-              (grind (arith, common_steps, any_left, any_but_end));
-          valued = more_valued a middle was.valued;
-        }
+    filled_free value middle was = grind (arith, common_steps, every_weaker, lies_up_to_later_place, common_steps, any_left, any_but_end, more_valued)
 
     -- the key bound to the answer's value, in a list that ends before it
     module _ (v : V) (value : Option V) (old : List (Item (AnyRange K) V))
@@ -112,68 +97,52 @@ module _ {K : Type 0} (order : KeyOrder K) (lawful : IsLawful order) {V : Type 0
       old_valued : Every (λ j. Any (λ b. b.answer ≡ Some j.value) more) old
       old_valued = more_valued _ old was.valued
 
-      more_has : {new : List (Item (AnyRange K) V)} → IsBoundTo (line_of order lawful same equal) old
-          new (lower order key) (upper order key) v → (p : Position K) (W : V → Bool) → Alike W
+      -- the part, bound to the value
+      abbrev Part : List (Item (AnyRange K) V)
+      Part = record { key = key; value = v } ∷ []
+
+      more_has : {new : List (Item (AnyRange K) V)} → IsSewn (line_of order lawful same equal) old
+          Part new (lower order key) → (p : Position K) (W : V → Bool) → Alike W
           → Hold order lawful same equal W p new
           ↔ Any (λ a. HoldsAt p a.key × Gives W a.answer) more
-      more_has {new} bound p W alike =
+      more_has sewn p W alike =
           let a : Answered K V = record { key = key; value = value; answer = Some v } in
           let P = λ (b : Answered K V). HoldsAt p b.key × Gives W b.answer in
           let before = was.has p W alike in
-          let beside : PLt lawful p (lower order key) ⊎ PLe lawful (upper order key) p
-          → Hold order lawful same equal W p new ↔ Any P more = λ out.
-          (grind (arith, common_steps, any_left, any_but_end, lt_not_le)) in
-          elim (inside_or_out (line_of order lawful same equal) p (lower order key)
-          (upper order key)) [
-            | inl within ↦ let own = bound.inside p W alike within.0 within.1 in (
-              λ h. any_end P answers a (within, own.0 h),
-              λ h. own.1 (elim (any_but_end P answers a h) [
+          elim (cases lawful p (lower order key)) [
+            | inl under ↦ through (sewn.below p W alike under) (
+              λ h. any_left P answers (a ∷ []) (before.0 h),
+              λ h. before.1 (elim (any_but_end P answers a h)
+                  [ inl g ↦ g | inr e ↦ absurd (lt_not_le lawful _ _ under e.0.0) ]),
+            )
+            | inr over ↦ through (sewn.above p W alike over) (
+              λ h. elim h [ inl k ↦ any_end P answers a k | inr k ↦ absurd k ],
+              λ h. inl (elim (any_but_end P answers a h) [
                 | inl g ↦ absurd (none_above (line_of order lawful same equal) p m W old
-                    (le_trans lawful _ _ _ from within.0) ended (before.1 g))
-                | inr e ↦ e.1
+                    (le_trans lawful _ _ _ from over) ended (before.1 g))
+                | inr e ↦ e
               ]),
             )
-            | inr out ↦ beside out
           ]
 
       filled_bound : (front rest : List (Item (AnyRange K) V)) (j : Item (AnyRange K) V)
-          → old ≡ front ++ rest → IsLeftOf (line_of order lawful same equal) old front
-          (lower order key) (item_lower order j) v
-          → position_cmp order.cmp (upper order j.key) (upper order key) ≡ Equal
-          → same j.value v ≡ true → IsKnownRange order j.key
-          → PLe lawful (lower order r) (lower order j.key)
+          → old ≡ front ++ rest → IsSewn (line_of order lawful same equal) old Part (front ++ j ∷ [])
+          (lower order key) → position_cmp order.cmp (upper order j.key) (upper order key) ≡ Equal
+          → IsKnownRange order j.key → PLe lawful (lower order r) (lower order j.key)
           → Any (λ b. b.answer ≡ Some j.value) more → IsFilledUpTo n more (front ++ j ∷ [])
-      filled_bound front rest j list left to alike_values known starts valued =
-          let line = line_of order lawful same equal in
+      filled_bound front rest j list sewn to known starts valued =
           let under = eq_le lawful _ _ to in
-          let over = eq_ge lawful _ _ to in
-          let bound = places_between_are_bound line old front [] j (lower order key)
-          (upper order key) v left (record {
-            right = record {
-              chain = tt;
-              starts = tt;
-              holds = λ p W alike le. (
-                λ h. absurd h,
-                λ h. absurd (none_above line p m W old
-                    (le_trans lawful _ _ _ from (le_trans lawful _ _ _ (lt_le lawful _ _ inside.2)
-                    (le_trans lawful _ _ _ over le))) ended h),
-              );
-            };
-            trails = tt;
-            above = over;
-            joined = λ p W alike on l. absurd (lt_not_le lawful _ _ l (le_trans lawful _ _ _ under on));
-          }) inside.2 alike_values in
           record {
             known = every_append (λ i. IsKnownRange order i.key) front (j ∷ [])
                 (every_left _ front rest (rw list at was.known)) (known, tt);
-            chain = bound.chain;
+            chain = sewn.chain;
             inside = every_append (LiesUpTo n) front (j ∷ []) (every_weaker (LiesUpTo m) (LiesUpTo n)
                 front lies_up_to_later_place (every_left (LiesUpTo m) front rest
                 (rw list at was.inside))) (
                   (grind (arith, common_steps, le_trans, inside)),
                   tt,
                 );
-            has = more_has bound;
+            has = more_has sewn;
             valued = every_append _ front (j ∷ [])
                 (every_left _ front rest (rw list at old_valued)) (valued, tt);
           }
@@ -186,25 +155,31 @@ module _ {K : Type 0} (order : KeyOrder K) (lawful : IsLawful order) {V : Type 0
           → IsFilledUpTo n more (old ++ record { key = own; value = v } ∷ [])
       filled_with_item_after own known at to apart =
           let line = line_of order lawful same equal in
-          let c = lower order own in
-          let low = eq_ge lawful _ _ at in
-          let under = every_weaker _ _ old (λ i le. le_trans lawful _ _ _ le
-          (le_trans lawful _ _ _ from low)) ended in
-          filled_bound old [] (record { key = own; value = v }) (sym (append-nil old)) (record {
-            left = record {
-              chain = was.chain;
-              ends = under;
-              holds = λ p W alike l. (λ h. h, λ h. h);
-            };
-            leads = leading_by line old c v was.chain under (λ k size d le on t.
-                let last : k ≡ length old - 1 = omega (arith, size) in
-                let apart = rw (← last) at (apart d (omega (arith, size))) in
-                apart (grind (arith, common_steps, touches_is, inside, le_trans, eq_le))
-                t);
-            below = eq_le lawful _ _ at;
-            joined = λ p W alike on l. absurd (lt_not_le lawful _ _ l (le_trans lawful _ _ _ low on));
-          }) to (equal.refl v) known (le_trans lawful _ _ _ inside.1 low)
-          (any_end _ answers _ refl)
+          let c = lower order key in
+          let j : Item (AnyRange K) V = record { key = own; value = v } in
+          let x : Item (AnyRange K) V = record { key = key; value = v } in
+          let under = every_weaker _ _ old (λ i le. le_trans lawful _ _ _ le from) ended in
+          let full = le_lt_trans lawful _ _ _ (eq_le lawful _ _ at)
+          (lt_le_trans lawful _ _ _ inside.2 (eq_ge lawful _ _ to)) in
+          filled_bound old [] j (sym (append-nil old)) (sewn_apart line old Part old (j ∷ []) c
+          (record { chain = was.chain; ends = under; holds = λ p W alike l. (λ h. h, λ h. h) })
+          (record {
+            chain = (full, tt);
+            starts = (eq_ge lawful _ _ at, tt);
+            holds = λ p W alike l. (
+              like_item line [] [] [] [] j x p W alike (equal.refl v)
+                  (λ h. (l, lt_le_trans lawful _ _ _ h.1 (eq_le lawful _ _ to))) (λ k. k) (λ k. k),
+              like_item line [] [] [] [] x j p W alike (equal.refl v) (λ h. (
+                le_trans lawful _ _ _ (eq_le lawful _ _ at) l,
+                lt_le_trans lawful _ _ _ h.1 (eq_ge lawful _ _ to),
+              )) (λ k. k) (λ k. k),
+            );
+          }) (λ y ys is low.
+          let value : v ≡ y.value = cc in
+          rw (← value) (leading_by line old c v was.chain under (λ k size d le on.
+          let last : k ≡ length old - 1 = omega (arith, size) in
+          rw last (apart d (omega (arith, size)) (grind (arith, common_steps, touches_is, inside))))))) to
+          known (le_trans lawful _ _ _ inside.1 (eq_ge lawful _ _ at)) (any_end _ answers _ refl)
 
       -- the last item joins it
       filled_on : (front : List (Item (AnyRange K) V)) (last : Item (AnyRange K) V) (e : Bound K)
@@ -218,10 +193,12 @@ module _ {K : Type 0} (order : KeyOrder K) (lawful : IsLawful order) {V : Type 0
           let good = chain_right line front (last ∷ []) chain in
           let within = every_right (LiesUpTo m) front (last ∷ []) (rw list at was.inside) in
           let before = le_trans lawful _ _ _ within.0.2 from in
-          filled_bound front (last ∷ []) (with_end last e) list (rw list (left_joined line front last
-          [] (lower order key) v chain (le_trans lawful _ _ _ (lt_le lawful _ _ good.0) before)
+          filled_bound front (last ∷ []) (with_end last e) list (rw list (sewn_joined line front [] []
+          [] last (record { key = key; value = v }) (with_end last e) (lower order key) chain
+          (inside.2, tt) (le_trans lawful _ _ _ (lt_le lawful _ _ good.0) before)
           ((touches_is order lawful last.key.end key inside.0 inside.2 before).0 touching)
-          alike_values)) to alike_values (
+          (le_refl lawful _) inside.2 (tied_itself (position_total order.cmp lawful.total)
+          (item_lower order last)) to (equal.refl last.value) alike_values)) to (
             (every_right (λ i. IsKnownRange order i.key) front
                 (last ∷ []) (rw list at was.known)).0.0,
             known,

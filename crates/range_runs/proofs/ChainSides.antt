@@ -12,13 +12,11 @@ module _ {L V X : Type 0} (line : Line L V X) where
   -- nothing holds a place below where all start
   pub none_below : (p c : L) (W : V → Bool) (xs : List X) → Lt line.cmp p c
       → Every (λ x. Le line.cmp c (line.lo x)) xs → Has line W p xs → ⊥
-  none_below p c W xs l all h = any_none _ (λ x. Le line.cmp c (line.lo x)) xs all
-      (λ x le held. lt_not_le line _ _ l (le_trans line _ _ _ le held.0.0)) h
+  none_below p c W xs l all h = grind (arith, common_steps, any_none, lt_not_le, le_trans)
 
   pub none_above : (p d : L) (W : V → Bool) (xs : List X) → Le line.cmp d p
       → Every (λ x. Le line.cmp (line.hi x) d) xs → Has line W p xs → ⊥
-  none_above p d W xs l all h = any_none _ (λ x. Le line.cmp (line.hi x) d) xs all
-      (λ x le held. lt_not_le line _ _ held.0.1 (le_trans line _ _ _ le l)) h
+  none_above p d W xs l all h = grind (arith, common_steps, any_none, lt_not_le, le_trans)
 
   -- a place that an item of a chain holds has that item's value and no other
   pub held_alone : (front : List X) (x : X) (rest : List X) (p : L) (W : V → Bool) (v : V)

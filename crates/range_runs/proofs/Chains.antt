@@ -1,5 +1,5 @@
 -- Chains in parts, and chains that are joined.
-use Rattle.range_runs.proofs.Common.{arith, common_steps, inl, inr, ◌≡◌, ◌∙◌, ◌⊎◌, true, List, [], ◌∷◌, ◌++◌, Every, Equal, Le, Lt, Line, Leads, Trails, Follows, IsChain}
+use Rattle.range_runs.proofs.Common.{arith, common_steps, inl, inr, ◌≡◌, ◌∙◌, ◌⊎◌, true, List, [], ◌∷◌, ◌++◌, Every, Equal, Le, Lt, Line, Leads, Follows, IsChain}
 use Rattle.range_algebra.specs.Orders
 
 module _ {L V X : Type 0} (line : Line L V X) where
@@ -33,10 +33,7 @@ module _ {L V X : Type 0} (line : Line L V X) where
   -- a place lies between two others, or below the first, or from the second on
   pub inside_or_out : (p c d : L) → (Le line.cmp c p × Lt line.cmp p d)
       ⊎ (Lt line.cmp p c ⊎ Le line.cmp d p)
-  inside_or_out p c d = elim (cases p c) [
-    | inl below ↦ inr (inl below)
-    | inr from ↦ elim (cases p d) [ inl upto ↦ inl (from, upto) | inr above ↦ inr (inr above) ]
-  ]
+  inside_or_out p c d = grind (arith, common_steps, cases)
 
   pub same_is_symmetric : (a b : V) → line.same a b ≡ true → line.same b a ≡ true
   same_is_symmetric a b h = line.equal.symm b a ∙ h
@@ -77,34 +74,18 @@ module _ {L V X : Type 0} (line : Line L V X) where
   pub strictly_leads : (x : X) (p : L) (v : V) → Lt line.cmp (line.hi x) p → Leads line x p v
   strictly_leads x p v h = grind (arith, common_steps)
 
-  pub strictly_trails : (x : X) (p : L) (v : V) → Lt line.cmp p (line.lo x) → Trails line p v x
-  strictly_trails x p v h = grind (arith, common_steps)
-
   -- all that stand before an item lead to it
   pub chain_before : (xs : List X) (y : X) (ys : List X) → IsChain line (xs ++ y ∷ ys)
       → Every (λ x. Leads line x (line.lo y) (line.value y)) xs
   chain_before [] y ys h = tt
   chain_before (x ∷ []) y ys h = (h.1.0, tt)
-  chain_before (x ∷ x' ∷ xs) y ys h =
-      let rest = chain_before (x' ∷ xs) y ys h.1.1 in grind (arith, common_steps, rest, le_lt_trans, lt_le_trans, strictly_leads)
+  chain_before (x ∷ x' ∷ xs) y ys h = grind (arith, common_steps, common_steps, le_lt_trans, lt_le_trans, strictly_leads, chain_before (x' ∷ xs) y ys h.1.1)
 
   pub chains_join : (xs : List X) (y : X) (ys : List X) → IsChain line xs → IsChain line (y ∷ ys)
       → Every (λ x. Leads line x (line.lo y) (line.value y)) xs → IsChain line (xs ++ y ∷ ys)
   chains_join [] y ys h k e = k
   chains_join (x ∷ []) y ys h k e = (h.0, (e.0, k))
   chains_join (x ∷ x' ∷ xs) y ys h k e = (h.0, (h.1.0, chains_join (x' ∷ xs) y ys h.1.1 k e.1))
-
-  strict_follows : (x : X) (ys : List X) (c d : L) → Le line.cmp (line.hi x) c → Lt line.cmp c d
-      → IsChain line ys → Every (λ y. Le line.cmp d (line.lo y)) ys → Follows line x ys
-  strict_follows x list c d h l k e = grind (arith, common_steps)
-
-  pub join_apart : (xs ys : List X) (c d : L) → Lt line.cmp c d → IsChain line xs → IsChain line ys
-      → Every (λ x. Le line.cmp (line.hi x) c) xs → Every (λ y. Le line.cmp d (line.lo y)) ys
-      → IsChain line (xs ++ ys)
-  join_apart [] ys c d l h k e f = k
-  join_apart (x ∷ []) ys c d l h k e f = (h.0, strict_follows x ys c d e.0 l k f)
-  join_apart (x ∷ x' ∷ xs) ys c d l h k e f =
-      (h.0, (h.1.0, join_apart (x' ∷ xs) ys c d l h.1.1 k e.1 f))
 
   -- an item that follows at the same end with an equal value
   pub follows_like : (x y : X) (ys : List X) → line.cmp (line.hi y) (line.hi x) ≡ Equal

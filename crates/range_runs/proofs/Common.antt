@@ -39,7 +39,7 @@ pub use Rattle.range_store.specs.declared.storage.Item.{Item}
 pub use Rattle.range_runs.proofs.PlaceOrder.{PLe, PLt, both, cases, eq_ge, eq_le, le_lt_trans, le_refl, le_trans, lt_le, lt_le_trans, lt_not_le, lt_trans, not_le, not_lt}
 pub use Rattle.range_runs.specs.Answers.{Answered, AnswersPiece, IsAsAnswered, IsGathered, MayAnswer, MayBeAsked, piece_of}
 pub use Rattle.range_runs.specs.Bindings.{Binds, BindsTo, IsBound, IsBoundAfter, IsItemFor, IsSomeOf, IsStoredFor, IsUnboundAfter}
-pub use Rattle.range_runs.specs.Chains.{Follows, Has, Held, IsBoundTo, IsChain, IsLeft, IsLeftOf, IsMade, IsRight, IsRightOf, IsSpliced, IsUnbound, Leading, Leads, Line, Respects, Trailing, Trails, line_of}
+pub use Rattle.range_runs.specs.Chains.{Follows, Has, Held, IsBoundTo, IsChain, IsLeft, IsMade, IsRight, IsSpliced, IsUnbound, Leading, Leads, Line, Respects, line_of}
 pub use Rattle.range_runs.specs.Edits.{flipped_bound, with_end}
 pub use Rattle.range_runs.specs.Lookups.{BindsKeyOf, MeetAlso, MeetsSome, Overlap}
 pub use Rattle.range_runs.specs.Neighbours.{EachNext}

@@ -70,17 +70,13 @@ module _ {K : Type 0} (order : KeyOrder K) (lawful : IsLawful order) where
         → EachNext (λ j k. LiesBefore order j.key k.key) items → x ≡ get_or items m x
         → ElementIsBefore order e connected x.key → (j : ℕ) (d : Item (AnyRange K) V) → m ≤ j
         → j < length items → ElementIsBefore order e connected (get_or items j d).key
-    before_from [] e connected m x known others full rising read h j d from within =
-        absurd (omega arith)
-    before_from (y ∷ ys) e connected zero x known others full rising read h zero d from within =
-        let at : x ≡ y = read in rw at at h
+    before_from [] e connected m x known others full rising read h j d from within = grind (arith, common_steps)
+    before_from (y ∷ ys) e connected zero x known others full rising read h zero d from within = grind (arith, common_steps)
     before_from (y ∷ ys) e connected zero x known others full rising read h (suc j) d from within =
         let at : x ≡ y = read in
         let rise : Every (λ k. PLt lawful (Start x.key) (Start k.key)) ys =
         rw (sym at) at (starts_rise y ys full rising) in
         before_later e x.key (get_or ys j d).key connected known others
         (every_at (λ k. PLt lawful (Start x.key) (Start k.key)) ys j d rise (omega arith)) h
-    before_from (y ∷ ys) e connected (suc m) x known others full rising read h zero d from within =
-        absurd (omega arith)
-    before_from (y ∷ ys) e connected (suc m) x known others full rising read h (suc j) d from within
-        = grind (arith, common_steps, before_from ys e connected m x known others full.1 rising.1 read h j d (omega arith) (omega arith))
+    before_from (y ∷ ys) e connected (suc m) x known others full rising read h zero d from within = grind (arith, common_steps)
+    before_from (y ∷ ys) e connected (suc m) x known others full rising read h (suc j) d from within = grind (arith, common_steps, common_steps, before_from ys e connected m x known others full.1 rising.1 read h j d (omega arith) (omega arith))

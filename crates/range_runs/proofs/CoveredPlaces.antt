@@ -85,19 +85,15 @@ module _ {K : Type 0} (order : KeyOrder K) (lawful : IsLawful order) where
           upto = at.other_upto;
           held = inl ((at.from, at.upto), refl);
         }
-    met_range_is_covered s (i ∷ rest) known good all full (inr h) =
-        let at = met_range_is_covered s rest known good all.1 full.1 h in
-        record { place = at.place; from = at.from; upto = at.upto; held = inr at.held }
+    met_range_is_covered s (i ∷ rest) known good all full (inr h) = grind (arith, common_steps, met_range_is_covered s rest known good all.1 full.1 h)
 
     held_place_is_met : (s : AnyRange K) (items : List (Item (AnyRange K) V)) (p : Position K)
         → IsKnownRange order s → Known order lawful same equal items → PLe lawful (lower order s) p
         → PLt lawful p (upper order s) → Hold order lawful same equal (λ u. true) p items
         → MeetsSome order items s
     held_place_is_met s [] p known all from upto h = absurd h
-    held_place_is_met s (i ∷ rest) p known all from upto (inl h) =
-        inl (shared_place_is_overlap i.key s p all.0 known h.0.0 h.0.1 from upto)
-    held_place_is_met s (i ∷ rest) p known all from upto (inr h) =
-        inr (held_place_is_met s rest p known all.1 from upto h)
+    held_place_is_met s (i ∷ rest) p known all from upto (inl h) = grind (arith, common_steps, shared_place_is_overlap)
+    held_place_is_met s (i ∷ rest) p known all from upto (inr h) = grind (arith, common_steps, held_place_is_met s rest p known all.1 from upto h)
 
     -- what meets the range or a range of the list meets one of the list in which it was bound, and
     -- nothing else does

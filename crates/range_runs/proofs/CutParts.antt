@@ -27,10 +27,8 @@ module _ {K : Type 0} (order : KeyOrder K) (lawful : IsLawful order) where
       → places order lawful (past order (end_position order b)) (start_position order s) ≡ Equal
   cut_end a (Included k) b known l h = end_by (Included k) (Excluded k) b
       (flipped_bound_is_past order lawful (Excluded k) (Included k) refl) h
-  cut_end a (Excluded k) b known l h = end_by (Excluded k) (Included k) b
-      (flipped_bound_is_past order lawful (Included k) (Excluded k) refl) h
-  cut_end a Unbounded b known l h =
-      absurd (lt_not_le lawful _ _ l (unbounded_start order lawful a known))
+  cut_end a (Excluded k) b known l h = grind (arith, common_steps, end_by, flipped_bound_is_past)
+  cut_end a Unbounded b known l h = grind (arith, common_steps, lt_not_le, unbounded_start)
 
   start_by : (e t b : Bound K)
       → places order lawful (past order (end_position order e)) (start_position order t) ≡ Equal
@@ -47,12 +45,10 @@ module _ {K : Type 0} (order : KeyOrder K) (lawful : IsLawful order) where
       → PLt lawful (past order (end_position order e))
       (past order (end_position order a)) → SameBound order (flipped_bound e) b
       → places order lawful (start_position order b) (past order (end_position order e)) ≡ Equal
-  cut_start a (Included k) b known l h = start_by (Included k) (Excluded k) b
-      (flipped_bound_is_past order lawful (Included k) (Excluded k) refl) h
+  cut_start a (Included k) b known l h = grind (arith, common_steps, start_by, flipped_bound_is_past)
   cut_start a (Excluded k) b known l h = start_by (Excluded k) (Included k) b
       (flipped_bound_is_past order lawful (Excluded k) (Included k) refl) h
-  cut_start a Unbounded b known l h =
-      absurd (lt_not_le lawful _ _ l (unbounded_end order lawful a known))
+  cut_start a Unbounded b known l h = grind (arith, common_steps, lt_not_le, unbounded_end)
 
   pub same_turned : (b : Bound K) → SameBound order (flipped_bound b) (flipped_bound b)
   same_turned b = same_itself order lawful (flipped_bound b)
@@ -64,8 +60,7 @@ module _ {K : Type 0} (order : KeyOrder K) (lawful : IsLawful order) where
   -- nothing ends after an unbounded end
   pub ends_never : (r i : AnyRange K) → IsKnownRange order i → None ≡ flipped r.end → IsTrue false
       ↔ PLt lawful (upper order r) (upper order i)
-  ends_never r i known turns =
-      (λ h. absurd (cc), λ l. absurd (not_past_all r.end i.end turns known.1 l))
+  ends_never r i known turns = grind (arith, common_steps, not_past_all)
 
   pub le_is : (o : Ordering) → IsTrue (is_le o) ↔ is_gt o ≡ false
   le_is compared = grind (arith, common_steps)

@@ -65,15 +65,11 @@ module _ {K : Type 0} (order : KeyOrder K) (lawful : IsLawful order) where
   past_lt : (e f : Position K) → IsEnd order e → IsEnd order f → PLt e f
       → PLt (past order e) (past order f)
   unfolding IsEnd
-  past_lt (Beside a Before) (Beside b Before) h k l =
-      less_then_any (order.cmp a b) Equal (less_unless_equal (order.cmp a b) l)
-  past_lt (Beside a Before) (Beside b At) h k l =
-      before_at a b (order.succ b) refl ((less_unless_less (order.cmp a b)).0 l)
+  past_lt (Beside a Before) (Beside b Before) h k l = grind (arith, common_steps, less_then_any, less_unless_equal)
+  past_lt (Beside a Before) (Beside b At) h k l = grind (arith, common_steps, before_at, less_unless_less)
   past_lt (Beside a Before) PlusInfinity h k l = refl
-  past_lt (Beside a At) (Beside b Before) h k l =
-      at_before a b (order.succ a) refl k.0 k.1 ((less_unless_greater (order.cmp a b)).0 l)
-  past_lt (Beside a At) (Beside b At) h k l =
-      at_at a b (order.succ a) (order.succ b) refl refl h k (less_unless_equal (order.cmp a b) l)
+  past_lt (Beside a At) (Beside b Before) h k l = grind (arith, common_steps, at_before, less_unless_greater)
+  past_lt (Beside a At) (Beside b At) h k l = grind (arith, common_steps, at_at, less_unless_equal)
   past_lt (Beside a At) PlusInfinity h k l = at_infinity a (order.succ a)
   past_lt PlusInfinity f h k l = absurd (infinity_last f l)
   past_lt MinusInfinity f h k l = absurd h

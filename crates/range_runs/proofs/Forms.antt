@@ -66,8 +66,7 @@ module _ {K : Type 0} (order : KeyOrder K) (lawful : IsLawful order) where
         → IsListed order lawful same items → Chained items
     listed_chain [] known h = tt
     listed_chain (i ∷ []) known h = ((nonempty_good i.key known.0).0 h.1, tt)
-    listed_chain (i ∷ j ∷ rest) known h =
-        let chain = listed_chain (j ∷ rest) known.1 h.4 in grind (arith, common_steps, chain, before_is, nonempty_good, touches_is)
+    listed_chain (i ∷ j ∷ rest) known h = grind (arith, common_steps, common_steps, before_is, nonempty_good, touches_is, listed_chain (j ∷ rest) known.1 h.4)
 
     pub stored_chain : (items : List (Item (AnyRange K) V)) → IsStored order same items
         → Chained items

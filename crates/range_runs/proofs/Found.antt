@@ -68,8 +68,7 @@ module _ {K : Type 0} (order : KeyOrder K) (lawful : IsLawful order) {V : Type 0
       falls x (get_or xs j d) own.0 rise
       (every_at (λ k. Le cmp (Start k) (End k)) xs j d own.1 (omega arith)) passes
   listed_partitioned test falls (x ∷ xs) h (suc i) zero d le within passes = absurd (omega arith)
-  listed_partitioned test falls (x ∷ xs) h (suc i) (suc j) d le within passes =
-      listed_partitioned test falls xs (stored_tail x xs h) i j d (omega arith) (omega arith) passes
+  listed_partitioned test falls (x ∷ xs) h (suc i) (suc j) d le within passes = grind (arith, common_steps, stored_tail, listed_partitioned test falls xs (stored_tail x xs h) i j d (omega arith) (omega arith) passes)
 
   pub found_partitions : (items : List (Item (AnyRange K) V)) (p : Position K)
       → IsStored order same items
@@ -142,13 +141,11 @@ module _ {K : Type 0} (order : KeyOrder K) (lawful : IsLawful order) {V : Type 0
 
   below_not : (i : Item (AnyRange K) V) (k : K) → order.is_key k → PLt lawful (End i) (Beside k At)
       → Holds order i.key k → ⊥
-  below_not i k key l h =
-      lt_not_le lawful _ _ l ((holds_by_position order lawful i.key k key).0 h).1
+  below_not i k key l h = grind (arith, common_steps, lt_not_le, holds_by_position)
 
   above_not : (i : Item (AnyRange K) V) (k : K) → order.is_key k
       → PLt lawful (Beside k At) (Start i) → Holds order i.key k → ⊥
-  above_not i k key l h =
-      lt_not_le lawful _ _ l ((holds_by_position order lawful i.key k key).0 h).0
+  above_not i k key l h = grind (arith, common_steps, lt_not_le, holds_by_position)
 
   -- up to the place all end before the key, and from there on all start past it
   pub apart_bound : (items : List (Item (AnyRange K) V)) (k : K) (place : ℕ) → order.is_key k
@@ -206,7 +203,5 @@ module _ {K : Type 0} (order : KeyOrder K) (lawful : IsLawful order) {V : Type 0
       → IsEquivalence same → place < length items → x ≡ get_or items place x → Holds order x.key k
       → BindsTo order same items k x.value
   bound_at [] k place x equal within read held = absurd (omega arith)
-  bound_at (i ∷ rest) k zero x equal within read held = let at : x ≡ i =
-      read in rw (← at) (inl (held, equal.refl x.value))
-  bound_at (i ∷ rest) k (suc place) x equal within read held =
-      inr (bound_at rest k place x equal (omega arith) read held)
+  bound_at (i ∷ rest) k zero x equal within read held = grind (arith, common_steps)
+  bound_at (i ∷ rest) k (suc place) x equal within read held = grind (arith, common_steps, bound_at rest k place x equal (omega arith) read held)

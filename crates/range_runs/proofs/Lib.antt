@@ -1,5 +1,4 @@
 pub mod AnswerLists
-pub mod ChainJoins
 pub mod ChainSides
 pub mod Chains
 pub mod Common
@@ -18,6 +17,7 @@ pub mod PieceSteps
 pub mod PlaceOrder
 pub mod RangePieces
 pub mod RunItems
+pub mod Sewn
 pub mod Spelling
 pub mod Tests
 pub mod WindowItems

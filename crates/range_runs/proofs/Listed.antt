@@ -76,5 +76,4 @@ module _ {K : Type 0} (order : KeyOrder K) (lawful : IsLawful order) {V : Type 0
       ((followed_is_before_and_apart i j h.1).1 (h.2, h.3), all_rising (j ∷ rest) h.4)
 
   pub stored_by : (items : List (Item (AnyRange K) V)) → IsListed items → IsStored order same items
-  stored_by items h =
-      record { known = all_known items h; nonempty = all_full items h; rising = all_rising items h }
+  stored_by items h = grind (arith, common_steps, all_known, all_full, all_rising)

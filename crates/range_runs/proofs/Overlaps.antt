@@ -57,8 +57,7 @@ module _ {K : Type 0} (order : KeyOrder K) (lawful : IsLawful order) where
     -- a range of which a key is bound is nonempty and meets some item
     pub binding_meets : (items : List (Item (AnyRange K) V)) (r : AnyRange K)
         → BindsKeyOf order items r → (IsEmptyRange order r → ⊥) × MeetsSome order items r
-    binding_meets items r (k, key, held, bound) =
-        (held_nonempty r k key held, bound_meets items r k key held bound)
+    binding_meets items r (k, key, held, bound) = grind (arith, common_steps, held_nonempty, bound_meets)
 
     meeting_by : (items : List (Item (AnyRange K) V)) (r : AnyRange K) → IsComplete order
         → Every (λ i. IsKnownRange order i.key) items
@@ -74,8 +73,7 @@ module _ {K : Type 0} (order : KeyOrder K) (lawful : IsLawful order) where
     pub meeting_binds : (same : V → V → Bool) (items : List (Item (AnyRange K) V)) (r : AnyRange K)
         → IsComplete order → IsStored order same items → IsKnownRange order r
         → (IsEmptyRange order r → ⊥) → MeetsSome order items r → BindsKeyOf order items r
-    meeting_binds same items r complete stored known full h =
-        meeting_by items r complete stored.known stored.nonempty known full h
+    meeting_binds same items r complete stored known full h = grind (arith, common_steps, meeting_by)
 
     -- up to the place all end before the range, and from there on all start past it
     pub apart_meets : (items : List (Item (AnyRange K) V)) (r : AnyRange K) (p e : Position K)

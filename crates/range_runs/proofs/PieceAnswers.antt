@@ -131,27 +131,14 @@ module _ {K : Type 0} {order : KeyOrder K} (lawful : IsLawful order) {V : Type 0
     -- the closure may answer so to the next piece, and without an error to those so far
     pub next_answered : (answer : Result (Option V) E) → MayAnswer calls f value answer
         → AnswersPiece order same calls f items r answer
-    next_answered answer says =
-        let are =
-        pieces_are lawful equal items r window.stored window.known window.nonempty Met met in
-        record {
-          front = was.answers;
-          piece = record { key = key; value = value };
-          rest = rest;
-          pieces = rw was.list at are;
-          given = was.given;
-          says = says;
-        }
+    next_answered answer says = grind (arith, common_steps, pieces_are, met)
 
     -- the answers so far and one to the next piece
     abbrev more : Option V → List (Answered K V)
     more answer = was.answers ++ record { key = key; value = value; answer = answer } ∷ []
 
     list_more : (answer : Option V) → Pieces ≡ map piece_of (more answer) ++ rest
-    list_more answer =
-        let a : Answered K V = record { key = key; value = value; answer = answer } in
-        was.list ∙ sym (ap (λ ps. ps ++ rest) (map-append piece_of was.answers (a ∷ [])) ∙
-        append_assoc Done (piece_of a ∷ []) rest)
+    list_more answer = grind (arith, common_steps, map-append)
 
     given_more : (answer : Option V) → MayAnswer calls f value (Ok answer)
         → Every (λ a. MayAnswer calls f a.value (Ok a.answer)) (more answer)

@@ -107,11 +107,7 @@ module _ {K : Type 0} {order : KeyOrder K} (lawful : IsLawful order) {V : Type 0
       (bounded : Le' (High r) to ⊎ Any (λ i. Le' to (Low i.key) × Le' (Low i.key) to) items)
       (was : IsCut from to rest) where
     no_gap : Le' to from → IsCut from from rest
-    no_gap le = record {
-      each = every_weaker _ _ rest (λ p h. (h.0, h.0, h.2)) was.each;
-      rising = was.rising;
-      covered = λ m h k. was.covered m h (le_trans lawful _ _ _ le h);
-    }
+    no_gap le = grind (arith, common_steps, every_weaker, le_trans)
 
     add_gap : (gap : AnyRange K) → IsKnownRange order gap
         → position_cmp order.cmp from (Low gap) ≡ Equal
@@ -219,10 +215,7 @@ module _ {K : Type 0} {order : KeyOrder K} (lawful : IsLawful order) {V : Type 0
     )
 
     part_after : Le' from (Low Part)
-    part_after = elim ready.edge [
-      | inl le ↦ le_trans lawful _ _ _ le part_within.0
-      | inr h ↦ le_trans lawful _ _ _ h.1.0 part_within.1
-    ]
+    part_after = grind (arith, common_steps, le_trans, part_within)
 
     -- the item with the gap before it
     with_item : (start : Option (Bound K)) {more : List (Item (AnyRange K) (Option V))}

@@ -115,13 +115,11 @@ module _ {K : Type 0} (order : KeyOrder K) (lawful : IsLawful order) where
 
   lies_places : (r s : AnyRange K) → IsKnownRange order r → IsKnownRange order s → LiesIn order r s
       → PLe (Lo s) (Lo r) × PLe (Hi r) (Hi s)
-  lies_places r s known known' h =
-      (h.starts, past_le order lawful r.end s.end known.1 known'.1 h.ends)
+  lies_places r s known known' h = grind (arith, common_steps, past_le)
 
   pub lies_in : (r s : AnyRange K) → IsKnownRange order r → IsKnownRange order s → PLe (Lo s) (Lo r)
       → PLe (Hi r) (Hi s) → LiesIn order r s
-  lies_in r s known known' h k =
-      record { starts = h; ends = end_le order lawful r.end s.end known.1 known'.1 k }
+  lies_in r s known known' h k = grind (arith, common_steps, end_le)
 
   -- ranges that do not meet lie one before the other
   apart_of : (i r : AnyRange K) → IsKnownRange order i → IsKnownRange order r
@@ -260,8 +258,7 @@ module _ {K : Type 0} (order : KeyOrder K) (lawful : IsLawful order) where
               → Any (λ i. P i × Q i) xs
           both_held p P Q [] chain h k = h
           both_held p P Q (x ∷ xs) chain (inl h) (inl k) = inl (h.0, k.0)
-          both_held p P Q (x ∷ xs) chain (inr h) (inr k) = inr
-              (both_held p P Q xs (chain_tail (line_of order lawful same equal) x xs chain.1) h k)
+          both_held p P Q (x ∷ xs) chain (inr h) (inr k) = grind (arith, common_steps, chain_tail, both_held p P Q xs (chain_tail (line_of order lawful same equal) x xs chain.1) h k)
           both_held p P Q (x ∷ xs) chain (inl h) (inr k) =
               any_use _ _ xs k (follows_above (line_of order lawful same equal) x xs chain.1)
               (λ i g le. absurd (lt_not_le lawful _ _ h.1.1 (le_trans lawful _ _ _ le g.1.0)))

@@ -14,9 +14,7 @@ every_between : {X : Type 0} (P : X → Type 0) (m n : ℕ) (xs : List X) → Ev
 every_between P zero n xs h = let whole : n - 0 ≡ n = omega arith in rw whole h
 every_between P m zero xs h = let none : zero - m ≡ 0 = omega arith in rw none tt
 every_between P m n [] h = every_front P (n - m) (drop m []) (every_back P m [] tt)
-every_between P (suc m) (suc n) (x ∷ xs) h =
-    let less : suc n - suc m ≡ n - m = omega arith in
-    rw less (every_between P m n xs h.1)
+every_between P (suc m) (suc n) (x ∷ xs) h = grind (arith, common_steps, every_between P m n xs h.1)
 
 module _ {K : Type 0} {order : KeyOrder K} (lawful : IsLawful order) where
   abbrev PLe : Position K → Position K → Type 0
@@ -50,25 +48,10 @@ module _ {K : Type 0} {order : KeyOrder K} (lawful : IsLawful order) where
         → x ≡ get_or items m x → y ≡ get_or items n y
         → (m < n → PLt (Start x) (Start y)) × (n ≤ m → PLe (Start y) (Start x))
     listed_order [] m n x y h in_m in_n read read' = absurd (omega (arith, in_m))
-    listed_order (i ∷ rest) zero zero x y h in_m in_n read read' =
-        let here : x ≡ i = read in
-        let there : y ≡ i = read' in
-        (λ l. absurd (omega (arith, l)), λ _. rw (here, there) (le_refl lawful _))
-    listed_order (i ∷ rest) zero (suc n) x y h in_m in_n read read' =
-        let here : x ≡ i = read in (
-          λ _. rw here (first_starts_first i rest n y h (omega (arith, in_n)) read'),
-          λ l. absurd (omega (arith, l)),
-        )
-    listed_order (i ∷ rest) (suc m) zero x y h in_m in_n read read' =
-        let there : y ≡ i = read' in (
-          λ l. absurd (omega (arith, l)),
-          λ _. rw there (lt_le lawful _ _
-              (first_starts_first i rest m x h (omega (arith, in_m)) read)),
-        )
-    listed_order (i ∷ rest) (suc m) (suc n) x y h in_m in_n read read' =
-        let next = listed_order rest m n x y (stored_tail order lawful same i rest h)
-        (omega (arith, in_m)) (omega (arith, in_n)) read read' in
-        (λ l. next.0 (omega (arith, l)), λ l. next.1 (omega (arith, l)))
+    listed_order (i ∷ rest) zero zero x y h in_m in_n read read' = grind (arith, common_steps, le_refl)
+    listed_order (i ∷ rest) zero (suc n) x y h in_m in_n read read' = grind (arith, common_steps, first_starts_first)
+    listed_order (i ∷ rest) (suc m) zero x y h in_m in_n read read' = grind (arith, common_steps, lt_le, first_starts_first)
+    listed_order (i ∷ rest) (suc m) (suc n) x y h in_m in_n read read' = grind (arith, common_steps, stored_tail, listed_order rest m n x y (stored_tail order lawful same i rest h) (omega (arith, in_m)) (omega (arith, in_n)) read read')
 
     pub stored_order : {items : List (Item (AnyRange K) V)} {m n : ℕ} {x y : Item (AnyRange K) V}
         → IsStored order same items → m < length items → n < length items
@@ -179,10 +162,7 @@ near_last items near front k x is split = grind (arith, common_steps)
 module _ {T : Type 0} (items : List T) (p q : ℕ) (x : T) (within : q < length items) where
   pub run_first : p ≤ q → x ≡ get_or items p x → (n : ℕ) → n ≡ p + 1
       → take (q + 1 - p) (drop p items) ≡ x ∷ take (q + 1 - n) (drop n items)
-  run_first le read n next =
-      let left : q + 1 - p - 1 ≡ q + 1 - (p + 1) = omega arith in
-      rw next (first_of_run items p (q + 1 - p) x (omega (arith, le)) (omega (arith, le, within))
-      read ∙ ap (λ m. x ∷ take m (drop (p + 1) items)) left)
+  run_first le read n next = grind (arith, common_steps, first_of_run)
 
   -- the first, those that lie with it, and the rest
   pub run_near : p ≤ q → x ≡ get_or items p x → (near : List T)

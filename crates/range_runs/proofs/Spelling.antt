@@ -53,10 +53,6 @@ module _ {K : Type 0} {order : KeyOrder K} (lawful : IsLawful order) where
       → Spans s (place_on order side (bound_on side s))
   spans_own side s h = grind (arith, common_steps, le_refl, reaching_is_before_past)
 
-  same_place : (side : RangeSide) (a b : Bound K) → SameBound order a b
-      → places order lawful (place_on order side a) (place_on order side b) ≡ Equal
-  same_place side a b clone = grind (arith, common_steps, same_start, same_end)
-
   -- one that has the place of a bound has that of its clone
   back : (side : RangeSide) (p : Position K) (a b : Bound K) → SameBound order a b
       → places order lawful p (place_on order side b) ≡ Equal
@@ -85,8 +81,7 @@ module _ {K : Type 0} {order : KeyOrder K} (lawful : IsLawful order) where
     off_kept : (side : RangeSide) (a b : Bound K) → SameBound order a b
         → (xs : List (Item (AnyRange K) V))
         → Every (λ i. IsOff side (place_on order side a) i.key) xs → IsAsIn order xs side b
-    off_kept side a b clone xs all =
-        every_weaker _ _ xs (λ i h e. absurd (h (back side _ a b clone e))) all
+    off_kept side a b clone xs all = grind (arith, common_steps, every_weaker, back)
 
     module _ (items : List (Item (AnyRange K) V)) (known : Known order lawful same equal items)
         (chain : Chained order lawful same equal items) where

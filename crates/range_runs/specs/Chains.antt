@@ -28,12 +28,6 @@ module _ {L V X : Type 0} (line : Line L V X) where
       Le line.cmp (line.hi x) p
       × (Le line.cmp p (line.hi x) → line.same (line.value x) v ≡ true → ⊥)
 
-  -- the item starts at the place at least, and just there only beside another value
-  abbrev pub Trails : L → V → X → Type 0
-  Trails p v x =
-      Le line.cmp p (line.lo x)
-      × (Le line.cmp (line.lo x) p → line.same v (line.value x) ≡ true → ⊥)
-
   abbrev pub Follows : X → List X → Type 0
   Follows x [] = Unit {0}
   Follows x (y ∷ ys) = Leads x (line.lo y) (line.value y) × (Good y × Follows y ys)
@@ -57,10 +51,6 @@ module _ {L V X : Type 0} (line : Line L V X) where
   abbrev pub Leading : L → V → List X → Type 0
   Leading p v xs = Every (λ x. Leads x p v) xs
 
-  -- each of the items trails the place
-  abbrev pub Trailing : L → V → List X → Type 0
-  Trailing p v xs = Every (λ x. Trails p v x) xs
-
   -- the items below a place are these
   pub record IsLeft (items kept : List X) (c : L) : Type 0 where
     pub chain : IsChain kept
@@ -72,22 +62,6 @@ module _ {L V X : Type 0} (line : Line L V X) where
     pub chain : IsChain kept
     pub starts : Every (λ x. Le line.cmp d (line.lo x)) kept
     pub holds : (p : L) (W : V → Bool) → Respects W → Le line.cmp d p → Has W p kept ↔ Has W p items
-
-  -- the items below a place are these and others with the value, which start at `s`
-  pub record IsLeftOf (items kept : List X) (c s : L) (v : V) : Type 0 where
-    pub left : IsLeft items kept s
-    pub leads : Leading s v kept
-    pub below : Le line.cmp s c
-    pub joined : (p : L) (W : V → Bool) → Respects W → Le line.cmp s p → Lt line.cmp p c
-        → Has W p items ↔ (W v ≡ true)
-
-  -- the items from a place on are others with the value, which end at `e`, and these
-  pub record IsRightOf (items kept : List X) (d e : L) (v : V) : Type 0 where
-    pub right : IsRight items kept e
-    pub trails : Trailing e v kept
-    pub above : Le line.cmp d e
-    pub joined : (p : L) (W : V → Bool) → Respects W → Le line.cmp d p → Lt line.cmp p e
-        → Has W p items ↔ (W v ≡ true)
 
   -- what a chain becomes where the places from `c` up to `d` hold what is said, and all others what
   -- they held

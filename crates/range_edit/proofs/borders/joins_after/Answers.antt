@@ -1,16 +1,14 @@
 use Rattle.range_edit.proofs.Common.{arith, common_steps}
-use Rattle.range_edit.proofs.InsertionPlans.{right_plan_inside, right_plan_cut, right_touched}
+use Rattle.range_edit.proofs.JoinedItems.{right_reaching, right_other, right_touching}
 use Rattle.range_edit.proofs.borders.joins_after.Goals as goal
 
 pub returns-then-eq-clause-joins : goal.returns-then-eq-clause-joins
-returns-then-eq-clause-joins g c = grind (arith, common_steps, right_plan_inside)
+returns-then-eq-clause-joins g c = grind (arith, common_steps, right_reaching)
 
 pub returns-else-eq-clause-joins : goal.returns-else-eq-clause-joins
-returns-else-eq-clause-joins g c = grind (arith, common_steps, right_plan_cut)
+returns-else-eq-clause-joins g c = grind (arith, common_steps, right_other)
 
 pub returns-in-None-clause-joins : goal.returns-in-None-clause-joins
-returns-in-None-clause-joins g c = λ lawful equal b known_b same_b.
-    let is = c.in-None.is in
-    rw is (right_touched lawful equal c.requires.window c.args.value.now c.joined_after.result b
-    (g.met.C.Storage.good_is_in_range c.args.stored.now)
-    (rw is at c.requires.last) c.joined_after.ensures.joined)
+returns-in-None-clause-joins g c = right_touching g.met.K.PartialEnum.lawful g.met.V.Eq.laws
+    c.requires.window c.args.value.now c.args.reach.now.last _ c.in-None.is
+    (g.met.C.Storage.good_is_in_range c.args.stored.now) c.joined_after.ensures.joined

@@ -1,23 +1,22 @@
 use Rattle.range_edit.proofs.Common.{common_steps, arith, refl}
-use Rattle.range_edit.proofs.Planned.{plan_run, planned_fits, planned_insert, planned_size}
+use Rattle.range_edit.proofs.Planned.{planned_fits, planned_size}
+use Rattle.range_edit.proofs.RangeSides.{inserted}
+use Rattle.range_edit.proofs.SidePlans.{plan_one}
 use Rattle.range_edit.proofs.free.put_merged.Goals as goal
 
 pub run_length-requires-clause-fits : goal.run_length-requires-clause-fits
 run_length-requires-clause-fits g c =
-    let lawful = g.met.K.PartialEnum.lawful in
-    let equal = g.met.V.Eq.laws in
-    let plan =
-    plan_run lawful equal c.requires.reach c.requires.apart c.requires.left c.requires.right
-    (c.requires.before lawful equal) (c.requires.after lawful equal) c.run_start.ensures refl in
-    omega (arith, plan.within, g.met.C.Storage.length_fits c.args.stored.now)
+    let plan = plan_one g.met.K.PartialEnum.lawful g.met.V.Eq.laws
+    (g.met.C.Storage.good_is_in_range c.args.stored.now) c.requires.reach c.requires.apart
+    c.requires.left c.requires.right c.run_start.ensures refl c.requires.before c.requires.after in
+    omega (arith, plan.ends, plan.within, g.met.C.Storage.length_fits c.args.stored.now)
 
 pub change-requires : goal.change-requires
 change-requires g c =
-    let lawful = g.met.K.PartialEnum.lawful in
-    let equal = g.met.V.Eq.laws in
-    let plan = plan_run lawful equal c.requires.reach c.requires.apart c.requires.left
-    c.requires.right (c.requires.before lawful equal) (c.requires.after lawful equal)
-    c.run_start.ensures c.run_length.ensures in
+    let plan = plan_one g.met.K.PartialEnum.lawful g.met.V.Eq.laws
+    (g.met.C.Storage.good_is_in_range c.args.stored.now) c.requires.reach c.requires.apart
+    c.requires.left c.requires.right c.run_start.ensures c.run_length.ensures c.requires.before
+    c.requires.after in
     let fit = planned_fits plan c.reserve.ensures.positions c.reserve.ensures.list in
     record {
       left = fit.left_good;
@@ -31,18 +30,18 @@ pub returns-in-Ok : goal.returns-in-Ok
 returns-in-Ok g c =
     let lawful = g.met.K.PartialEnum.lawful in
     let equal = g.met.V.Eq.laws in
-    let plan = plan_run lawful equal c.requires.reach c.requires.apart c.requires.left
-    c.requires.right (c.requires.before lawful equal) (c.requires.after lawful equal)
-    c.run_start.ensures c.run_length.ensures in
+    let plan = plan_one lawful equal (g.met.C.Storage.good_is_in_range c.args.stored.now)
+    c.requires.reach c.requires.apart c.requires.left c.requires.right c.run_start.ensures
+    c.run_length.ensures c.requires.before c.requires.after in
     let left = plan.left in
     let right = plan.right in
     let fit = planned_fits plan c.reserve.ensures.positions c.reserve.ensures.list in
     let made = rw c.reserve.ensures.list at (c.change.ensures.list left.at right.end left.rest
     right.rest left.start right.finish fit.on_left fit.on_right plan.joined) in
-    let new = g.C.Storage.items c.change.new.stored in
     record {
-      ok = planned_insert c.requires.reach c.requires.apart plan new made;
-      few = planned_size c.requires.reach c.requires.apart plan new made;
+      ok = inserted lawful equal c.requires.reach.window c.args.item.value c.args.item.value left.side
+          right.side (equal.refl _) (λ e. refl) _ made;
+      few = omega (arith, planned_size plan c.requires.reach c.requires.apart _ _ made);
       given = tt;
       refused = tt;
       succeeds = λ enough. refl;

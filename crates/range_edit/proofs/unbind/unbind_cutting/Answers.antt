@@ -1,21 +1,26 @@
-use Rattle.range_edit.proofs.Common.{refl, None, place_before, length, ◌+◌}
-use Rattle.range_edit.proofs.Planned.{cut_run, cut_fits, cut_removes, cut_size}
+use Rattle.range_edit.proofs.Common.{refl, arith}
+use Rattle.range_edit.proofs.Planned.{planned_fits, planned_size}
+use Rattle.range_edit.proofs.RangeSides.{removed}
+use Rattle.range_edit.proofs.SidePlans.{plan_none}
 use Rattle.range_edit.proofs.unbind.unbind_cutting.Goals as goal
 
 pub returns : goal.returns
 returns g c =
-    let plan = cut_run g.met.K.PartialEnum.lawful g.met.V.Eq.laws c.requires.reach c.requires.apart
-    (rw c.start.ensures at c.in_ok-left.ensures.seam)
-    (rw c.end.ensures at c.in_ok-right.ensures.seam) c.run_start.ensures c.run_length.ensures in
-    let fit = cut_fits c.requires.reach plan in
-    let place = place_before (g.C.Storage.rank c.args.stored.now)
-    (length (g.C.Storage.items c.args.stored.now)) c.args.reach.now.window.from in
-    let done = c.change.ensures.list place (place + c.args.reach.now.window.count) plan.left.rest
-    plan.right.rest None None fit.on_left fit.on_right plan.joined in
-    let new = g.C.Storage.items c.change.new.stored in
+    let lawful = g.met.K.PartialEnum.lawful in
+    let equal = g.met.V.Eq.laws in
+    let plan = plan_none lawful equal (g.met.C.Storage.good_is_in_range c.args.stored.now)
+    c.requires.reach c.requires.apart (rw c.start.ensures at c.in_ok-left.ensures.seam)
+    (rw c.end.ensures at c.in_ok-right.ensures.seam) c.run_start.ensures c.run_length.ensures refl
+    refl in
+    let fit = planned_fits plan {is_good' = g.C.Storage.is_good c.args.stored.now}
+    {rank' = g.C.Storage.rank c.args.stored.now} (λ p h. (h, refl)) refl in
+    let left = plan.left in
+    let right = plan.right in
+    let done = c.change.ensures.list left.at right.end left.rest right.rest left.start right.finish
+    fit.on_left fit.on_right plan.joined in
     record {
-      ok = cut_removes c.requires.reach c.requires.some plan new done;
-      few = cut_size c.requires.reach c.requires.some plan new done;
+      ok = removed lawful equal c.requires.reach.window left.side right.side _ done;
+      few = omega (arith, c.requires.some, planned_size plan c.requires.reach c.requires.apart _ _ done);
       refused = tt;
       space = c.change.ensures.space;
       succeeds = λ keys. refl;

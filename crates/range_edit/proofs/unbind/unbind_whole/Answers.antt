@@ -1,5 +1,6 @@
-use Rattle.range_edit.proofs.Common.{common_steps, ◌≡◌, [], ◌+◌, ◌++◌, length, take, drop, arith, None, append-nil, place_before}
-use Rattle.range_edit.proofs.RangeSides.{borders_remove, left_rest_whole, right_rest_whole}
+use Rattle.range_edit.proofs.Common.{common_steps, ◌≡◌, [], ◌+◌, ◌++◌, length, take, drop, arith, IsStored, append-nil, place_before}
+use Rattle.range_edit.proofs.RangeSides.{removed}
+use Rattle.range_edit.proofs.SewnSides.{left_side_whole, right_side_whole}
 use Rattle.range_edit.proofs.unbind.unbind_whole.Goals as goal
 
 pub returns-clause-removed : goal.returns-clause-removed
@@ -18,11 +19,12 @@ returns-clause-removed g c =
       append-nil (take place items),
       append-nil (take place items),
     ) c.remove_rest.ensures.list in
-    let left =
-    left_rest_whole lawful equal window (rw c.requires.first at c.requires.reach.first) in
-    let right =
-    right_rest_whole lawful equal window (rw c.requires.last at c.requires.reach.last) in
-    borders_remove lawful equal window new None None c.requires.some left right tt tt done
+    let nothing : IsStored g.K.MaybeBounded.order g.V.PartialEq.eq [] =
+    record { known = tt; nonempty = tt; rising = tt } in
+    let left = left_side_whole lawful equal window nothing tt
+    (rw c.requires.first at c.requires.reach.first) (λ m is. absurd (cc)) in
+    removed lawful equal window left (right_side_whole lawful equal window nothing tt left
+    (rw c.requires.last at c.requires.reach.last) (λ m is. absurd (cc))) new done
 
 pub returns-clause-few : goal.returns-clause-few
 returns-clause-few g c = grind (arith, common_steps)
