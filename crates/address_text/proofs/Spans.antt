@@ -1,5 +1,5 @@
 -- What texts say: at most one thing each.
-use Rattle.std.proofs.Common.{◌≡◌, ◌≢◌, ℕ, ◌-◌, ◌%◌, ◌^◌, Bool, true, List, [], Option, None, Some, MatchOption, inl, inr, ap, sym, subst, ◌∙◌, arith}
+use Rattle.std.proofs.Common.{◌≡◌, ◌≢◌, ℕ, ◌-◌, ◌%◌, ◌^◌, Bool, true, List, [], Option, None, Some, MatchOption, inl, inr, ap, sym, ◌∙◌, arith}
 use Rattle.std.proofs.NetLemmas.Theorems.{IsIpv4Text_unique, IsIpv6Text_unique}
 use Rattle.std.specs.List.{after_first, before_first}
 use Rattle.std.specs.Net.Addr.{ipv4_bits, ipv6_bits}
@@ -32,8 +32,7 @@ module _ (strict : Bool) (family : Family) (text : List ℕ) where
       (after_first is_slash text) first last)
       → (first last : ℕ) → ¬ IsSpan strict family text first last
   not_prefix has none first last (inl (slash, span)) = none first last span
-  not_prefix has none first last (inr (inl (lacks, dash, span))) = lacks has
-  not_prefix has none first last (inr (inr (lacks, dash, written, same))) = lacks has
+  not_prefix has none first last (inr others) = grind arith
 
   -- a text with a slash says what its prefix does
   pub prefix_says : (address digits : List ℕ) (r : Option (ℕ × ℕ)) → HasByte is_slash text
@@ -43,10 +42,7 @@ module _ (strict : Bool) (family : Family) (text : List ℕ) where
       → MatchOption r ((first last : ℕ) → ¬ IsSpan strict family text first last)
       (λ span. IsSpan strict family text span.0 span.1)
   prefix_says address digits None has front back none =
-      not_prefix has
-      (subst (λ a. (first last : ℕ) → ¬ IsPrefixSpan strict family a (after_first is_slash text)
-      first last) front
-      (subst (λ d. (first last : ℕ) → ¬ IsPrefixSpan strict family address d first last) back none))
+      not_prefix has (rw (front, back) at none)
   prefix_says address digits (Some span) has front back some = grind arith
 
 -- a line that says addresses of neither family, and has content, says nothing that is known
