@@ -9,6 +9,7 @@ use Rattle.address_prefixes.specs.Prefixes.{HasAddress, IsAligned, IsPrefix, Som
 use Rattle.address_prefixes.specs.declared.prefix.Prefix.{Prefix}
 use Rattle.address_prefixes.proofs.Powers.{next_multiple, power_split}
 use Rattle.address_prefixes.proofs.Tiles.{AreWidest, IsWidest}
+use Rattle.std.proofs.Common.{rules}
 
 -- an aligned block that starts in the widest one at its place lies in it
 nested : (from net past m n wide k : ℕ) → from ≡ m * 2 ^ wide → net ≡ n * 2 ^ k → from ≤ net
@@ -78,25 +79,7 @@ module _ {A : Type 0} {order : KeyOrder A} {number : A → ℕ} {at : ℕ → A}
   inside_widest : (from past : ℕ) (p q : Prefix A) (a : A) → IsWidest family from past p
       → Fits from past q → HasAddress number p.network q → HasAddress number a q
       → number a < from + size number width p
-  inside_widest from past p q a w f at has =
-      let starts = w.starts in
-      let p_inside = w.inside in
-      let q_ends = f.prefix.ends in
-      let low = pow_pos (width - p.length) in
-      elim (f.side) [
-        | inl before ↦ absurd (omega (arith, before, at.1, starts))
-        | inr later ↦ elim later [
-          | inl both ↦
-              let same : from ≡ number q.network = omega (arith, both.0, at.0, starts) in
-              let le : width - q.length ≤ width - p.length =
-              w.widest (width - q.length)
-              (f.prefix.aligned.0, same ∙ f.prefix.aligned.1)
-              (omega (arith, same, q_ends, both.1)) in
-              let pow : 2 ^ (width - q.length) ≤ 2 ^ (width - p.length) = pow_mono le in
-              omega (arith, has.1, same, q_ends, pow)
-          | inr beyond ↦ absurd (omega (arith, beyond, at.0, starts, p_inside, low))
-        ]
-      ]
+  inside_widest from past p q a w f at has = grind (arith, pow_pos, pow_mono)
 
   module _ (Q : Prefix A → Type 0) where
     -- one that has an address is taken out
@@ -155,8 +138,7 @@ module _ {A : Type 0} {order : KeyOrder A} {number : A → ℕ} {at : ℕ → A}
         → (qs : List (Prefix A)) → AllByRecursion (Among from) qs
         → AllByRecursion (Among (from + size number width p)) qs
     all_further from p w [] all = all
-    all_further from p w (q ∷ qs) all =
-        ((further from past p q w all.0.0, all.0.1), all_further from p w qs all.1)
+    all_further from p w (q ∷ qs) all = search (rules, further, all_further from p w qs all.1)
 
     all_right : (from : ℕ) (qs : List (Prefix A)) → AllByRecursion (Among from) qs
         → AllByRecursion R qs
@@ -167,13 +149,7 @@ module _ {A : Type 0} {order : KeyOrder A} {number : A → ℕ} {at : ℕ → A}
         → (qs : List (Prefix A)) → AllByRecursion (Among from) qs
         → ((a : A) → from ≤ number a → number a < past → SomeHasAddress number qs a)
         → Left R past ps qs
-    fewest from [] tiles qs all covers =
-        record {
-          rest = qs;
-          fewer = omega arith;
-          others = all_right from qs all;
-          still = λ a beyond some. some;
-        }
+    fewest from [] tiles qs all covers = grind (arith, all_right)
     fewest from (p ∷ ps) tiles qs all covers =
         let w = tiles.0 in
         let starts = w.starts in

@@ -21,8 +21,7 @@ module _ {A : Type 0} {order : KeyOrder A} {number : A → ℕ} {at : ℕ → A}
   low_is run runs each rising n (inl here) = here.0
   low_is run [] each rising n (inr none) = absurd none
   low_is run (next ∷ runs) each rising n (inr later) =
-      let low = low_is next runs each.1 rising.1 n later in
-      omega (arith, low, each.0.0, rising.0)
+      grind (arith, low_is next runs each.1 rising.1 n later)
 
   -- a prefix that lies before a border, or after it with such addresses alone
   record Sits (border : ℕ) (q : Prefix A) : Type 0 where
@@ -120,10 +119,8 @@ module _ {A : Type 0} {order : KeyOrder A} {number : A → ℕ} {at : ℕ → A}
       → ((a : A) → order.is_key a → SomeHasAddress number qs a → Q a)
       → AllByRecursion (Sits 0) qs
   all_sit [] all inside = tt
-  all_sit (q ∷ qs) all inside = (
-    record { prefix = all.0; side = inr (omega arith, λ a key has. inside a key (inl has)) },
-    all_sit qs all.1 (λ a key some. inside a key (inr some)),
-  )
+  all_sit (q ∷ qs) all inside =
+      grind (arith, all_sit qs all.1 (λ a key some. inside a key (inr some)))
 
   start_from_zero : (runs : List (ℕ × ℕ)) → StartFrom 0 runs
   start_from_zero [] = tt

@@ -1,21 +1,18 @@
 -- Multiples of powers of two.
-use Rattle.std.proofs.Common.{◌≡◌, ℕ, ◌+◌, ◌-◌, ◌*◌, ◌/◌, ◌%◌, ◌^◌, ◌≤◌, ◌<◌, bit_and, inl, inr, ap, ◌∙◌, arith}
+use Rattle.std.proofs.Common.{◌≡◌, ℕ, ◌+◌, ◌-◌, ◌*◌, ◌/◌, ◌%◌, ◌^◌, ◌≤◌, ◌<◌, bit_and, ap, ◌∙◌, arith}
 use Rattle.std.proofs.Math.Nat.{div-add-mod', mul-le-mul_right}
 use Rattle.std.proofs.Math.Pow.{pow-add, pow_pos}
 use Rattle.std.proofs.lemmas.Bool.{cases_lt}
 use Rattle.std.proofs.lemmas.Nat.{and_mask, mod_below}
 use Rattle.address_prefixes.specs.Prefixes.{IsAligned}
+use Rattle.std.proofs.Common.{rules}
 
 -- of two multiples of a number, the greater is greater by that number
 pub next_multiple : (a b c : ℕ) → a * c < b * c → a * c + c ≤ b * c
-next_multiple a b c h = elim (cases_lt a b) [
-  | inl less ↦ let le : (a + 1) * c ≤ b * c = mul-le-mul_right c (omega arith) in omega arith
-  | inr not ↦ let le : b * c ≤ a * c = mul-le-mul_right c not in omega arith
-]
+next_multiple a b c h = search (rules, cases_lt, mul-le-mul_right)
 
 pub power_split : (j k : ℕ) → j ≤ k → 2 ^ k ≡ 2 ^ (k - j) * 2 ^ j
-power_split j k h = let e : k ≡ (k - j) + j = omega arith in
-    ap (λ x. 2 ^ x) e ∙ pow-add 2 (k - j) j
+power_split j k h = grind (arith, pow-add)
 
 -- the block of the numbers that begin with the bits of n, but for the last ones
 pub record IsBlock (width length n rest : ℕ) : Type 0 where

@@ -11,21 +11,12 @@ use Rattle.address_prefixes.specs.Tiles.{all_tiles, run_tiles}
 use Rattle.address_prefixes.specs.declared.prefix.Prefix.{Prefix}
 use Rattle.address_prefixes.proofs.Runs.{AreRising, AreSpans, Runs, are_spans, in_runs}
 use Rattle.address_prefixes.proofs.Tiles.{AreWidest, all_tiles_are, of_some, some_of}
+use Rattle.std.proofs.Common.{rules}
 
 any_append : {X : Type 0} (P : X → Type 0) (xs ys : List X)
     → Any P (xs ++ ys) ↔ (Any P xs ⊎ Any P ys)
 any_append P [] ys = (λ h. inr h, λ h. elim h [ inl none ↦ absurd none | inr some ↦ some ])
-any_append P (x ∷ xs) ys =
-    let rest = any_append P xs ys in (
-      λ h. elim h [
-        | inl here ↦ inl (inl here)
-        | inr later ↦ elim (rest.0 later) [ inl left ↦ inl (inr left) | inr right ↦ inr right ]
-      ],
-      λ h. elim h [
-        | inl left ↦ elim left [ inl here ↦ inl here | inr later ↦ inr (rest.1 (inl later)) ]
-        | inr right ↦ inr (rest.1 (inr right))
-      ],
-    )
+any_append P (x ∷ xs) ys = grind (arith, any_append P xs ys)
 
 module _ {A : Type 0} {order : KeyOrder A} {number : A → ℕ} {at : ℕ → A} {width : ℕ}
     (family : IsFamily order number at width) where
@@ -34,8 +25,7 @@ module _ {A : Type 0} {order : KeyOrder A} {number : A → ℕ} {at : ℕ → A}
 
   pub run_are : (run : ℕ × ℕ) → IsSpan width run
       → AreWidest family run.0 (run.1 + 1) (all_tiles at width run.0 (run.1 + 1))
-  run_are run is =
-      all_tiles_are family run.0 (run.1 + 1) (omega (arith, is.0)) (omega (arith, is.1))
+  run_are run is = grind (arith, all_tiles_are)
 
   -- they have the addresses whose numbers are in the runs
   has_is : (runs : List (ℕ × ℕ)) → AreSpans width runs → (a : A)
@@ -69,17 +59,14 @@ module _ {A : Type 0} {order : KeyOrder A} {number : A → ℕ} {at : ℕ → A}
   all_prefixes : (runs : List (ℕ × ℕ)) → AreSpans width runs
       → AllByRecursion (IsPrefix number width) (Tiles runs)
   all_prefixes [] spans = tt
-  all_prefixes (run ∷ runs) spans =
-      widest_are run.0 (run.1 + 1) (all_tiles at width run.0 (run.1 + 1)) (Tiles runs)
-      (run_are run spans.0) (all_prefixes runs spans.1)
+  all_prefixes (run ∷ runs) spans = search (rules, widest_are, run_are, all_prefixes runs spans.1)
 
   -- a run's first prefix starts where the run does
   first_from : (b from past : ℕ) (x : Prefix A) (ps more : List (Prefix A))
       → AreWidest family from past ps → from < past → b ≤ from
       → BeforeFirst (λ _ q. b ≤ number q.network) x (ps ++ more)
   first_from b from past x [] more e some le = absurd (omega (arith, e, some))
-  first_from b from past x (p ∷ ps) more e some le =
-      let starts = e.0.starts in omega (arith, starts, le)
+  first_from b from past x (p ∷ ps) more e some le = grind arith
 
   after_all : (x p : Prefix A) (from past : ℕ) (ps more : List (Prefix A))
       → AreWidest family from past ps → number p.last < from
@@ -87,19 +74,14 @@ module _ {A : Type 0} {order : KeyOrder A} {number : A → ℕ} {at : ℕ → A}
       → BeforeFirst (λ p q. number p.last < number q.network) p (ps ++ more)
   after_all x p from past [] [] e less after = tt
   after_all x p from past [] (q ∷ more) e less after = omega (arith, e, less, after)
-  after_all x p from past (q ∷ ps) more e less after =
-      let starts = e.0.starts in omega (arith, starts, less)
+  after_all x p from past (q ∷ ps) more e less after = grind arith
 
   ascending : (x : Prefix A) (from past : ℕ) (ps more : List (Prefix A))
       → AreWidest family from past ps → AreAscending number more
       → BeforeFirst (λ _ q. past ≤ number q.network) x more → AreAscending number (ps ++ more)
   ascending x from past [] more e rest after = rest
   ascending x from past (p ∷ ps) more e rest after =
-      let starts = e.0.starts in
-      let ends = e.0.prefix.ends in (
-        after_all x p (from + size number width p) past ps more e.1 (omega (arith, starts, ends)) after,
-        ascending x (from + size number width p) past ps more e.1 rest after,
-      )
+      grind (arith, after_all, ascending x (from + size number width p) past ps more e.1 rest after)
 
   before_first : (x : Prefix A) (run : ℕ × ℕ) (runs : List (ℕ × ℕ)) → AreSpans width runs
       → AreRising (run ∷ runs)

@@ -1,5 +1,5 @@
 -- Which addresses are in runs.
-use Rattle.std.proofs.Common.{◌≡◌, ℕ, ◌+◌, ◌^◌, ◌≤◌, ◌<◌, ◌↔◌, List, [], ◌∷◌, inl, inr, sym, subst, ◌∙◌, arith}
+use Rattle.std.proofs.Common.{◌≡◌, ℕ, ◌+◌, ◌^◌, ◌≤◌, ◌<◌, ◌↔◌, List, [], ◌∷◌, inl, inr, sym, ◌∙◌, arith}
 use Rattle.std.specs.Cmp.{nat_cmp_is}
 use Rattle.std.specs.List.{AllByRecursion}
 use Rattle.std.specs.declared.cmp.Ordering.TheVariants.{Equal}
@@ -29,8 +29,7 @@ each_span : (P : ℕ → Type 0) (width : ℕ) (runs : List (ℕ × ℕ))
     → AllByRecursion (λ run. (run.0 ≤ run.1) × IsRun P (2 ^ width) run) runs
     → AreSpans width runs
 each_span P width [] each = tt
-each_span P width (run ∷ runs) each =
-    ((each.0.0, each.0.1.fits), each_span P width runs each.1)
+each_span P width (run ∷ runs) each = grind (arith, each_span P width runs each.1)
 
 pub are_spans : (P : ℕ → Type 0) (width : ℕ) (runs : List (ℕ × ℕ)) → AreRuns P (2 ^ width) runs
     → AreSpans width runs
@@ -44,8 +43,7 @@ module _ {A : Type 0} {order : KeyOrder A} {number : A → ℕ} {at : ℕ → A}
       (family.by_number a b ∙ sym (nat_cmp_is (number a) (number b) Equal e))
 
   pub number_at : (a : A) → order.is_key a → at (number a) ≡ a
-  number_at a key =
-      same_address (at (number a)) a (family.at_number (number a) (family.counted.in_size a key))
+  number_at a key = grind (arith, same_address)
 
   -- runs of addresses of which something is so
   module _ (Q : A → Type 0) where
@@ -63,7 +61,4 @@ module _ {A : Type 0} {order : KeyOrder A} {number : A → ℕ} {at : ℕ → A}
 
     pub in_runs : (runs : List (ℕ × ℕ)) → Runs runs → (a : A) → order.is_key a
         → Any (IsIn (number a)) runs ↔ Q a
-    in_runs runs are a key = (
-      λ is. subst Q (number_at a key) (of_runs (number a) runs are.each is),
-      λ q. are.all (number a) (family.counted.in_size a key) (subst Q (sym (number_at a key)) q),
-    )
+    in_runs runs are a key = grind (arith, number_at, of_runs)

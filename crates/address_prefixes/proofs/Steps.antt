@@ -1,5 +1,5 @@
 -- The prefixes of a range: the first, and those of what is left.
-use Rattle.std.proofs.Common.{◌≡◌, ℕ, zero, suc, ◌+◌, ◌-◌, ◌^◌, ◌≤◌, ◌<◌, true, false, nat_lt, List, [], ◌∷◌, inl, inr, refl, sym, ap, subst, ◌∙◌, arith}
+use Rattle.std.proofs.Common.{◌≡◌, ℕ, zero, suc, ◌+◌, ◌-◌, ◌^◌, ◌≤◌, ◌<◌, List, [], ◌∷◌, inl, inr, refl, sym, ap, subst, ◌∙◌, arith}
 use Rattle.std.proofs.Math.Pow.{pow_mono, pow_pos}
 use Rattle.std.proofs.lemmas.Bool.{cases_lt}
 use Rattle.std.proofs.lemmas.Bool.Decides.{nat_tests}
@@ -14,8 +14,7 @@ module _ {A : Type 0} (at : ℕ → A) (width : ℕ) where
   none_left : (n from past : ℕ) → past ≤ from → Tiles n from past ≡ []
   unfolding tiles
   none_left zero from past le = refl
-  none_left (suc n) from past le =
-      let e : nat_lt from past ≡ false = grind (arith, nat_tests) in rw e refl
+  none_left (suc n) from past le = grind (arith, nat_tests)
 
   pub no_tiles : (from past : ℕ) → past ≤ from → all_tiles at width from past ≡ []
   no_tiles from past le = none_left (past - from) from past le
@@ -24,15 +23,12 @@ module _ {A : Type 0} (at : ℕ → A) (width : ℕ) where
       → Tiles (suc n) from past ≡ prefix_at at width from (widest width from past)
       ∷ Tiles n (from + 2 ^ widest width from past) past
   unfolding tiles
-  first_tile n from past h =
-      let e : nat_lt from past ≡ true = grind (arith, nat_tests) in rw e refl
+  first_tile n from past h = grind (arith, nat_tests)
 
   enough : (n m from past : ℕ) → past ≤ from + n → past ≤ from + m
       → Tiles n from past ≡ Tiles m from past
-  enough zero m from past h g =
-      none_left zero from past (omega (arith, h)) ∙ sym (none_left m from past (omega (arith, h)))
-  enough (suc n) zero from past h g =
-      none_left (suc n) from past (omega (arith, g)) ∙ sym (none_left zero from past (omega (arith, g)))
+  enough zero m from past h g = grind (arith, none_left)
+  enough (suc n) zero from past h g = grind (arith, none_left)
   enough (suc n) (suc m) from past h g = elim (cases_lt from past) [
     | inl less ↦
         let some = pow_pos (widest width from past) in
@@ -64,15 +60,10 @@ module _ {width told first last free : ℕ} (le : first ≤ last) (is_width : to
   is_widest = subst (λ w. free ≡ widest w first (last + 1)) is_width is
 
   pub is_bounded : free ≤ width
-  is_bounded =
-      let bounded = (widest_is width first (last + 1) (omega (arith, le))).bounded in
-      let same = is_widest in omega (arith, bounded, same)
+  is_bounded = grind (arith, widest_is, is_widest)
 
   pub is_inside : (rest : ℕ) → rest + 1 ≡ 2 ^ free → first + rest ≤ last
-  is_inside rest size =
-      let best = widest_is width first (last + 1) (omega (arith, le)) in
-      let inside : first + 2 ^ free ≤ last + 1 = rw is_widest best.inside in
-      omega (arith, inside, size)
+  is_inside rest size = grind (arith, widest_is, is_widest)
 
   -- what is shown next, and what is left
   pub divided : {A : Type 0} (at : ℕ → A) (rest : ℕ) {length : ℕ} {network end : A}
@@ -81,12 +72,7 @@ module _ {width told first last free : ℕ} (le : first ≤ last) (is_width : to
       → all_tiles at width first (last + 1)
       ≡ (record { network = network; last = end; length = length })
       ∷ all_tiles at width (first + rest + 1) (last + 1)
-  divided at rest size n l e =
-      let k : ℕ = widest width first (last + 1) in
-      let power : rest + 1 ≡ 2 ^ k = size ∙ ap (λ f. 2 ^ f) is_widest in
-      let past : first + rest + 1 ≡ first + 2 ^ k = omega (arith, power) in
-      let same : first + rest ≡ first + 2 ^ k - 1 = omega (arith, power) in
-      rw (n, l, e, past, same, is_widest) (next_tile at width first (last + 1) (omega (arith, le)))
+  divided at rest size n l e = grind (arith, is_widest, next_tile)
 
 pub powers_fit : (width n : ℕ) → width ≤ 128 → n < 2 ^ width → n < 2 ^ 128
 powers_fit width n small h = let p : 2 ^ width ≤ 2 ^ 128 = pow_mono small in omega (arith, p, h)

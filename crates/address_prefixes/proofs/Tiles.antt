@@ -90,14 +90,9 @@ module _ {A : Type 0} {order : KeyOrder A} {number : A → ℕ} {at : ℕ → A}
   pub of_some : (from past : ℕ) (ps : List (Prefix A)) (a : A) → AreWidest from past ps
       → SomeHasAddress number ps a → (from ≤ number a) × (number a < past)
   of_some from past [] a e none = absurd none
-  of_some from past (p ∷ ps) a e (inl here) =
-      let starts = e.0.starts in
-      let ends = e.0.prefix.ends in
-      let inside = e.0.inside in
-      (omega (arith, here.0, starts), omega (arith, here.1, ends, starts, inside))
+  of_some from past (p ∷ ps) a e (inl here) = grind arith
   of_some from past (p ∷ ps) a e (inr later) =
-      let h = of_some (from + size number width p) past ps a e.1 later in
-      (omega (arith, h.0), h.1)
+      grind (arith, of_some (from + size number width p) past ps a e.1 later)
 
   pub some_of : (from past : ℕ) (ps : List (Prefix A)) (a : A) → AreWidest from past ps
       → from ≤ number a → number a < past → SomeHasAddress number ps a

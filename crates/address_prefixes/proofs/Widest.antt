@@ -1,9 +1,9 @@
 -- The widest block of numbers at its place.
-use Rattle.std.proofs.Common.{◌≡◌, ℕ, zero, suc, ◌+◌, ◌/◌, ◌%◌, ◌^◌, ◌≤◌, ◌<◌, Bool, true, false, ◌==◌, nat_lt, inl, inr, refl, ap, subst, ◌∙◌, arith}
+use Rattle.std.proofs.Common.{◌≡◌, ℕ, zero, suc, ◌+◌, ◌/◌, ◌%◌, ◌^◌, ◌≤◌, ◌<◌, Bool, true, false, ◌==◌, ap, ◌∙◌, arith}
 use Rattle.std.specs.Bool.{Decides}
 use Rattle.std.proofs.Math.Nat.{mul-mod_left, div-add-mod'}
 use Rattle.std.proofs.lemmas.Bool.{cases_lt}
-use Rattle.std.proofs.lemmas.Bool.Decides.{Decides-and, Decides-ltb, Decides-like, nat_tests}
+use Rattle.std.proofs.lemmas.Bool.Decides.{nat_tests}
 use Rattle.address_prefixes.specs.Prefixes.{IsAligned}
 use Rattle.address_prefixes.specs.Tiles.{fits, widest}
 
@@ -17,10 +17,7 @@ aligned_is k from = (
 
 pub fits_is : (k from past : ℕ) → Decides (fits k from past) (IsAligned from k × (from + 2 ^ k ≤ past))
 unfolding fits
-fits_is k from past =
-    Decides-and (from % 2 ^ k == 0) (nat_lt (from + 2 ^ k) (past + 1)) (aligned_is k from)
-    (Decides-like (nat_lt (from + 2 ^ k) (past + 1)) (λ h. omega arith) (λ h. omega arith)
-    (Decides-ltb (from + 2 ^ k) (past + 1)))
+fits_is k from past = grind (arith, aligned_is)
 
 -- what the greatest such k comes to
 pub record IsGreatest (bound from past k : ℕ) : Type 0 where
@@ -35,31 +32,8 @@ IsGreatestHere bound from past = IsGreatest bound from past (widest bound from p
 one_more : (k from past : ℕ) (t : Bool) → fits (suc k) from past ≡ t
     → IsGreatestHere k from past → IsGreatestHere (suc k) from past
 unfolding widest
-one_more k from past true e less =
-    let yes = (fits_is (suc k) from past).0 e in
-    rw e (record {
-      bounded = omega arith;
-      aligned = yes.0;
-      inside = yes.1;
-      greatest = λ j small a i. small;
-    })
-one_more k from past false e less =
-    rw e (record {
-      bounded = let b = less.bounded in omega (arith, b);
-      aligned = less.aligned;
-      inside = less.inside;
-      greatest = λ j small a i. elim (cases_lt k j) [
-        | inl more ↦
-            let same : j ≡ suc k = omega (arith, small, more) in
-            let yes : fits (suc k) from past ≡ true =
-            (fits_is (suc k) from past).1 (
-              subst (λ x. IsAligned from x) same a,
-              subst (λ x. from + 2 ^ x ≤ past) same i,
-            ) in
-            cc
-        | inr not ↦ less.greatest j not a i
-      ];
-    })
+one_more k from past true e less = grind (arith, fits_is)
+one_more k from past false e less = grind (arith, cases_lt, fits_is)
 
 pub widest_is : (bound from past : ℕ) → from < past → IsGreatestHere bound from past
 unfolding widest
@@ -70,5 +44,4 @@ widest_is zero from past h =
       inside = omega arith;
       greatest = λ j small a i. small;
     }
-widest_is (suc k) from past h =
-    one_more k from past (fits (suc k) from past) refl (widest_is k from past h)
+widest_is (suc k) from past h = grind (arith, one_more, widest_is k from past h)

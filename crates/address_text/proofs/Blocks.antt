@@ -1,19 +1,16 @@
 -- Blocks of numbers that begin with the same bits.
-use Rattle.std.proofs.Common.{◌≡◌, ℕ, ◌+◌, ◌-◌, ◌*◌, ◌/◌, ◌%◌, ◌^◌, ◌≤◌, ◌<◌, inl, inr, ap, ◌∙◌, arith}
+use Rattle.std.proofs.Common.{◌≡◌, ℕ, ◌+◌, ◌-◌, ◌*◌, ◌/◌, ◌%◌, ◌^◌, ◌≤◌, ◌<◌, arith}
 use Rattle.std.proofs.Math.Nat.{div-add-mod', mul-le-mul_right}
 use Rattle.std.proofs.Math.Pow.{pow-add, pow_pos}
 use Rattle.std.proofs.lemmas.Bool.{cases_lt}
 use Rattle.std.proofs.lemmas.Nat.{pow_below}
+use Rattle.std.proofs.Common.{rules}
 
 next_multiple : (a b c : ℕ) → a * c < b * c → a * c + c ≤ b * c
-next_multiple a b c h = elim (cases_lt a b) [
-  | inl less ↦ let le : (a + 1) * c ≤ b * c = mul-le-mul_right c (omega arith) in omega arith
-  | inr not ↦ let le : b * c ≤ a * c = mul-le-mul_right c not in omega arith
-]
+next_multiple a b c h = search (rules, cases_lt, mul-le-mul_right)
 
 power_split : (j k : ℕ) → j ≤ k → 2 ^ k ≡ 2 ^ (k - j) * 2 ^ j
-power_split j k h = let e : k ≡ (k - j) + j = omega arith in
-    ap (λ x. 2 ^ x) e ∙ pow-add 2 (k - j) j
+power_split j k h = grind (arith, pow-add)
 
 -- the block of a number of so many bits has no longer ones
 pub block_fits : (width free n : ℕ) → free ≤ width → n < 2 ^ width
@@ -28,10 +25,7 @@ block_fits width free n le small =
 
 pub size_is : (size told free : ℕ) → told ≡ free → told < 128 → size ≡ (1 * 2 ^ told) % 2 ^ 128
     → size ≡ 2 ^ free
-size_is size told free same less is =
-    let small : 2 ^ told < 2 ^ 128 = pow_below told 128 less in
-    let shown : (1 * 2 ^ told) % 2 ^ 128 ≡ 2 ^ told = omega (arith, small) in
-    is ∙ shown ∙ ap (λ k. 2 ^ k) same
+size_is size told free same less is = grind (arith, pow_below)
 
 -- the block lies within the addresses, as its number does
 pub block_within : (first last free n : ℕ) → first ≡ n - n % 2 ^ free → last + 1 ≡ first + 2 ^ free

@@ -1,10 +1,10 @@
 -- What texts say: at most one thing each.
-use Rattle.std.proofs.Common.{◌≡◌, ◌≢◌, ℕ, ◌-◌, ◌%◌, ◌^◌, ◌<◌, Bool, true, List, [], Option, None, Some, MatchOption, inl, inr, ap, sym, subst, refl, ◌∙◌, arith}
+use Rattle.std.proofs.Common.{◌≡◌, ◌≢◌, ℕ, ◌-◌, ◌%◌, ◌^◌, Bool, true, List, [], Option, None, Some, MatchOption, inl, inr, ap, sym, ◌∙◌, arith}
 use Rattle.std.proofs.NetLemmas.Theorems.{IsIpv4Text_unique, IsIpv6Text_unique}
 use Rattle.std.specs.List.{after_first, before_first}
 use Rattle.std.specs.Net.Addr.{ipv4_bits, ipv6_bits}
 use Rattle.std.specs.Net.Grammar.{IsNumber}
-use Rattle.address_text.specs.Lines.{HasByte, IsPrefixSpan, IsRangeSpan, IsSpan, Says, content, is_slash, trimmed}
+use Rattle.address_text.specs.Lines.{HasByte, IsPrefixSpan, IsSpan, Says, content, is_slash}
 use Rattle.address_text.specs.Texts.{IsAddressText, width}
 use Rattle.address_text.specs.declared.family.Family.{Family}
 use Rattle.address_text.specs.declared.family.Family.TheVariants.{V4, V6}
@@ -24,24 +24,7 @@ pub has_more : (family : Family) (text digits : List ℕ) (address length first 
     → first ≡ address - address % 2 ^ (width family - length) → first ≢ address
     → (from to : ℕ) → ¬ IsPrefixSpan true family text digits from to
 has_more family text digits address length first written number first_is other from to span =
-    let same : span.address ≡ address =
-    address_unique family text span.address address span.written written in
-    let long : span.length ≡ length = sym span.number.1 ∙ number.1 in
-    let begins : from ≡ first =
-    span.first_is
-    ∙ ap (λ n. n - n % 2 ^ (width family - span.length)) same
-    ∙ ap (λ l. address - address % 2 ^ (width family - l)) long ∙ sym first_is in
-    other (sym begins ∙ span.has_no_more refl ∙ same)
-
--- a range that ends before it starts is refused
-pub unordered : (family : Family) (text others : List ℕ) (first last : ℕ)
-    → IsAddressText family (trimmed text) first → IsAddressText family (trimmed others) last
-    → last < first → (from to : ℕ) → ¬ IsRangeSpan family text others from to
-unordered family text others first last a b above from to span =
-    let start : from ≡ first = address_unique family (trimmed text) from first span.from a in
-    let end : to ≡ last = address_unique family (trimmed others) to last span.to b in
-    let ordered = span.ordered in
-    omega (arith, start, end, ordered)
+    grind (arith, address_unique)
 
 module _ (strict : Bool) (family : Family) (text : List ℕ) where
   not_prefix : HasByte is_slash text
@@ -49,8 +32,7 @@ module _ (strict : Bool) (family : Family) (text : List ℕ) where
       (after_first is_slash text) first last)
       → (first last : ℕ) → ¬ IsSpan strict family text first last
   not_prefix has none first last (inl (slash, span)) = none first last span
-  not_prefix has none first last (inr (inl (lacks, dash, span))) = lacks has
-  not_prefix has none first last (inr (inr (lacks, dash, written, same))) = lacks has
+  not_prefix has none first last (inr others) = grind arith
 
   -- a text with a slash says what its prefix does
   pub prefix_says : (address digits : List ℕ) (r : Option (ℕ × ℕ)) → HasByte is_slash text
@@ -60,16 +42,8 @@ module _ (strict : Bool) (family : Family) (text : List ℕ) where
       → MatchOption r ((first last : ℕ) → ¬ IsSpan strict family text first last)
       (λ span. IsSpan strict family text span.0 span.1)
   prefix_says address digits None has front back none =
-      not_prefix has
-      (subst (λ a. (first last : ℕ) → ¬ IsPrefixSpan strict family a (after_first is_slash text)
-      first last) front
-      (subst (λ d. (first last : ℕ) → ¬ IsPrefixSpan strict family address d first last) back none))
-  prefix_says address digits (Some span) has front back some =
-      inl (
-        has,
-        subst (λ a. IsPrefixSpan strict family a (after_first is_slash text) span.0 span.1) front
-            (subst (λ d. IsPrefixSpan strict family address d span.0 span.1) back some),
-      )
+      not_prefix has (rw (front, back) at none)
+  prefix_says address digits (Some span) has front back some = grind arith
 
 -- a line that says addresses of neither family, and has content, says nothing that is known
 pub says_neither : (strict : Bool) (line : List ℕ) → content line ≢ []

@@ -1,13 +1,11 @@
-use Rattle.std.proofs.Common.{◌+◌, ◌-◌, ◌≤◌, ◌∷◌, ap, subst, sym, ◌∙◌, arith}
+use Rattle.std.proofs.Common.{◌+◌, arith}
 use Rattle.std.proofs.lemmas.Grind.{common_steps}
 use Rattle.address_prefixes.proofs.Steps.{divided, is_bounded, is_inside, powers_fit}
 use Rattle.address_prefixes.proofs.divide.divide.Goals as goal
+use Rattle.std.proofs.Common.{rules}
 
 pub greatest_of-requires : goal.greatest_of-requires
-greatest_of-requires g c =
-    let small = g.met.A.Address.family.small in
-    let bounded = is_bounded c.requires.0 c.WIDTH.ensures c.free_bits-free.ensures in
-    omega (arith, bounded, small)
+greatest_of-requires g c = grind (arith, is_bounded)
 
 pub overflow_add-end : goal.overflow_add-end
 overflow_add-end g c =
@@ -25,22 +23,10 @@ at-requires-2 g c =
     let last = c.requires.1 in omega (arith, inside, last)
 
 pub overflow_sub-prefix : goal.overflow_sub-prefix
-overflow_sub-prefix g c =
-    subst (λ w. c.free_bits-free.result ≤ w) (sym c.WIDTH-2.ensures)
-    (is_bounded c.requires.0 c.WIDTH.ensures c.free_bits-free.ensures)
+overflow_sub-prefix g c = grind (arith, is_bounded)
 
 pub part_after-requires-clause-whole : goal.part_after-requires-clause-whole
-part_after-requires-clause-whole g c =
-    is_inside c.requires.0 c.WIDTH.ensures c.free_bits-free.ensures c.greatest_of.result
-    c.greatest_of.ensures
+part_after-requires-clause-whole g c = search (rules, is_inside)
 
 pub returns-clause-tiles : goal.returns-clause-tiles
-returns-clause-tiles g c =
-    divided c.requires.0 c.WIDTH.ensures c.free_bits-free.ensures g.A.Address.at
-    c.greatest_of.result c.greatest_of.ensures
-    c.at.ensures c.at-2.ensures (ap (λ w. w - c.free_bits-free.result) c.WIDTH-2.ensures)
-    ∙ ap (λ tiles. (record {
-      network = c.at.result;
-      last = c.at-2.result;
-      length = c.WIDTH-2.result - c.free_bits-free.result;
-    }) ∷ tiles) (sym c.part_after.ensures.tiles)
+returns-clause-tiles g c = grind (arith, divided)

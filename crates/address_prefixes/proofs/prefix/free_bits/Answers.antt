@@ -1,21 +1,12 @@
-use Rattle.std.proofs.Common.{◌≡◌, ◌+◌, ◌*◌, ◌/◌, ◌^◌, inl, inr, arith}
+use Rattle.std.proofs.Common.{inl, inr, arith}
 use Rattle.address_prefixes.proofs.Blocks.{double, found, halve}
 use Rattle.address_prefixes.proofs.prefix.free_bits.Goals as goal
 
 pub loop-free-preserved : goal.loop-free-preserved
-loop-free-preserved c =
-    let twice : 2 ^ (c.loop-free.free + 1) ≡ 2 ^ c.loop-free.free * 2 = double c.loop-free.free in (
-      omega arith,
-      halve c.args.first c.loop-free.block (c.loop-free.block / 2) c.loop-free.free (omega arith)
-          c.loop-free.invariant.1,
-      omega arith,
-      omega arith,
-    )
+loop-free-preserved c = grind (arith, double, halve)
 
 pub returns-else-spare-room : goal.returns-else-spare-room
-returns-else-spare-room c =
-    let i = c.loop-free.invariant in
-    found c.loop-free.block c.loop-free.spare c.requires i.0 i.1 i.2 (omega arith) (inr (inr (omega arith)))
+returns-else-spare-room c = grind (arith, found)
 
 pub returns-else-block-eq0 : goal.returns-else-block-eq0
 returns-else-block-eq0 c =

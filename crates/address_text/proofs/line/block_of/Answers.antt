@@ -1,12 +1,9 @@
-use Rattle.std.proofs.Common.{◌+◌, ◌-◌, ◌%◌, ◌^◌, ◌≤◌, ◌≡◌, arith}
+use Rattle.std.proofs.Common.{arith}
 use Rattle.address_text.proofs.Blocks.{block_fits, size_is}
 use Rattle.address_text.proofs.line.block_of.Goals as goal
 
 pub overflow_add-result : goal.overflow_add-result
 overflow_add-result c =
     let shifted = c.in-Some.ensures in
-    let size : c.in-Some.size ≡ 2 ^ c.args.free =
-    size_is c.in-Some.size c.from.result c.args.free c.from.ensures shifted.0 shifted.1 in
-    let fits : c.args.number - c.args.number % 2 ^ c.args.free + 2 ^ c.args.free ≤ 2 ^ 128 =
-    block_fits 128 c.args.free c.args.number c.requires c.ranges.number.fits in
-    rw size (omega (arith, fits))
+    rw (size_is c.in-Some.size c.from.result c.args.free c.from.ensures shifted.0 shifted.1)
+    (omega (arith, block_fits 128 c.args.free c.args.number c.requires c.ranges.number.fits))

@@ -1,8 +1,6 @@
-use Rattle.std.proofs.Common.{arith, ◌≡◌, ◌≢◌, ℕ, [], subst, sym, ◌∙◌, MatchOption}
+use Rattle.std.proofs.Common.{arith, ◌≡◌, ◌≢◌, [], ◌∙◌}
 use Rattle.std.proofs.lemmas.Grind.{common_steps}
-use Rattle.address_text.specs.Lines.{IsSpan, Says, content}
-use Rattle.address_text.specs.declared.family.Family.TheVariants.{V4, V6}
-use Rattle.address_text.specs.declared.line.Line.{Line}
+use Rattle.address_text.specs.Lines.{content}
 use Rattle.address_text.proofs.Spans.{says_neither}
 use Rattle.address_text.proofs.line.line_of.Goals as goal
 
@@ -13,11 +11,6 @@ returns-in_err-first-clause-cases c =
     let text_is : c.in-Ok.text.now ≡ content line =
     c.in-Ok.ensures.cases.0 ∙ c.content_of.ensures in
     let some : c.in-Ok.text.now ≢ [] = λ none. grind (arith, common_steps) in
-    subst (λ r. MatchOption r ((said : Line) → ¬ Says strict line said)
-    (λ said. Says strict line said))
-    (sym c.from_residual.ensures)
+    rw c.from_residual.ensures
     (says_neither strict line (λ none. some (text_is ∙ none))
-    (subst (λ text. (first last : ℕ) → ¬ IsSpan strict V4 text first last) text_is
-    c.in_default-span_of.ensures.cases)
-    (subst (λ text. (first last : ℕ) → ¬ IsSpan strict V6 text first last) text_is
-    c.in_err-first.ensures.cases))
+    (rw text_is at c.in_default-span_of.ensures.cases) (rw text_is at c.in_err-first.ensures.cases))

@@ -5,13 +5,7 @@ use Rattle.address_prefixes.proofs.Steps.{powers_fit}
 use Rattle.address_prefixes.proofs.prefix.Prefix.containing.Goals as goal
 
 pub at-requires : goal.at-requires
-at-requires g c =
-    let within : c.args.length ≤ c.WIDTH-2.result = omega arith in
-    let b = block g.met.A.Address.family c.args.address c.known.ensures c.args.length
-    c.number-number.result c.greatest_of-rest.result c.WIDTH-2.result within c.WIDTH-2.ensures
-    c.number-number.ensures c.greatest_of-rest.ensures in
-    let fits = b.fits in
-    omega (arith, fits)
+at-requires g c = grind (arith, block)
 
 pub at-requires-2 : goal.at-requires-2
 at-requires-2 g c =
