@@ -30,10 +30,7 @@ module _ (HasStep : ℕ → ℕ → ℕ → Type 0) (IsStart : ℕ → Type 0) (
     pub has : IfSome longest (λ m. (0 < m.len) × IsAcceptedFront (IsFirstFor m.rule) cs m.len)
 
   pub best_none : IsBest [] None
-  best_none = record {
-    most = λ rule n some h. grind (arith, front_fits (Accepts rule) [] n h);
-    has = tt;
-  }
+  best_none = grind arith
 
   module _ (read : List ℕ) (states : BTreeSet ℕ) (after : AreAfter HasStep IsStart read states)
     where
