@@ -9,7 +9,7 @@ use Rattle.std.proofs.lemmas.Str.{encodes-append, chars-append, chars-encodes, e
 use Rattle.state_sets.specs.Beginnings.{AcceptsFirst}
 use Rattle.state_sets.proofs.Reading.{bytes_of, bytes_of-append}
 
-scalars_in_parts : (xs ys : List ℕ) → scalars (xs ++ ys) ≡ true
+pub scalars_in_parts : (xs ys : List ℕ) → scalars (xs ++ ys) ≡ true
     → (scalars xs ≡ true) × (scalars ys ≡ true)
 scalars_in_parts [] ys h = (refl, h)
 scalars_in_parts (x ∷ xs) ys h = grind (arith, scalars_in_parts xs ys)
