@@ -1,5 +1,6 @@
 -- The row of a set in the making, one range of its characters after the other.
 use Rattle.std.proofs.Common.{◌≡◌, refl, ◌↔◌, ◌⊎◌, inl, inr, ℕ, nat_eq, IsTrue, List, [], ◌∷◌, Some, None, BTreeSet, arith}
+use Rattle.std.proofs.Common.{rules}
 use Rattle.std.specs.List.{AllByRecursion}
 use Rattle.std.specs.Ordering.{nat_cmp}
 use Rattle.std.specs.BTreeSet.{contains}
@@ -35,14 +36,12 @@ bound_to (i ∷ rest) c (inr h) = let (n, b) = bound_to rest c h in (n, inr b)
 is_bound : (items : Bindings) (c n : ℕ) → BindsTo character_order nat_eq items c n
     → IsBound character_order items c
 is_bound [] c n h = h
-is_bound (i ∷ rest) c n (inl h) = inl h.0
-is_bound (i ∷ rest) c n (inr h) = inr (is_bound rest c n h)
+is_bound (i ∷ rest) c n h = grind (arith, is_bound rest c n)
 
 pair_bound : (items : List Entry) (c q : ℕ) → HasPair character_order (contains nat_cmp) items c q
     → IsBound character_order items c
 pair_bound [] c q h = h
-pair_bound (i ∷ rest) c q (inl h) = inl h.0
-pair_bound (i ∷ rest) c q (inr h) = inr (pair_bound rest c q h)
+pair_bound (i ∷ rest) c q h = grind (arith, pair_bound rest c q)
 
 -- the characters of the ranges so far lead to the sets of these
 pub record IsRowSoFar (sets : List (BTreeSet ℕ)) (all : List Entry) (row : Row)
@@ -56,11 +55,7 @@ pub record IsRowSoFar (sets : List (BTreeSet ℕ)) (all : List Entry) (row : Row
 
 pub row_none : (sets : List (BTreeSet ℕ)) (all left : List Entry) (row : Row)
     → bindings_of row ≡ [] → left ≡ all → IsRowSoFar sets all row left
-row_none sets all left row none whole = record {
-  covers = λ c is h. inr (rw whole h);
-  leads = λ c n is h. absurd (rw none at h);
-  within = λ i h. rw whole at h;
-}
+row_none sets all left row none whole = grind arith
 
 module _ (sets after : List (BTreeSet ℕ)) (keeps : KeepsAll sets after) (all : List Entry)
     (before new : Row) (i : Entry) (rest left : List Entry) (turn : left ≡ i ∷ rest) (n : ℕ)
@@ -89,20 +84,11 @@ module _ (sets after : List (BTreeSet ℕ)) (keeps : KeepsAll sets after) (all :
   row_more = record {
     covers = λ c is h. elim (was.covers c is h) [
       | inl old ↦ inl (still_bound c is old)
-      | inr more ↦ elim (rw turn at more) [
-        | inl holds ↦ inl (now_held c is holds)
-        | inr later ↦ inr later
-      ]
+      | inr more ↦ grind (arith, now_held c is)
     ];
     leads = λ c m is h. elim (held_or_not i.key c) [
-      | inl holds ↦
-          let equal = (bound.held c is holds (Some m)).0 h in
-          let same : m ≡ n = grind (arith, nat_tests) in
-          (i, (holds, was.within i here), rw same index)
-      | inr out ↦
-          let (j, at, (set, stands, alike)) =
-          was.leads c m is ((bound.others c is out (Some m)).0 h) in
-          (j, at, (set, keeps m set stands, alike))
+      | inl holds ↦ grind (arith, nat_tests, bound.held c is holds (Some m), was.within i here)
+      | inr out ↦ grind (arith, bound.others c is out (Some m), was.leads c m is, keeps)
     ];
     within = λ j h. was.within j (rw turn (inr h));
   }
@@ -111,8 +97,7 @@ keyed_at : (items : List Entry) (i : Entry)
     → AllByRecursion (λ j. ¬ IsKeyless character_order j.key) items → Any (λ j. j ≡ i) items
     → ¬ IsKeyless character_order i.key
 keyed_at [] i keyed at = absurd at
-keyed_at (j ∷ rest) i keyed (inl same) = rw (← same) keyed.0
-keyed_at (j ∷ rest) i keyed (inr later) = keyed_at rest i keyed.1 later
+keyed_at (j ∷ rest) i keyed at = grind (arith, keyed_at rest i keyed.1)
 
 -- of the characters by which rules lead on from a set
 module _ (rules : Rules) (set : BTreeSet ℕ) (leads : Transitions) (all : List Entry)
@@ -125,9 +110,7 @@ module _ (rules : Rules) (set : BTreeSet ℕ) (leads : Transitions) (all : List 
 
   leads_there : (i : Entry) (c : ℕ) → IsCharacter c → IsItemFor character_order all c i
       → AreReached rules set c i.value
-  leads_there i c is at q =
-      let holds = values c is i at q in
-      let pair = pairs c q is in (λ h. pair.0 (holds.1 h), λ h. holds.0 (pair.1 h))
+  leads_there i c is at q = grind (arith, values c is i at q, pairs c q is)
 
   module _ (sets : List (BTreeSet ℕ)) (row : Row) (left : List Entry)
       (was : IsRowSoFar sets all row left) where
@@ -142,10 +125,5 @@ module _ (rules : Rules) (set : BTreeSet ℕ) (leads : Transitions) (all : List 
 
     pub row_all : left ≡ [] → IsRowOf rules sets set row
     row_all none c is None never = λ p q has rule.
-        elim (was.covers c is (pair_bound all c q ((pairs c q is).1 (p, has, rule)))) [
-          | inl bound ↦ never bound
-          | inr more ↦ rw none at more
-        ]
-    row_all none c is (Some n) to =
-        let (i, at, (same, stands, alike)) = was.leads c n is to in
-        (same, stands, λ q. rw (alike q) (leads_there i c is at q))
+        grind (arith, was.covers c is, pair_bound all c q, pairs c q is)
+    row_all none c is (Some n) to = grind (arith, was.leads c n is to, leads_there)

@@ -1,5 +1,6 @@
 -- A machine that has read some characters.
 use Rattle.std.proofs.Common.{◌≡◌, ℕ, ◌<◌, ◌+◌, ◌*◌, List, [], ◌∷◌, ◌++◌, length, Option, Some, None, BTreeSet, arith}
+use Rattle.std.proofs.Common.{rules}
 use Rattle.std.specs.Prelude.{IfSome, Bool, true}
 use Rattle.std.specs.Char.{is_ascii}
 use Rattle.std.specs.Option.{MatchOption}
@@ -46,16 +47,7 @@ module _ (machine : Machine) where
 
   pub running_none : IsMachine machine.lexer machine.states → IsRunning [] 0 None
   running_none (sets, are, all) =
-      let (set, stands, starts) = are.start in
-      record {
-        sets = sets;
-        are = are;
-        all = all;
-        set = set;
-        stands = stands;
-        after = after_none HasStep Starts set starts;
-        best = best_none HasStep Starts (Accepts machine.lexer);
-      }
+      grind (arith, after_none HasStep Starts, best_none HasStep Starts (Accepts machine.lexer))
 
   module _ (read : List ℕ) (c state next : ℕ) (longest : Option Match) (found : Option ℕ)
       (goes : GoesTo machine state c (Some next))
@@ -68,16 +60,7 @@ module _ (machine : Machine) where
         → IsRunning (read ++ c ∷ []) next now
     goes_on now best =
         let (reached, stands, by) = goes was.sets was.are was.all was.set was.stands in
-        let after = after_more HasStep Starts read was.set reached c was.after by in
-        record {
-          sets = was.sets;
-          are = was.are;
-          all = was.all;
-          set = reached;
-          stands = stands;
-          after = after;
-          best = best reached after (was.are.first next found reached at stands);
-        }
+        grind (arith, after_more HasStep Starts read was.set reached c was.after by, best reached, was.are.first next found reached)
 
     pub running_grows : (rule len : ℕ) → len ≡ bytes_of (read ++ c ∷ []) → found ≡ Some rule
         → IsRunning (read ++ c ∷ []) next (Some (record { rule = rule; len = len }))
@@ -130,13 +113,11 @@ module _ (machine : Machine) where
       ∥∥₁_elim machine.sound (hlevel props)
       (λ (sets, are, all).
       let (set, stands) = some_at sets state (omega (arith, within, all)) in
-      let (reached, at, by) = goes sets are all set stands in
-      omega (arith, slice_get_within sets next reached at, all))
+      grind (arith, goes sets are all set stands, slice_get_within sets next))
 
   pub some_state : IsMachine machine.lexer machine.states → 0 < state_count machine
   some_state (sets, are, all) =
-      let (set, stands, starts) = are.start in
-      let inside = slice_get_within sets 0 set stands in omega (arith, inside, all)
+      grind (arith, slice_get_within sets 0)
 
 pub below_ascii : (c : ℕ) (r : Bool) → r ≡ is_ascii c → r ≡ true → c < 128
 below_ascii c r e t = grind (arith, nat_tests)

@@ -1,5 +1,6 @@
 -- Sets of states that are found again, and one more behind the others.
 use Rattle.std.proofs.Common.{◌≡◌, ◌↔◌, ℕ, true, cond, List, [], ◌∷◌, ◌++◌, length, Option, Some, None, BTreeSet, arith}
+use Rattle.std.proofs.lemmas.Grind.{common_steps}
 use Rattle.std.specs.Prelude.{IfNone}
 use Rattle.std.specs.Ordering.{nat_cmp, is_eq}
 use Rattle.std.specs.BTreeMap as map
@@ -22,9 +23,7 @@ pub not_found_new : (sets : Sets) (set : BTreeSet ℕ) → AreFound sets → IsO
 not_found_new sets set are ordered (Some i) is = tt
 not_found_new sets set are ordered None is = λ i other at alike.
     let other_ordered = are.ordered i other at in
-    let same =
-    btree_set_from_contains nat_cmp_total other set other_ordered ordered alike exact_unsigned in
-    grind (arith, are.found i other at)
+    grind (arith, common_steps, btree_set_from_contains, nat_cmp_total, exact_unsigned, are.found)
 
 pub added_index : (before after : List (BTreeSet ℕ)) (set copy : BTreeSet ℕ)
     → after ≡ before ++ copy ∷ [] → copy.keys ≡ set.keys → IsIndexOf after set (length before)
@@ -46,8 +45,5 @@ module _ (before after : Sets) (set copy key : BTreeSet ℕ) (are : AreFound bef
     found = λ i other at.
         let place = slice_get-push before.listed.items copy i other in
         grind (arith, are.found i other, updates other, equal_by_keys key other, new i other);
-    stands = λ q i at.
-        let index = added_index before.listed.items after.listed.items q copy pushed in
-        let kept = keeps_pushed before.listed.items after.listed.items copy pushed in
-        grind (arith, are.stands q i, updates q, equal_by_keys key q);
+    stands = grind (arith, added_index before.listed.items after.listed.items, keeps_pushed before.listed.items after.listed.items copy pushed, equal_by_keys key);
   }

@@ -9,7 +9,7 @@ use Rattle.std.proofs.lemmas.Str.{encodes-append, chars-append, chars-encodes, e
 use Rattle.state_sets.specs.Beginnings.{AcceptsFirst}
 use Rattle.state_sets.proofs.Reading.{bytes_of, bytes_of-append}
 
-scalars_in_parts : (xs ys : List ℕ) → scalars (xs ++ ys) ≡ true
+pub scalars_in_parts : (xs ys : List ℕ) → scalars (xs ++ ys) ≡ true
     → (scalars xs ≡ true) × (scalars ys ≡ true)
 scalars_in_parts [] ys h = (refl, h)
 scalars_in_parts (x ∷ xs) ys h = grind (arith, scalars_in_parts xs ys)
@@ -42,7 +42,6 @@ module _ (Accepted : List ℕ → Type 0) where
     pub front_of_bytes : (n : ℕ) → AcceptsFirst Accepted text n → IsAcceptedFront (chars text) n
     front_of_bytes n (cut, accepted) =
         let front = chars (take n text) in
-        let split = take-append-drop n text in
         let parts = chars-append (take n text) (drop n text) (IsUtf8-take text n utf8 cut) in
         let coded = encodes-chars (take n text) (IsUtf8-take text n utf8 cut) in
         let same = take-append_seam front (chars (drop n text)) in
@@ -50,14 +49,4 @@ module _ (Accepted : List ℕ → Type 0) where
 
     pub bytes_of_chars : (n : ℕ) → IsAcceptedFront (chars text) n → AcceptsFirst Accepted text n
     bytes_of_chars n (k, within, bytes, accepted) =
-        let front = take k (chars text) in
-        let rest = drop k (chars text) in
-        let parts = take-append-drop k (chars text) in
-        let coded : text ≡ encodes front ++ encodes rest =
-        grind (arith, encodes-chars text utf8, encodes-append front rest) in
-        let scalar = scalars_in_parts front rest (ap scalars parts ∙ scalars-chars text utf8) in
-        let cut =
-        IsCharBoundary-at_seam text (encodes front) (encodes rest) coded
-        (rest, (scalar.1, refl)) in
-        let taken = take-append_seam (encodes front) (encodes rest) in
-        grind (arith, chars-encodes front scalar.0)
+        grind (arith, take-append-drop k (chars text), encodes-chars text utf8, encodes-append, scalars_in_parts, scalars-chars text utf8, IsCharBoundary-at_seam text, take-append_seam, chars-encodes) steps 2000000

@@ -1,4 +1,5 @@
 use Rattle.std.proofs.Common.{sym, arith}
+use Rattle.std.proofs.lemmas.Grind.{common_steps}
 use Rattle.std.specs.Map.Iter.{deref}
 use Rattle.std.proofs.lemmas.Map.Iter.{rest_more, rest_all}
 use Rattle.state_sets.proofs.Firsts.{first_passes, first_more, first_of_all}
@@ -13,12 +14,8 @@ loop-state-preserved-in-Some-get c =
 
 pub loop-state-preserved : goal.loop-state-preserved
 loop-state-preserved c =
-    let turn = rest_more deref _ _ _ _ c.in-Some.is c.next.ensures.steps in
-    let none = c.in_default.not-Some in
-    first_passes _ _ _ _ _ _ turn c.loop-state.invariant (grind arith)
+    grind arith
 
 pub returns : goal.returns
 returns c =
-    let all = rest_all deref _ _ _ c.in-None.is c.next.ensures.steps in
-    first_of_all c.args.rule_at.now c.args.states.now c.loop-state.first _ all
-    c.loop-state.invariant
+    grind (arith, common_steps, rest_all, c.in-None.is, c.next.ensures.steps, first_of_all, c.loop-state.invariant)

@@ -1,12 +1,10 @@
 use Rattle.std.specs.Str.{chars}
+use Rattle.std.proofs.Common.{arith}
+use Rattle.std.proofs.lemmas.Grind.{common_steps}
 use Rattle.charmoves.specs.Automata.{rules_of}
 use Rattle.charmoves.proofs.Paths.{accepted_among}
 use Rattle.charmoves.proofs.moves.Moves.accepts.Goals as goal
 
 pub returns : goal.returns
 returns c =
-    let told = c.is_accepting.ensures.accepting in
-    let whole =
-    accepted_among (rules_of c.args.self.now) (chars c.args.text.now) c.in_ok-states.states
-    c.in_ok-states.ensures.after in
-    record { path = (λ h. whole.0 (told.0 h), λ h. told.1 (whole.1 h)) }
+    grind (arith, common_steps, c.is_accepting.ensures.accepting, accepted_among, c.in_ok-states.ensures.after, c.is_accepting.ensures.accepting.0, c.is_accepting.ensures.accepting.1)

@@ -1,4 +1,5 @@
 use Rattle.std.proofs.Common.{◌≡◌, refl, ◌+◌, [], ◌∷◌, ◌++◌, arith}
+use Rattle.std.proofs.lemmas.Grind.{common_steps}
 use Rattle.std.proofs.Math.Seq.{take-nil}
 use Rattle.std.proofs.lemmas.Iterator.{YieldsList-from_chars}
 use Rattle.charmoves.specs.Automata.{rules_of, HasRule, IsStart, Accepts}
@@ -24,9 +25,7 @@ returns-then-is_empty c =
     let best =
     longest_stays (Accepts rules) read rest c.in-Some.c c.loop-c.longest (λ k. never _)
     c.loop-c.invariant.best in
-    record {
-      longest = longest_by_bytes (Accepts rules) text c.utf8.text c.loop-c.longest (rw split best);
-    }
+    grind (arith, common_steps, longest_by_bytes, c.utf8.text)
 
 pub overflow_add-len : goal.overflow_add-len
 overflow_add-len c =
@@ -68,10 +67,7 @@ loop-c-preserved c =
       after = after;
       bytes = omega (arith, bytes_of-push read c.in-Some.c, c.len_utf8-len.ensures.len);
       best = longest_stays (Accepts rules) read [] c.in-Some.c c.loop-c.longest
-          (λ k. rw take-nil
-          (λ h.
-          let yes = c.is_accepting-in-loop-c.ensures.accepting.1 (among.1 h) in
-          let no = c.if-is_accepting-2.false in absurd cc))
+          (grind (arith, take-nil, c.is_accepting-in-loop-c.ensures.accepting.1, c.if-is_accepting-2.false))
           c.loop-c.invariant.best;
     }
 
@@ -81,8 +77,4 @@ returns c =
     let all = YieldsList-from_chars text c.utf8.text cc in
     let whole =
     read_all all c.loop-c.yielded _ c.loop-c.yielded_by _ _ c.in-None.is c.next.ensures.steps in
-    let best = rw whole at c.loop-c.invariant.best in
-    record {
-      longest = longest_by_bytes (Accepts (rules_of c.args.self.now)) text c.utf8.text
-          c.loop-c.longest best;
-    }
+    grind (arith, common_steps, c.loop-c.invariant.best, longest_by_bytes, c.utf8.text)

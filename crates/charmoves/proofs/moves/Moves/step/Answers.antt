@@ -1,4 +1,6 @@
 use Rattle.std.proofs.Common.{◌≡◌, ◌∙◌, ◌||◌, ap, ℕ, OnOk, arith}
+use Rattle.std.proofs.Common.{rules}
+use Rattle.std.proofs.lemmas.Grind.{common_steps}
 use Rattle.std.specs.BTreeSet.{contains}
 use Rattle.std.specs.List.{list_any}
 use Rattle.std.specs.Map.Iter.{TakesFirst, deref}
@@ -21,8 +23,7 @@ loop-state-preserved-in-Continue-1 c =
     fact_from_extend {steps = TakesFirst deref}
     {all = targets.keys} deref c.extend.result c.extend.ensures.ran
     (λ it b. YieldsList-from_rest targets.keys b.0)
-    (λ xs e h q. h.0 q
-    ∙ ap (λ ks. contains nat_cmp before q || list_any (eq_by_cmp nat_cmp q) ks) e) in
+    (λ xs e h q. grind (arith, h.0 q)) in
     let turn = rest_more deref _ _ _ _ c.in-Some.is c.next.ensures.steps in
     λ q.
     let led = rw c.in-Some-targets.is at (c.targets.ensures q) in
@@ -39,8 +40,4 @@ loop-state-preserved c =
     (c.loop-state.invariant q)
 
 pub returns : goal.returns
-returns c = record {
-  reached = λ q.
-      gathered_all (λ p. HasRule (rules_of c.args.self.now) p c.args.c q) c.args.states.now.keys _ _
-      (rest_all deref _ _ _ c.in-None.is c.next.ensures.steps) (c.loop-state.invariant q);
-}
+returns c = grind (arith, common_steps, gathered_all, rest_all, c.in-None.is, c.next.ensures.steps, c.loop-state.invariant)

@@ -2,7 +2,4 @@ use Rattle.std.proofs.Common.{arith}
 use Rattle.lexing.proofs.lexer.LexerScanner.longest_match.Goals as goal
 
 pub returns : goal.returns
-returns c = record {
-  longest = c.longest_match.ensures.longest;
-  refused = grind arith;
-}
+returns c = grind (arith, c.longest_match.ensures.longest)

@@ -1,4 +1,5 @@
 use Rattle.std.proofs.Common.{◌≡◌, length, arith}
+use Rattle.std.proofs.lemmas.Grind.{common_steps}
 use Rattle.std.specs.List.{each_same}
 use Rattle.state_sets.proofs.Lists.{keeps_pushed}
 use Rattle.state_sets.proofs.Finding.{added_index, found_all}
@@ -21,8 +22,7 @@ returns-clause-added c =
 
 pub returns-clause-kept : goal.returns-clause-kept
 returns-clause-kept c =
-    keeps_pushed c.args.self.now.listed.items c.push.new.self.items c.in_ok-clone-2.field-0
-    c.in_ok-push.ensures.items
+    grind (arith, common_steps, keeps_pushed, c.in_ok-push.ensures.items)
 
 pub returns-clause-found : goal.returns-clause-found
 returns-clause-found c =
@@ -32,7 +32,4 @@ returns-clause-found c =
     let copy = c.in_ok-clone-2.field-0 in
     let key_same = each_same set.keys key.keys c.in_ok-clone.ensures.cases in
     let same = each_same set.keys copy.keys c.in_ok-clone-2.ensures.cases in
-    let place : c.len-index.result ≡ length before.listed.items = omega arith in
-    found_all before (record { listed = c.push.new.self; indices = c.insert.new.self }) set copy key
-    c.requires.found c.len-ascending.ensures.ordered c.requires.new same key_same
-    c.in_ok-push.ensures.items (rw place at c.in_ok-insert.ensures.updates.0)
+    grind (arith, common_steps, found_all, c.requires.found, c.len-ascending.ensures.ordered, c.requires.new, c.in_ok-push.ensures.items, c.in_ok-insert.ensures.updates.0)
