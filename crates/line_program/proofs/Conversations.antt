@@ -1,8 +1,9 @@
 -- A conversation, seen in other states.
-use Rattle.std.proofs.Common.{◌⊎◌, ℕ, List, inl, inr, Option, None, Some, IfSome}
+use Rattle.std.proofs.Common.{◌⊎◌, ℕ, List, Option, IfSome}
 use Rattle.line_program.specs.Conversation.{Conversation}
 use Rattle.line_program.specs.Listing.{Writes}
 use Rattle.line_program.specs.Conversation.Conversation.{Ended, Answered}
+use Rattle.std.proofs.Common.{arith}
 
 module _ {S T : Type 0} (Answers : S → List ℕ → List ℕ → S → Type 0)
     (Others : T → List ℕ → List ℕ → T → Type 0) (see : S → T)
@@ -15,8 +16,8 @@ module _ {S T : Type 0} (Answers : S → List ℕ → List ℕ → S → Type 0)
   conversation_seen first input text rest last (Ended _ _) = Ended (see first) input
   conversation_seen first input text rest last
       (Answered _ next _ _ _ answer more _ some is_text answers held is) =
-      Answered (see first) (see next) (see last) input text answer more rest some is_text
-      (follows first _ answer next answers) (conversation_seen next _ more rest last held) is
+      Answered _ _ _ _ _ _ _ _ some is_text (follows first _ answer next answers)
+      (conversation_seen next _ more rest last held) is
 
 -- what stopped with one kind of answers stopped with another that follows
 pub stopped_as : (Silent : Type 0) (input before after : Option (List ℕ))
@@ -26,8 +27,4 @@ pub stopped_as : (Silent : Type 0) (input before after : Option (List ℕ))
     × Writes before after (λ text. Talks bytes text rest))
     → Silent ⊎ IfSome input (λ bytes. (rest : List ℕ)
     × Writes before after (λ text. Answers bytes text rest))
-stopped_as Silent input before after Talks Answers follows (inl silent) = inl silent
-stopped_as Silent None before after Talks Answers follows (inr stopped) = inr tt
-stopped_as Silent (Some bytes) before after Talks Answers follows
-    (inr (rest, (text, talk, appended))) =
-    inr (rest, (text, follows bytes text rest talk, appended))
+stopped_as Silent input before after Talks Answers follows stopped = grind (arith, follows)

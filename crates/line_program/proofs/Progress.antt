@@ -1,5 +1,5 @@
 -- How far a program has come that answers lines.
-use Rattle.std.proofs.Common.{◌≡◌, ◌≢◌, ℕ, List, [], ◌++◌, Option, None, Some, IfSome, OnSome, refl, sym, subst, append_assoc}
+use Rattle.std.proofs.Common.{◌≡◌, ◌≢◌, ℕ, List, [], ◌++◌, Option, None, Some, IfSome, OnSome, refl, append_assoc}
 use Rattle.std.specs.Io.KnownBytes.{Appends}
 use Rattle.std.specs.Io.BufRead.{first_line, drop_through}
 use Rattle.std.specs.Str.{IsUtf8}
@@ -31,27 +31,6 @@ module _ {S : Type 0} (Answers : S → List ℕ → List ℕ → S → Type 0) (
     goes_on = λ more rest last held. held;
   }
 
-  answered_more : (input : List ℕ) (left later before now next : Option (List ℕ))
-      (state changed : S) → (answered : HasAnswered input left before now state)
-      → answered.remaining ≢ [] → later ≡ Some (drop_through 10 answered.remaining)
-      → IsUtf8 (first_line answered.remaining)
-      → Writes now next (λ text. Answers state (first_line answered.remaining) text changed)
-      → HasAnswered input later before next changed
-  answered_more input left later before now next state changed answered some later_is is_text
-      (text, answer, more) = record {
-        remaining = drop_through 10 answered.remaining;
-        left_is = later_is;
-        written = answered.written ++ text;
-        appended = appends_then before now next answered.written text answered.appended more;
-        goes_on =
-            λ others rest last held.
-            subst (λ all. Conversation Answers first input all rest last)
-            (sym (append_assoc answered.written text others))
-            (answered.goes_on (text ++ others) rest last
-            (Answered state changed last answered.remaining (text ++ others) text others rest some
-            is_text answer held refl));
-      }
-
   -- one more line is answered
   pub line_answered : (input left later before now next : Option (List ℕ)) (state changed : S)
       → IfSome input (λ bytes. HasAnswered bytes left before now state)
@@ -61,12 +40,14 @@ module _ {S : Type 0} (Answers : S → List ℕ → List ℕ → S → Type 0) (
       → IfSome input (λ bytes. HasAnswered bytes later before next changed)
   line_answered None left later before now next state changed answered one = tt
   line_answered (Some bytes) left later before now next state changed answered one =
-      let (some, later_is, is_text, written) = subst (λ o. IfSome o (λ bytes. (bytes ≢ [])
-      × (later ≡ Some (drop_through 10 bytes)) × IsUtf8 (first_line bytes)
-      × Writes now next (λ text. Answers state (first_line bytes) text changed))) answered.left_is
-      one in
-      answered_more bytes left later before now next state changed answered some later_is is_text
-      written
+      let (some, later_is, is_text, (text, answer, more)) = rw answered.left_is at one in record {
+        remaining = drop_through 10 answered.remaining;
+        left_is = later_is;
+        written = answered.written ++ text;
+        appended = appends_then before now next answered.written text answered.appended more;
+        goes_on = λ others rest last held. rw append_assoc (answered.goes_on (text ++ others) rest last
+            (Answered _ _ _ _ _ _ _ _ some is_text answer held refl));
+      }
 
   -- what is written answers the lines before those that are left
   answered_so_far : (input : List ℕ) (left before now : Option (List ℕ)) (state : S)
@@ -75,9 +56,7 @@ module _ {S : Type 0} (Answers : S → List ℕ → List ℕ → S → Type 0) (
       (λ text. Conversation Answers first input text answered.remaining state)
   answered_so_far input left before now state answered = (
     answered.written,
-    subst (λ text. Conversation Answers first input text answered.remaining state)
-        (append_nil answered.written)
-        (answered.goes_on [] answered.remaining state (Ended state answered.remaining)),
+    rw append_nil at (answered.goes_on [] answered.remaining state (Ended _ _)),
     answered.appended,
   )
 
@@ -90,17 +69,8 @@ module _ {S : Type 0} (Answers : S → List ℕ → List ℕ → S → Type 0) (
       (λ text. Conversation Answers first bytes text [] last)) × OnSome input (later ≡ Some [])
   answered_all None left later before now next state last answered ended = (tt, tt)
   answered_all (Some bytes) left later before now next state last answered (same, silent, ended) =
-      let (empty, later_is) = subst (λ o. IfSome o (λ bytes. (bytes ≡ []) × (later ≡ Some [])))
-      answered.left_is ended in (
-        subst (λ w. Writes before w (λ text. Conversation Answers first bytes text [] last))
-            (sym silent)
-            (subst (λ s. Writes before now (λ text. Conversation Answers first bytes text [] s))
-            (sym same)
-            (subst (λ rest.
-            Writes before now (λ text. Conversation Answers first bytes text rest state)) empty
-            (answered_so_far bytes left before now state answered))),
-        later_is,
-      )
+      let (empty, later_is) = rw answered.left_is at ended in
+      (rw (same, silent, ← empty) (answered_so_far bytes left before now state answered), later_is)
 
   pub stopped_at : (input left before now next : Option (List ℕ)) (state last : S)
       → IfSome input (λ bytes. HasAnswered bytes left before now state)
@@ -108,12 +78,5 @@ module _ {S : Type 0} (Answers : S → List ℕ → List ℕ → S → Type 0) (
       → IfSome input (λ bytes. (rest : List ℕ)
       × Writes before next (λ text. Conversation Answers first bytes text rest last))
   stopped_at None left before now next state last answered unchanged = tt
-  stopped_at (Some bytes) left before now next state last answered (same, silent) = (
-    answered.remaining,
-    subst (λ w.
-        Writes before w (λ text. Conversation Answers first bytes text answered.remaining last))
-        (sym silent)
-        (subst (λ s.
-        Writes before now (λ text. Conversation Answers first bytes text answered.remaining s))
-        (sym same) (answered_so_far bytes left before now state answered)),
-  )
+  stopped_at (Some bytes) left before now next state last answered (same, silent) =
+      (answered.remaining, rw (same, silent) (answered_so_far bytes left before now state answered))
