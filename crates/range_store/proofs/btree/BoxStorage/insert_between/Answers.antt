@@ -122,4 +122,14 @@ seen_above-requires g c =
 
 pub returns-in-Some : goal.returns-in-Some
 returns-in-Some g c =
-    grind (arith, taller_edge c.args.self.now.levels c.insert_below-inserted.result.side c.in-Some.split c.insert_below-inserted.result.edge c.seen_above.result c.requires.edge.some c.args.self.now.whole.tree (rw c.in-Some.is at c.insert_below-inserted.ensures.replaces) c.store_branch-self.ensures c.seen_above.ensures.turn c.seen_above.ensures.inside (rw c.in-Some.is at c.insert_below-inserted.ensures.edge), taller)
+    grind (
+      arith,
+      taller_edge c.args.self.now.levels c.insert_below-inserted.result.side c.in-Some.split
+          c.insert_below-inserted.result.edge c.seen_above.result c.requires.edge.some
+          c.args.self.now.whole.tree
+          (rw c.in-Some.is at c.insert_below-inserted.ensures.replaces)
+          c.store_branch-self.ensures c.seen_above.ensures.turn
+          c.seen_above.ensures.inside
+          (rw c.in-Some.is at c.insert_below-inserted.ensures.edge),
+      taller,
+    )

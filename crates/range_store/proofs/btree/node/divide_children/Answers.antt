@@ -17,4 +17,10 @@ returns-then-index-le-HALF c =
 
 pub returns : goal.returns
 returns c =
-    grind (arith, take_insert_before c.args.list.now.items c.args.index 7 c.args.child (omega arith) (omega arith), drop_insert_before c.args.list.now.items c.args.index 7 c.args.child (omega arith) (omega arith))
+    grind (
+      arith,
+      take_insert_before c.args.list.now.items c.args.index 7 c.args.child (omega arith)
+          (omega arith),
+      drop_insert_before c.args.list.now.items c.args.index 7 c.args.child (omega arith)
+          (omega arith),
+    )
