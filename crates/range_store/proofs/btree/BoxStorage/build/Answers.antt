@@ -1,4 +1,4 @@
-use Rattle.std.proofs.Common.{◌≡◌, ◌+◌, length, ap, sym, ◌∙◌, arith}
+use Rattle.std.proofs.Common.{◌+◌, length, ap, arith}
 use Rattle.range_store.specs.Nodes.{IsTree}
 use Rattle.range_store.proofs.Building.{all_taken, built_tree}
 use Rattle.range_store.proofs.Levels.{empty_levels, has_levels}

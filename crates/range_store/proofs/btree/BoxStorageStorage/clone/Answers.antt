@@ -1,7 +1,7 @@
-use Rattle.std.proofs.Common.{◌≡◌, ◌+◌, ◌<◌, [], ◌∷◌, ◌++◌, length, arith}
+use Rattle.std.proofs.Common.{arith}
 use Rattle.std.proofs.lemmas.List.{length_push, take_all}
 use Rattle.std.proofs.lemmas.List.Elements.{all_zip_more}
-use Rattle.range_store.specs.Holding.{box_items, good_in_range}
+use Rattle.range_store.specs.Holding.{good_in_range}
 use Rattle.range_store.proofs.btree.BoxStorageStorage.clone.Goals as goal
 
 pub push_reserved-requires : goal.push_reserved-requires

@@ -1,4 +1,4 @@
-use Rattle.std.proofs.Common.{◌∙◌, length, refl, ap, sym, arith}
+use Rattle.std.proofs.Common.{length, refl, ap, arith}
 use Rattle.range_store.proofs.Lent.{good_same}
 use Rattle.range_store.proofs.Reserving.{kept_items, kept_shape, kept_tree}
 use Rattle.range_store.proofs.btree.BoxStorageStorage.reserve.Goals as goal

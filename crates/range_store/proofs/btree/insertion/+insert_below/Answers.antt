@@ -1,4 +1,4 @@
-use Rattle.std.proofs.Common.{◌≡◌, ℕ, ◌<◌, ◌≤◌, ◌+◌, length, refl, ap, ◌∙◌, arith, None}
+use Rattle.std.proofs.Common.{◌≡◌, ℕ, ◌<◌, ◌≤◌, ◌+◌, length, ap, ◌∙◌, arith, None}
 use Rattle.std.proofs.lemmas.List.Edits.{length-insert}
 use Rattle.range_store.specs.Heap.{items_of, node_items}
 use Rattle.range_store.specs.declared.btree.nodes.TheConstants.{CAPACITY}

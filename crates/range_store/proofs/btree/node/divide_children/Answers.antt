@@ -1,4 +1,4 @@
-use Rattle.std.proofs.Common.{◌≡◌, ◌-◌, drop, sym, ap, ◌∙◌, arith}
+use Rattle.std.proofs.Common.{sym, ap, ◌∙◌, arith}
 use Rattle.std.specs.List.{insert}
 use Rattle.range_store.proofs.Halves.{take_insert_before, take_insert_after, drop_insert_after, drop_insert_before}
 use Rattle.range_store.proofs.btree.node.divide_children.Goals as goal

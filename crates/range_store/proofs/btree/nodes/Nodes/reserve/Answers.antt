@@ -1,4 +1,4 @@
-use Rattle.std.proofs.Common.{[], refl, ap, ◌∙◌, arith}
+use Rattle.std.proofs.Common.{[], refl, ap, arith}
 use Rattle.slab.specs.Slab.{slab_len}
 use Rattle.range_store.specs.Heap.{HasRoomFor}
 use Rattle.range_store.proofs.Spares.{Changes, added, counted, roomier, spares_left, vacant_row}
