@@ -82,7 +82,8 @@ module _ {T : Type 0} {s : Heap T} {low n j : ℕ} (x : T) (levelled : IsLevelle
     new_content = grind (
       arith,
       run_content pair_run new_xs
-          (grind (arith, new_length, length-append, us_many, length-drop)) levelled.before rejoins.shaped levelled.behind,
+          (grind (arith, new_length, length-append, us_many, length-drop)) levelled.before
+          rejoins.shaped levelled.behind,
     )
 
     woven_old : items_below s (suc (suc low)) n

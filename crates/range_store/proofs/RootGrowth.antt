@@ -1,17 +1,16 @@
 -- A whole tree after an insertion: of the first item, below the root, and with a cut of the root.
 use Rattle.std.proofs.Common.{◌≡◌, ℕ, zero, suc, ◌+◌, ◌-◌, ◌*◌, ◌<◌, ◌≤◌, List, [], ◌∷◌, ◌++◌, length, ap, ◌∙◌, arith, None, Some}
-use Rattle.std.specs.List.{All, flat_map}
+use Rattle.std.specs.List.{flat_map}
 use Rattle.std.proofs.lemmas.List.{append-nil, length-append}
 use Rattle.range_store.specs.Heap.{Heap, HasRoomFor, Stores, node_children}
 use Rattle.range_store.specs.declared.btree.nodes.Split.{Split}
 use Rattle.range_store.specs.declared.btree.nodes.TheConstants.{MAX_LEN, MIN_LEN}
 use Rattle.range_store.specs.declared.btree.path.Edge.{Edge}
-use Rattle.range_store.specs.Nodes.{items_below, used, Shaped, IsTree, IsRoomy, here, Replaces}
+use Rattle.range_store.specs.Nodes.{items_below, used, IsTree, IsRoomy, here, Replaces}
 use Rattle.range_store.specs.Edges.{turn, inside, IsEdge, place, IsSeat, seat_place}
 use Rattle.range_store.specs.Occurrences.{occurrences, occurrences-cons, occurrences-nil, occurrences_itself, occurrences_other}
 use Rattle.range_store.proofs.Below.{items_below_leaf, used_leaf, Shaped-from_but}
 use Rattle.range_store.proofs.Contents.{Holds, held_items_below, held_used, held_shape, held_new}
-use Rattle.range_store.specs.Frame.{AgreeAt}
 use Rattle.range_store.specs.Depth.{HasLevels}
 use Rattle.range_store.proofs.Levels.{has_levels}
 use Rattle.range_store.proofs.Rank.{used_none}

@@ -389,7 +389,8 @@ module _ {T : Type 0} {slab : Slab Node} {rows : List (List T)} {spares : List �
         seen,
         edited gone.whole l
             (get_or-set_other slab.slots r l (Some blank) None apart ∙ left_at) node
-            (row_of rows l ++ x ∷ row_of rows r) (grind (arith, length-append)) children_are (rw (gone.nodes.others l apart) left),
+            (row_of rows l ++ x ∷ row_of rows r) (grind (arith, length-append)) children_are
+            (rw (gone.nodes.others l apart) left),
         heap_of,
         with_value,
         gone,

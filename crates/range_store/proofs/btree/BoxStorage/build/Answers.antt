@@ -1,4 +1,4 @@
-use Rattle.std.proofs.Common.{◌≡◌, ◌+◌, length, ap, sym, ◌∙◌, arith}
+use Rattle.std.proofs.Common.{◌+◌, length, ap, arith}
 use Rattle.range_store.specs.Nodes.{IsTree}
 use Rattle.range_store.proofs.Building.{all_taken, built_tree}
 use Rattle.range_store.proofs.Levels.{empty_levels, has_levels}
@@ -26,16 +26,4 @@ tree g c =
 pub invariant_of-self : goal.invariant_of-self
 invariant_of-self g c =
     let a = (goal.at.invariant_of-self g c).After-build-self in
-    let many = ap length (grind (arith, all_taken)) in
-    let count : length c.args.added.items ≡ c.len-count.result =
-    omega (arith, c.len-count.ensures, c.args.added.ok.0) in
-    record {
-      whole =
-          record {
-            tree = tree g a;
-            fits = omega arith;
-            counted = omega (arith, many, count);
-          };
-      counted = sym (many ∙ count);
-      levelled = rw (many ∙ count) at (has_levels (tree g a));
-    }
+    grind (arith, all_taken, tree g a, has_levels (tree g a))

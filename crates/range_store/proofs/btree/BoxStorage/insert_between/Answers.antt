@@ -122,15 +122,14 @@ seen_above-requires g c =
 
 pub returns-in-Some : goal.returns-in-Some
 returns-in-Some g c =
-    let a = goal.at.returns-in-Some g c in
-    let above = taller_edge c.args.self.now.levels c.insert_below-inserted.result.side
-    c.in-Some.split c.insert_below-inserted.result.edge c.seen_above.result c.requires.edge.some
-    c.args.self.now.whole.tree (rw c.in-Some.is at c.insert_below-inserted.ensures.replaces)
-    c.store_branch-self.ensures c.seen_above.ensures.turn c.seen_above.ensures.inside
-    (rw c.in-Some.is at c.insert_below-inserted.ensures.edge) in
-    record {
-      list = (taller g a.After-store_branch-self).items_are;
-      room = omega arith;
-      edge = record { some = omega arith; edge = above.0 };
-      place = above.1 ∙ (rw c.in-Some.is at c.insert_below-inserted.ensures.place);
-    }
+    grind (
+      arith,
+      taller_edge c.args.self.now.levels c.insert_below-inserted.result.side c.in-Some.split
+          c.insert_below-inserted.result.edge c.seen_above.result c.requires.edge.some
+          c.args.self.now.whole.tree
+          (rw c.in-Some.is at c.insert_below-inserted.ensures.replaces)
+          c.store_branch-self.ensures c.seen_above.ensures.turn
+          c.seen_above.ensures.inside
+          (rw c.in-Some.is at c.insert_below-inserted.ensures.edge),
+      taller,
+    )

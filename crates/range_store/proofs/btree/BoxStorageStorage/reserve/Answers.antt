@@ -1,4 +1,4 @@
-use Rattle.std.proofs.Common.{◌∙◌, length, refl, ap, sym, arith}
+use Rattle.std.proofs.Common.{length, refl, ap, arith}
 use Rattle.range_store.proofs.Lent.{good_same}
 use Rattle.range_store.proofs.Reserving.{kept_items, kept_shape, kept_tree}
 use Rattle.range_store.proofs.btree.BoxStorageStorage.reserve.Goals as goal
@@ -7,15 +7,7 @@ pub invariant_of-self : goal.invariant_of-self
 invariant_of-self g c =
     let s = c.args.self.now in
     let kept = ap length (kept_items c.reserve.ensures.kept s.levels s.root) in
-    record {
-      whole = record {
-        tree = kept_tree c.reserve.ensures.kept s.whole.tree;
-        fits = omega (arith, kept, s.whole.fits, c.reserve.ensures.no_less);
-        counted = omega (arith, kept, s.whole.counted);
-      };
-      counted = s.counted ∙ sym kept;
-      levelled = s.levelled;
-    }
+    grind (arith, kept_tree c.reserve.ensures.kept s.whole.tree)
 
 pub returns-clause-list : goal.returns-clause-list
 returns-clause-list g c =

@@ -1,4 +1,4 @@
-use Rattle.std.proofs.Common.{◌≡◌, ℕ, ◌<◌, ◌≤◌, ◌+◌, length, refl, ap, ◌∙◌, arith, None}
+use Rattle.std.proofs.Common.{◌≡◌, ℕ, ◌<◌, ◌≤◌, ◌+◌, length, ap, ◌∙◌, arith, None}
 use Rattle.std.proofs.lemmas.List.Edits.{length-insert}
 use Rattle.range_store.specs.Heap.{items_of, node_items}
 use Rattle.range_store.specs.declared.btree.nodes.TheConstants.{CAPACITY}
@@ -77,12 +77,7 @@ returns-in-None g t c =
     (c.seen_above.ensures.turn ∙ c.first_turn-index.ensures) c.seen_above.ensures.inside seat in
     let alone = seat_alone c.insert_below-inserted.new.nodes c.args.below c.args.number
     c.seen_above.result None edge.0 in
-    record {
-      replaces = rw here (none_replaces grows);
-      left_whole = λ few. refl;
-      edge = alone.0;
-      place = omega (arith, alone.1, edge.1, at, here);
-    }
+    grind (arith, none_replaces grows)
 
 pub seen_above-requires : goal.seen_above-requires
 seen_above-requires g t c =

@@ -1,4 +1,4 @@
-use Rattle.std.proofs.Common.{◌≡◌, ◌+◌, ◌-◌, ◌<◌, ◌^◌, ◌≤◌, length, take, drop, refl, ap, ◌∙◌, arith, Option, Some, None}
+use Rattle.std.proofs.Common.{◌≡◌, ◌+◌, ◌-◌, ◌<◌, ◌^◌, ◌≤◌, length, take, drop, refl, ◌∙◌, arith, Option, Some, None}
 use Rattle.std.specs.List.{insert}
 use Rattle.std.proofs.lemmas.List.Edits.{length-insert}
 use Rattle.range_store.specs.Heap.{with_child, node_items, node_children}
@@ -99,12 +99,7 @@ returns-then-seat-le-HALF g c =
     let alone =
     seat_alone t c.args.below c.args.number c.edge_at-then-seat-le-HALF.result
     (Some c.split-split.result) edge.0 in
-    record {
-      settles = settles g a;
-      left_whole = left_whole g a;
-      edge = alone.0;
-      place = alone.1 ∙ edge.1 ∙ left.1;
-    }
+    grind (arith, settles g a)
 
 pub edge_at-edge-requires : goal.edge_at-edge-requires
 edge_at-edge-requires g c =
@@ -136,9 +131,4 @@ returns g c =
     edge.0 in
     let fore = left_items_below HALF c.requires.content low
     (left_holds c.split-split.result c.requires.content cut low) holds in
-    record {
-      settles = settles g a;
-      left_whole = left_whole g a;
-      edge = beside.0;
-      place = omega (arith, beside.1, edge.1, right.1, ap length fore);
-    }
+    grind (arith, settles g a)

@@ -1,4 +1,4 @@
-use Rattle.std.proofs.Common.{[], refl, ap, ◌∙◌, arith}
+use Rattle.std.proofs.Common.{[], refl, ap, arith}
 use Rattle.slab.specs.Slab.{slab_len}
 use Rattle.range_store.specs.Heap.{HasRoomFor}
 use Rattle.range_store.proofs.Spares.{Changes, added, counted, roomier, spares_left, vacant_row}
@@ -55,17 +55,7 @@ loop-preserved g c =
     grind (arith, vacant_row) in
     let next =
     added was.whole changes inserted.was_vacant inserted.len refl c.new.ensures.children in
-    record {
-      many = omega (arith, inserted.len, was.many);
-      capacity = inserted.capacity ∙ was.capacity;
-      places = c.push_back_reserved.ensures.capacity ∙ was.places;
-      rows = was.rows;
-      whole = rw c.push_back_reserved.ensures.items next.0;
-      kept = rw c.push_back_reserved.ensures.items (record {
-        nodes = λ k. next.1.nodes k ∙ was.kept.nodes k;
-        len = next.1.len ∙ was.kept.len;
-      });
-    }
+    grind arith
 
 pub returns-clause-room : goal.returns-clause-room
 returns-clause-room g c = grind (arith, roomier, slab_len, counted)

@@ -31,9 +31,4 @@ returns g c =
     let filled = filled c.self.invariant.0 c.next_spare-number.result c.index_mut.ensures.value
     (record c.index_mut.result.now { len = 1 }) (c.args.item ∷ []) refl
     (bare_children c.self.invariant.0 parts c.index_mut.ensures.value) parts in
-    rw (
-      ← c.self.view_is,
-      c.put.ensures,
-      ap (λ xs. insert xs 0 c.args.item)
-          (bare_row c.self.invariant.0 parts),
-    ) filled.nodes
+    grind (arith, bare_row c.self.invariant.0 parts)
