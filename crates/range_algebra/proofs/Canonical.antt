@@ -1,5 +1,5 @@
 -- Over complete keys two nonempty ranges that hold the same keys have equal bounds.
-use Rattle.std.proofs.Common.{◌≡◌, refl, sym, ap, ◌∙◌, false, inl, inr}
+use Rattle.std.proofs.Common.{◌≡◌, refl, sym, ap, ◌∙◌, false, inl, inr, arith, rules}
 use Rattle.std.specs.declared.cmp.Ordering.TheVariants.{Less, Equal}
 use Rattle.std.specs.Ordering.{is_gt}
 use Rattle.std.specs.Cmp.{alike_right, tied_itself, upto}
@@ -17,8 +17,6 @@ use Rattle.range_algebra.specs.RangeOrder.{range_cmp, range_total}
 use Rattle.range_algebra.proofs.Holding.{holds_by_position}
 use Rattle.range_algebra.specs.Orders.{lt_not_le, not_lt, both}
 use Rattle.range_algebra.proofs.Completeness.{no_pred, nonempty_holds}
-use Rattle.std.proofs.Common.{arith}
-use Rattle.std.proofs.Common.{rules}
 
 module _ {K : Type 0} (order : KeyOrder K) (lawful : IsLawful order)
     (complete : IsComplete order) where

@@ -1,5 +1,5 @@
 -- Which keys the common part and the hull of two ranges hold.
-use Rattle.std.proofs.Common.{◌≡◌, refl, ap, ◌∙◌, ◌↔◌, ◌⊎◌, inl, inr, if◌then◌else◌}
+use Rattle.std.proofs.Common.{◌≡◌, refl, ap, ◌∙◌, ◌↔◌, ◌⊎◌, inl, inr, if◌then◌else◌, arith, rules}
 use Rattle.std.specs.declared.ops.Bound.{Bound}
 use Rattle.std.specs.declared.cmp.Ordering.{Ordering}
 use Rattle.std.specs.declared.cmp.Ordering.TheVariants.{Greater}
@@ -17,8 +17,6 @@ use Rattle.range_algebra.specs.Orders.{le_refl, lt_le, eq_ge, le_trans}
 use Rattle.range_algebra.specs.Range.{StartHolds, EndHolds, Holds, IsKnownRange}
 use Rattle.range_algebra.specs.Combined.{later_start, earlier_end, earlier_start, later_end, common}
 use Rattle.range_algebra.proofs.Holding.{start_holds, end_holds}
-use Rattle.std.proofs.Common.{arith}
-use Rattle.std.proofs.Common.{rules}
 
 module _ {L : Type 0} (cmp : L → L → Ordering) (total : IsTotalOrder cmp) where
   -- what is greater the other way round is at most
@@ -33,7 +31,7 @@ module _ {K : Type 0} (order : KeyOrder K) (lawful : IsLawful order) where
     later_by : (o : Ordering) → places (start_position order a) (start_position order b) ≡ o
         → Le places (start_position order a) (start_position order (if is_lt o then b else a))
         × Le places (start_position order b) (start_position order (if is_lt o then b else a))
-    later_by v0 e = grind (arith, position_total)
+    later_by o e = grind (arith, position_total)
 
     -- both starts are at most the later
     pub later_over : Le places (start_position order a)
@@ -44,7 +42,7 @@ module _ {K : Type 0} (order : KeyOrder K) (lawful : IsLawful order) where
     earlier_by : (o : Ordering) → places (end_position order a) (end_position order b) ≡ o
         → Le places (end_position order (if is_gt o then b else a)) (end_position order a)
         × Le places (end_position order (if is_gt o then b else a)) (end_position order b)
-    earlier_by v0 e = grind arith
+    earlier_by o e = grind arith
 
     -- the earlier is at most both ends
     pub earlier_under : Le places (end_position order (earlier_end order a b))
@@ -54,13 +52,13 @@ module _ {K : Type 0} (order : KeyOrder K) (lawful : IsLawful order) where
 
     -- the later start, and the earlier end, are one of the two
     later_is_by : (P : Bound K → Type 0) (o : Ordering) → P a → P b → P (if is_lt o then b else a)
-    later_is_by v0 v1 h k = grind arith
+    later_is_by P o h k = grind arith
 
     pub later_is : (P : Bound K → Type 0) → P a → P b → P (later_start order a b)
     later_is P h k = later_is_by P (places (start_position order a) (start_position order b)) h k
 
     earlier_is_by : (P : Bound K → Type 0) (o : Ordering) → P a → P b → P (if is_gt o then b else a)
-    earlier_is_by v0 v1 h k = grind arith
+    earlier_is_by P o h k = grind arith
 
     pub earlier_is : (P : Bound K → Type 0) → P a → P b → P (earlier_end order a b)
     earlier_is P h k = earlier_is_by P (places (end_position order a) (end_position order b)) h k
@@ -69,7 +67,7 @@ module _ {K : Type 0} (order : KeyOrder K) (lawful : IsLawful order) where
     first_by : (o : Ordering) → places (start_position order a) (start_position order b) ≡ o
         → Le places (start_position order (if is_lt o then a else b)) (start_position order a)
         × Le places (start_position order (if is_lt o then a else b)) (start_position order b)
-    first_by v0 e = search (rules, position_total, le_refl, lt_le, eq_ge, gt_le)
+    first_by o e = search (rules, position_total, le_refl, lt_le, eq_ge, gt_le)
 
     pub first_under : Le places (start_position order (earlier_start order a b))
         (start_position order a)
@@ -80,17 +78,17 @@ module _ {K : Type 0} (order : KeyOrder K) (lawful : IsLawful order) where
     last_by : (o : Ordering) → places (end_position order a) (end_position order b) ≡ o
         → Le places (end_position order a) (end_position order (if is_gt o then a else b))
         × Le places (end_position order b) (end_position order (if is_gt o then a else b))
-    last_by v0 e = grind arith
+    last_by o e = grind arith
 
     pub last_over : Le places (end_position order a) (end_position order (later_end order a b))
         × Le places (end_position order b) (end_position order (later_end order a b))
     last_over = last_by (places (end_position order a) (end_position order b)) refl
 
     first_is_by : (P : Bound K → Type 0) (o : Ordering) → P (if is_lt o then a else b) → P a ⊎ P b
-    first_is_by v0 v1 h = grind arith
+    first_is_by P o h = grind arith
 
     last_is_by : (P : Bound K → Type 0) (o : Ordering) → P (if is_gt o then a else b) → P a ⊎ P b
-    last_is_by v0 v1 h = grind arith
+    last_is_by P o h = grind arith
 
   -- a key that a start holds is held by an earlier one
   pub start_below : (a b : Bound K) (k : K) → order.is_key k

@@ -1,5 +1,5 @@
 -- Over complete keys a range whose start is not past its end holds a key.
-use Rattle.std.proofs.Common.{◌≡◌, refl, ap, Option, Some, None, false, IsSome, ◌⊎◌}
+use Rattle.std.proofs.Common.{◌≡◌, refl, ap, Option, Some, None, false, IsSome, ◌⊎◌, arith, rules}
 use Rattle.std.specs.declared.cmp.Ordering.{Ordering}
 use Rattle.std.specs.declared.cmp.Ordering.TheVariants.{Less, Equal, Greater}
 use Rattle.std.specs.Ordering.{is_gt}
@@ -15,11 +15,9 @@ use Rattle.range_keys.proofs.BoundPositions.{IsStart, IsEnd, starts_lie_at_start
 use Rattle.range_algebra.specs.Range.{Holds, IsKeyless, IsEmptyRange, IsKnownRange}
 use Rattle.range_algebra.specs.declared.any.AnyRange.{AnyRange}
 use Rattle.range_algebra.proofs.Holding.{holds_by_position}
-use Rattle.std.proofs.Common.{arith}
-use Rattle.std.proofs.Common.{rules}
 
 pub none_is_not_some : {K : Type 0} (o : Option K) → o ≡ None → IsSome o → ⊥
-none_is_not_some v0 e h = grind arith
+none_is_not_some o e h = grind arith
 
 module _ {K : Type 0} (order : KeyOrder K) (lawful : IsLawful order)
     (complete : IsComplete order) where
@@ -44,17 +42,17 @@ module _ {K : Type 0} (order : KeyOrder K) (lawful : IsLawful order)
       ((c : K) × order.is_key c × Below order a c × Below order c b) → order.succ a ≡ None
       → HasKey (Beside a After) (Beside b Before)
   unfolding HasKey
-  key_lies_between a b v2 e = grind arith
+  key_lies_between a b h e = grind arith
 
   key_lies_past : (a : K) → IsSome order.greatest ⊎ ((c : K) × order.is_key c × Below order a c)
       → order.greatest ≡ None → HasKey (Beside a After) PlusInfinity
   unfolding HasKey
-  key_lies_past a v1 e = grind arith
+  key_lies_past a h e = grind arith
 
   key_lies_under : (b : K) → IsSome order.least ⊎ ((c : K) × order.is_key c × Below order c b)
       → order.least ≡ None → HasKey MinusInfinity (Beside b Before)
   unfolding HasKey
-  key_lies_under b v1 e = grind arith
+  key_lies_under b h e = grind arith
 
   places_have_key_between : (s e : Position K) → IsStart order s → IsEnd order e
       → is_gt (position_cmp order.cmp s e) ≡ false → HasKey s e

@@ -37,9 +37,9 @@ module _ {K : Type 0} (order : KeyOrder K) (lawful : IsLawful order) (len : K �
       → Le (position_cmp order.cmp) p q → Le (position_cmp order.cmp) q r
       → gap p q + gap q r ≡ gap p r
   unfolding gap IsPlace
-  gap_adds v0 q r i j k h l = grind arith
+  gap_adds p q r i j k h l = grind arith
 
   pub gap_fits : (p q : Position K) → IsPlace p → IsPlace q → Le (position_cmp order.cmp) p q
       → gap p q < 2 ^ 128
   unfolding gap IsPlace
-  gap_fits v0 q i j h = grind arith
+  gap_fits p q i j h = grind arith

@@ -1,5 +1,5 @@
 -- The keys that a range's bounds name are its least and its greatest.
-use Rattle.std.proofs.Common.{◌≡◌, refl, sym, ap, ◌∙◌, Option, Some, None, IfSome, IfNone, inl, inr}
+use Rattle.std.proofs.Common.{◌≡◌, refl, sym, ap, ◌∙◌, Option, Some, None, IfSome, IfNone, inl, inr, arith}
 use Rattle.std.specs.declared.ops.Bound.{Bound}
 use Rattle.std.specs.declared.ops.Bound.TheVariants.{Included, Excluded, Unbounded}
 use Rattle.std.specs.declared.cmp.Ordering.TheVariants.{Equal}
@@ -18,7 +18,6 @@ use Rattle.range_algebra.specs.Extremes.{IsLeastOf, IsGreatestOf, HasNoLeast, Ha
 use Rattle.range_algebra.specs.declared.any.AnyRange.{AnyRange}
 use Rattle.range_algebra.proofs.Pieces.{start_up, end_down}
 use Rattle.range_algebra.proofs.Holding.{holds_by_position}
-use Rattle.std.proofs.Common.{arith}
 
 module _ {K : Type 0} (order : KeyOrder K) (lawful : IsLawful order) where
   -- a range that holds a key holds what equals it
@@ -28,11 +27,11 @@ module _ {K : Type 0} (order : KeyOrder K) (lawful : IsLawful order) where
 
   start_named : (b : Bound K) (m : K) → start_key order b ≡ Some m → IsKnownBound order b
       → (start_position order b ≡ Beside m At) × order.is_key m
-  start_named v0 m e key = grind arith
+  start_named b m e key = grind arith
 
   end_named : (b : Bound K) (m : K) → end_key order b ≡ Some m → IsKnownBound order b
       → (end_position order b ≡ Beside m At) × order.is_key m
-  end_named v0 m e key = grind arith
+  end_named b m e key = grind arith
 
   module _ (r : AnyRange K) (known : IsKnownRange order r) (full : ¬ IsEmptyRange order r) where
     least_at : (m k : K) → start_key order r.start ≡ Some m → order.cmp m k ≡ Equal

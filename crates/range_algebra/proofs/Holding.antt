@@ -1,5 +1,5 @@
 -- A range holds the keys whose positions lie from its start to its end.
-use Rattle.std.proofs.Common.{◌≡◌, refl, sym, ap, ◌∙◌, ◌↔◌, Option, Some, true, false}
+use Rattle.std.proofs.Common.{◌≡◌, refl, sym, ap, ◌∙◌, ◌↔◌, Option, Some, true, false, arith}
 use Rattle.std.specs.declared.ops.Bound.{Bound}
 use Rattle.std.specs.declared.ops.Bound.TheVariants.{Excluded}
 use Rattle.std.specs.declared.cmp.Ordering.{Ordering}
@@ -13,22 +13,21 @@ use Rattle.range_algebra.specs.Range.{StartHolds, EndHolds, Holds, IsKeyless, Is
 use Rattle.range_keys.specs.declared.inner.position.Position.TheVariants.{Beside}
 use Rattle.range_keys.specs.declared.inner.position.Side.TheVariants.{Before, At}
 use Rattle.range_algebra.specs.declared.any.AnyRange.{AnyRange}
-use Rattle.std.proofs.Common.{arith}
 
 module _ {K : Type 0} (order : KeyOrder K) (lawful : IsLawful order) where
   pub start_holds : (b : Bound K) (k : K) → order.is_key k → StartHolds order b k
       ↔ is_gt (position_cmp order.cmp (start_position order b) (Beside k At)) ≡ false
-  start_holds v0 k key = grind arith
+  start_holds b k key = grind arith
 
   pred_below_by : (a b : K) (o : Option K) → order.succ a ≡ o → Tells order o b → Below order a b
-  pred_below_by a b v2 e h = grind arith
+  pred_below_by a b o e h = grind arith
 
   pub pred_below : (a b : K) → order.pred b ≡ Some a → Below order a b
   pred_below a b e = pred_below_by a b (order.succ a) refl (lawful.pred_succ a b e)
 
   not_after_by : (a b k : K) (o : Option K) → order.succ a ≡ o → Tells order o b → order.is_key k
       → Below order k b → (r : Ordering) → order.cmp k a ≡ r → is_gt r ≡ false
-  not_after_by a b k o e t key h v8 f = grind arith
+  not_after_by a b k o e t key h r f = grind arith
 
   -- no key lies between a told neighbour and the key that it is told for
   pub not_after : (a b k : K) → order.pred b ≡ Some a → order.is_key k → Below order k b
@@ -39,11 +38,11 @@ module _ {K : Type 0} (order : KeyOrder K) (lawful : IsLawful order) where
   end_told : (b k : K) (o : Option K) → order.pred b ≡ o → order.is_key k
       → EndHolds order (Excluded b) k
       ↔ is_gt (position_cmp order.cmp (Beside k At) (at_told o (Beside b Before))) ≡ false
-  end_told b k v2 e key = grind (arith, not_after, pred_below)
+  end_told b k o e key = grind (arith, not_after, pred_below)
 
   pub end_holds : (b : Bound K) (k : K) → order.is_key k → EndHolds order b k
       ↔ is_gt (position_cmp order.cmp (Beside k At) (end_position order b)) ≡ false
-  end_holds v0 k key = grind (arith, end_told)
+  end_holds b k key = grind (arith, end_told)
 
   -- the position of a held key lies from the start to the end
   pub holds_by_position : (r : AnyRange K) (k : K) → order.is_key k → Holds order r k

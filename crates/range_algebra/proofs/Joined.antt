@@ -1,6 +1,6 @@
 -- Over complete keys two nonempty ranges, the one before the other, touch exactly where no key lies
 -- between.
-use Rattle.std.proofs.Common.{◌≡◌, sym, ap, inl, inr, ◌∙◌, Bool, false, IsTrue, ◌↔◌}
+use Rattle.std.proofs.Common.{◌≡◌, sym, ap, inl, inr, ◌∙◌, Bool, false, IsTrue, ◌↔◌, arith}
 use Rattle.std.specs.declared.cmp.Ordering.TheVariants.{Less}
 use Rattle.std.specs.Ordering.{is_gt}
 use Rattle.std.specs.Cmp.{upto}
@@ -21,7 +21,6 @@ use Rattle.range_algebra.proofs.Completeness.{nonempty_holds}
 use Rattle.range_algebra.proofs.Canonical.{NotPast, IsBefore, KeyFrom}
 use Rattle.range_algebra.proofs.Meeting.{read_before, write_before, write_after, told_before, told_after, gap_apart, between_places, touch_or_key}
 use Rattle.range_algebra.specs.Relations.{AreBelow, AreJoined, LiesBefore, Touches}
-use Rattle.std.proofs.Common.{arith}
 
 module _ {K : Type 0} (order : KeyOrder K) (lawful : IsLawful order) where
   pub before_is : (r s : AnyRange K) (same : Bool)

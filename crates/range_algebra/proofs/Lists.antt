@@ -63,11 +63,11 @@ every_at P (x ∷ xs) (suc k) d h within = every_at P xs k d h.1 (omega arith)
 
 pub every_take : {X : Type 0} (P : X → Type 0) (xs : List X) (n : ℕ) → n ≤ length xs
     → AllWithin P xs 0 n → Every P (take n xs)
-every_take v0 xs n le h = grind (arith, length-take-le, every_all, get_or-take)
+every_take P xs n le h = grind (arith, length-take-le, every_all, get_or-take)
 
 pub every_drop : {X : Type 0} (P : X → Type 0) (xs : List X) (n : ℕ) → n ≤ length xs
     → AllWithin P xs n (length xs) → Every P (drop n xs)
-every_drop v0 xs n le h = grind (arith, common_steps, every_all)
+every_drop P xs n le h = grind (arith, common_steps, every_all)
 
 pub list_is_take_and_drop : {X : Type 0} (xs : List X) (n : ℕ) → xs ≡ take n xs ++ drop n xs
 list_is_take_and_drop xs n = sym (take-append-drop n xs)
@@ -77,7 +77,7 @@ pub parts_at : {X : Type 0} (xs : List X) (n : ℕ) (d : X) → n < length xs
 parts_at xs n d within = grind (arith, list_is_take_and_drop, drop_more)
 
 drop_none : {X : Type 0} (n : ℕ) → drop {A = X} n [] ≡ []
-drop_none v0 = grind arith
+drop_none n = grind arith
 
 pub drop_all : {X : Type 0} (xs : List X) (n : ℕ) → n ≡ length xs → drop n xs ≡ []
 drop_all [] n e = drop_none n

@@ -1,6 +1,6 @@
 -- The measures of ranges in order add up to less than 2 ^ 128, and over counted keys to the number
 -- of their keys.
-use Rattle.std.proofs.Common.{◌≡◌, ℕ, ◌+◌, ◌<◌, ◌≤◌, ◌^◌, inl, inr, refl, sym, ap, subst, ◌∙◌, arith, Option, Some, None, List, [], ◌∷◌, lit<}
+use Rattle.std.proofs.Common.{◌≡◌, ℕ, ◌+◌, ◌<◌, ◌≤◌, ◌^◌, inl, inr, refl, sym, ap, subst, ◌∙◌, arith, Option, Some, None, List, [], ◌∷◌, lit<, rules}
 use Rattle.std.specs.Option.{IsSomeAnd}
 use Rattle.std.specs.declared.ops.Bound.{Bound}
 use Rattle.std.specs.declared.ops.Bound.TheVariants.{Included, Excluded, Unbounded}
@@ -28,12 +28,11 @@ use Rattle.range_algebra.proofs.Joined.{ends_below}
 use Rattle.range_algebra.proofs.Measuring.{included_included, included_excluded, excluded_included, excluded_excluded, told_start, told_end, told_known, told_reach, full_measure, measure_is_number}
 use Rattle.range_algebra.proofs.Numbers.{number_none, number_both}
 use Rattle.range_algebra.proofs.Places.{reaching_is_before_past}
-use Rattle.std.proofs.Common.{rules}
 
 -- a sum that is there has both parts
 sum_parts : (o p : Option ℕ) (n : ℕ) → measure_sum o p ≡ Some n
     → (m : ℕ) × (k : ℕ) × (o ≡ Some m) × (p ≡ Some k) × (m + k ≡ n)
-sum_parts v0 p n e = grind arith
+sum_parts o p n e = grind arith
 
 module _ {K : Type 0} (order : KeyOrder K) (lawful : IsLawful order) where
   ends_after : (s e : Bound K) → IsKnownBound order s → IsKnownBound order e
@@ -56,15 +55,15 @@ module _ {K : Type 0} (order : KeyOrder K) (lawful : IsLawful order) where
   -- in order without the second
   order_without_second : (r s : AnyRange K) (ranges : List (AnyRange K))
       → AreInOrder order (r ∷ s ∷ ranges) → AreInOrder order (r ∷ ranges)
-  order_without_second r s v2 h = grind (arith, before_trans)
+  order_without_second r s ranges h = grind (arith, before_trans)
 
   pub rest_in_order : (r : AnyRange K) (ranges : List (AnyRange K)) → AreInOrder order (r ∷ ranges)
       → AreInOrder order ranges
-  rest_in_order r v1 h = grind arith
+  rest_in_order r ranges h = grind arith
 
   pub first_known : (r : AnyRange K) (ranges : List (AnyRange K)) → AreInOrder order (r ∷ ranges)
       → IsKnownRange order r × ¬ IsEmptyRange order r
-  first_known r v1 h = grind arith
+  first_known r ranges h = grind arith
 
   -- the keys of the first range are below those of all others
   below_all : (r : AnyRange K) (ranges : List (AnyRange K)) (a b : K)
@@ -108,12 +107,12 @@ module _ {K : Type 0} (order : KeyOrder K) (lawful : IsLawful order) where
     -- the place after a key
     measure_after_key : (a : K) (o : Option K) → order.succ a ≡ o → order.is_key a
         → LiesAbove a (at_told o (Beside a After)) (len a)
-    measure_after_key a v1 e key = grind (arith, past_place, behind_key, key_place, between_keys)
+    measure_after_key a o e key = grind (arith, past_place, behind_key, key_place, between_keys)
 
     -- the place before a key, after the neighbour that is told
     before_by : (a b : K) (o : Option K) → order.succ a ≡ o → Tells order o b → order.is_key b
         → LiesAbove b (at_told o (Beside a After)) 0
-    before_by a b v2 e t key = grind (arith, key_place, between_keys)
+    before_by a b o e t key = grind (arith, key_place, between_keys)
 
     before_key : (b : K) (o : Option K) → order.pred b ≡ o → order.is_key b
         → LiesAbove b (past order (at_told o (Beside b Before))) 0
@@ -239,7 +238,7 @@ module _ {K : Type 0} (order : KeyOrder K) (lawful : IsLawful order) where
 
 both_there : (P Q R : ℕ → Type 0) (o p : Option ℕ) → IsSomeAnd o P → IsSomeAnd p Q
     → ((m n : ℕ) → P m → Q n → R (m + n)) → IsSomeAnd (measure_sum o p) R
-both_there v0 v1 v2 v3 p h k f = grind arith
+both_there P Q R o p h k f = grind arith
 
 module _ {K : Type 0} (order : KeyOrder K) (len : K → ℕ) (distance : K → K → ℕ)
     (counts : IsCountedMeasure order len distance) where

@@ -34,12 +34,12 @@ module _ {K : Type 0} (order : KeyOrder K) (lawful : IsLawful order) where
   start_after : (a : K) (o : Option K) → order.succ a ≡ o
       → PLt (Beside a At) (at_told o (Beside a After))
   unfolding PLt
-  start_after a v1 e = grind arith
+  start_after a o e = grind arith
 
   end_before : (b : K) (o : Option K) → order.pred b ≡ o
       → PLt (at_told o (Beside b Before)) (Beside b At)
   unfolding PLt
-  end_before b v1 e = grind (arith, pred_below)
+  end_before b o e = grind (arith, pred_below)
 
   -- the keys of the two bounds of a nonempty range do not cross
   pub included_included : (s e : Bound K) (a b : K) → s ≡ Included a → e ≡ Included b
@@ -91,7 +91,7 @@ module _ {K : Type 0} (order : KeyOrder K) (lawful : IsLawful order) where
   -- a bound that names a key of the type names one after what is told is put in
   pub told_known : (told : Option K) (b : Bound K) → ((m : K) → told ≡ Some m → order.is_key m)
       → IsKnownBound order b → IsKnownBound order (told_bound told b)
-  told_known told v1 keys known = grind arith
+  told_known told b keys known = grind arith
 
   pub full_measure : (len : K → ℕ) (distance : K → K → ℕ) (r : AnyRange K) → ¬ IsEmptyRange order r
       → range_measure order len distance r
@@ -114,14 +114,14 @@ module _ {K : Type 0} {order : KeyOrder K} {index : K → ℕ} {size : ℕ}
 
   start_from : (s : Bound K) (k : K) → IsKnownBound order s → order.is_key k → StartHolds order s k
       ↔ low s ≤ index k
-  start_from v0 k known key = grind (arith, common_steps)
+  start_from s k known key = grind (arith, common_steps)
 
   end_up_to : (e : Bound K) (k : K) → IsKnownBound order e → order.is_key k → EndHolds order e k
       ↔ index k < high e
-  end_up_to v0 k known key = grind (arith, common_steps)
+  end_up_to e k known key = grind (arith, common_steps)
 
   high_fits : (e : Bound K) → IsKnownBound order e → high e ≤ size
-  high_fits v0 known = grind arith
+  high_fits e known = grind arith
 
   -- a range that holds a key holds as many as lie from its first index to its last
   number_held : (r : AnyRange K) → IsKnownRange order r → low r.start < high r.end

@@ -1,5 +1,5 @@
 -- When ranges intersect, and when they are connected, by the keys that they hold.
-use Rattle.std.proofs.Common.{◌≡◌, refl, sym, ap, ◌∙◌, ◌↔◌, true, false, Bool, Some, IsTrue, ◌⊎◌, inl, inr, if◌then◌else◌}
+use Rattle.std.proofs.Common.{◌≡◌, refl, sym, ap, ◌∙◌, ◌↔◌, true, false, Bool, Some, IsTrue, ◌⊎◌, inl, inr, if◌then◌else◌, arith}
 use Rattle.std.specs.declared.ops.Bound.{Bound}
 use Rattle.std.specs.declared.ops.Bound.TheVariants.{Included, Excluded, Unbounded}
 use Rattle.std.specs.declared.cmp.Ordering.{Ordering}
@@ -30,7 +30,6 @@ use Rattle.range_algebra.proofs.Canonical.{NotPast, IsBefore, KeyFrom, key_from}
 use Rattle.range_algebra.proofs.Commons.{later_is, earlier_is, common_holds, common_known}
 use Rattle.range_algebra.proofs.Pieces.{start_decided, end_decided, start_up, end_down}
 use Rattle.std.specs.Cmp.{IsTotalOrder, upto}
-use Rattle.std.proofs.Common.{arith}
 
 -- what a comparison of two intervals says
 module _ {L : Type 0} {cmp : L → L → Ordering} (total : IsTotalOrder cmp) (s e s' e' : L)
@@ -207,7 +206,7 @@ module _ {K : Type 0} (order : KeyOrder K) (lawful : IsLawful order) where
   pub past_is_start : (e q : Position K) (complete : IsComplete order) → IsEnd order e
       → PLt (past order e) q → IsStart order (past order e)
   unfolding IsStart IsEnd
-  past_is_start v0 q complete h l = grind (arith, excluded_start_is_one)
+  past_is_start e q complete h l = grind (arith, excluded_start_is_one)
 
   -- a key from the place past the one on, before the start of the other, lies between their keys
   pub between_places : (r s : AnyRange K) → IsKnownRange order r → IsKnownRange order s → (k : K)

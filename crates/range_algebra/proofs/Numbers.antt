@@ -1,5 +1,5 @@
 -- How many keys there are of a kind.
-use Rattle.std.proofs.Common.{◌≡◌, ℕ, zero, suc, ◌+◌, ◌<◌, ◌≤◌, List, [], ◌∷◌, ◌++◌, length, ◌⊎◌, inl, inr, ◌↔◌, refl, ap, subst, arith, length-append}
+use Rattle.std.proofs.Common.{◌≡◌, ℕ, zero, suc, ◌+◌, ◌<◌, ◌≤◌, List, [], ◌∷◌, ◌++◌, length, ◌⊎◌, inl, inr, ◌↔◌, refl, ap, subst, arith, length-append, rules}
 use Rattle.std.specs.List.{AllByRecursion}
 use Rattle.std.specs.declared.cmp.Ordering.{Ordering}
 use Rattle.std.specs.declared.cmp.Ordering.TheVariants.{Less, Equal, Greater}
@@ -8,7 +8,6 @@ use Rattle.std.specs.Cmp.{IsTotalOrder, tied_itself, ranks}
 use Rattle.range_keys.specs.Order.{KeyOrder, Below}
 use Rattle.range_keys.specs.Counted.{IsCounted}
 use Rattle.range_algebra.specs.Numbers.{Lists, AreRising, IsNumberOfKeys}
-use Rattle.std.proofs.Common.{rules}
 
 module _ {K : Type 0} (order : KeyOrder K) (total : IsTotalOrder order.cmp) where
   all_append : (P : K → Type 0) (xs ys : List K) → AllByRecursion P xs → AllByRecursion P ys
@@ -50,12 +49,12 @@ module _ {K : Type 0} (order : KeyOrder K) (total : IsTotalOrder order.cmp) wher
 
   -- there is no key of a kind that no key is of
   pub number_none : (P : K → Type 0) → ((k : K) → order.is_key k → ¬ P k) → IsNumberOfKeys order P 0
-  number_none v0 none = grind arith
+  number_none P none = grind arith
 
   -- keys of the same kind are as many
   pub number_same : (P Q : K → Type 0) (n : ℕ) → ((k : K) → order.is_key k → P k ↔ Q k)
       → IsNumberOfKeys order P n → IsNumberOfKeys order Q n
-  number_same v0 v1 n same h = grind arith
+  number_same P Q n same h = grind arith
 
   -- keys of two kinds, of which all of the one are below all of the other, add up
   pub number_both : (P Q : K → Type 0) (m n : ℕ)

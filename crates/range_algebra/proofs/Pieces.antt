@@ -1,5 +1,5 @@
 -- Which keys the parts of ranges hold that are cut by one another.
-use Rattle.std.proofs.Common.{◌≡◌, refl, ◌↔◌, true, false, Bool, Option, Some, None, ◌⊎◌, inl, inr, if◌then◌else◌}
+use Rattle.std.proofs.Common.{◌≡◌, refl, ◌↔◌, true, false, Bool, Option, Some, None, ◌⊎◌, inl, inr, if◌then◌else◌, arith, rules}
 use Rattle.std.specs.declared.ops.Bound.{Bound}
 use Rattle.range_keys.specs.Order.{KeyOrder, IsLawful, Below, NotAbove}
 use Rattle.range_keys.proofs.Orderings.{gt_is_greater}
@@ -11,8 +11,6 @@ use Rattle.range_algebra.specs.Combined.{later_start, earlier_end}
 use Rattle.range_algebra.specs.Parts.{is_empty_range, unless_empty, part_to, part_from, part_before, part_after, pieces, difference, DifferenceHolds, LieRound, RangeHolds}
 use Rattle.range_algebra.proofs.Holding.{empty_is_keyless}
 use Rattle.range_algebra.proofs.Commons.{start_both, end_both}
-use Rattle.std.proofs.Common.{arith}
-use Rattle.std.proofs.Common.{rules}
 
 -- whether a range is empty is decided
 pub empty_or_not : {K : Type 0} (order : KeyOrder K) (r : AnyRange K)
@@ -22,34 +20,34 @@ empty_or_not order r = grind arith
 module _ {K : Type 0} (order : KeyOrder K) (lawful : IsLawful order) where
   -- whether a bound holds a key is decided
   pub start_decided : (b : Bound K) (k : K) → StartHolds order b k ⊎ (¬ StartHolds order b k)
-  start_decided v0 k = grind arith
+  start_decided b k = grind arith
 
   pub end_decided : (b : Bound K) (k : K) → EndHolds order b k ⊎ (¬ EndHolds order b k)
-  end_decided v0 k = grind arith
+  end_decided b k = grind arith
 
   -- the bound on the other side of the same place holds the other keys
   pub flipped_end : (b i : Bound K) (k : K) → flipped b ≡ Some i → EndHolds order i k
       ↔ (¬ StartHolds order b k)
-  flipped_end v0 i k e = grind arith
+  flipped_end b i k e = grind arith
 
   pub flipped_start : (b i : Bound K) (k : K) → flipped b ≡ Some i → StartHolds order i k
       ↔ (¬ EndHolds order b k)
-  flipped_start v0 i k e = grind arith
+  flipped_start b i k e = grind arith
 
   none_start : (b : Bound K) (k : K) → flipped b ≡ None → StartHolds order b k
-  none_start v0 k e = grind arith
+  none_start b k e = grind arith
 
   none_end : (b : Bound K) (k : K) → flipped b ≡ None → EndHolds order b k
-  none_end v0 k e = grind arith
+  none_end b k e = grind arith
 
   -- a start that holds a key holds what is not below it
   pub start_up : (b : Bound K) (j k : K) → NotAbove order j k → StartHolds order b j
       → StartHolds order b k
-  start_up v0 j k l h = grind arith
+  start_up b j k l h = grind arith
 
   pub end_down : (b : Bound K) (j k : K) → NotAbove order j k → EndHolds order b k
       → EndHolds order b j
-  end_down v0 j k l h = grind arith
+  end_down b j k l h = grind arith
 
   -- what a start does not hold is below what it holds
   pub start_splits : (b : Bound K) (j k : K) → (¬ StartHolds order b j) → StartHolds order b k
@@ -62,7 +60,7 @@ module _ {K : Type 0} (order : KeyOrder K) (lawful : IsLawful order) where
 
   unless_by : (r : AnyRange K) (k : K) → order.is_key k → (e : Bool) → is_empty_range order r ≡ e
       → RangeHolds order (if e then None else Some r) k ↔ Holds order r k
-  unless_by r k key v3 e = grind (arith, empty_is_keyless)
+  unless_by r k key h e = grind (arith, empty_is_keyless)
 
   pub unless_holds : (r : AnyRange K) (k : K) → order.is_key k
       → RangeHolds order (unless_empty order r) k ↔ Holds order r k
@@ -105,7 +103,7 @@ module _ {K : Type 0} (order : KeyOrder K) (lawful : IsLawful order) where
   pieces_hold : (left right : Option (AnyRange K)) (met : Bool) (k : K)
       → DifferenceHolds order (pieces order left right met) k
       ↔ (RangeHolds order left k ⊎ RangeHolds order right k)
-  pieces_hold v0 v1 met k = grind arith
+  pieces_hold left right met k = grind arith
 
   -- what holds no key of a range lies on one of its sides
   sides_hold : (r s : AnyRange K) (k : K) → order.is_key k
@@ -159,14 +157,14 @@ module _ {K : Type 0} (order : KeyOrder K) (lawful : IsLawful order) where
       → ((a b : K) → order.is_key a → order.is_key b → Holds order s a → RangeHolds order right b
       → Below order a b)
       → LieRound order (pieces order left right met) s
-  pieces_lie v0 v1 met s f g = grind arith
+  pieces_lie left right met s f g = grind arith
 
   lie_by : (r s : AnyRange K) → (¬ IsEmptyRange order s) → (d e : Bool) → is_empty_range order r ≡ d
       → is_empty_range order s ≡ e
       → LieRound order (if d then Empty
       else (if e then Before r false else pieces order (part_before order r s)
       (part_after order r s) (matches (range_ordering order r s) false))) s
-  lie_by r s full v3 e f g = grind (arith, pieces_lie, before_below, after_above)
+  lie_by r s full d e f g = grind (arith, pieces_lie, before_below, after_above)
 
   -- the parts lie on the sides of the other range that they say
   pub difference_lies : (r s : AnyRange K) → (¬ IsEmptyRange order s)

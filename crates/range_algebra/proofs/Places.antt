@@ -1,5 +1,5 @@
 -- What lies below what, by the laws of the keys.
-use Rattle.std.proofs.Common.{◌≡◌, ◌↔◌, Option, Some}
+use Rattle.std.proofs.Common.{◌≡◌, ◌↔◌, Option, Some, arith, rules}
 use Rattle.std.specs.declared.ops.Bound.{Bound}
 use Rattle.std.specs.declared.ops.Bound.TheVariants.{Unbounded}
 use Rattle.std.specs.declared.cmp.Ordering.TheVariants.{Equal}
@@ -15,8 +15,6 @@ use Rattle.range_algebra.specs.Compared.{flipped}
 use Rattle.range_algebra.proofs.Holding.{holds_by_position}
 use Rattle.range_algebra.specs.Intervals.{Le, Lt}
 use Rattle.range_algebra.specs.Cuts.{past, lower, upper}
-use Rattle.std.proofs.Common.{arith}
-use Rattle.std.proofs.Common.{rules}
 
 module _ {K : Type 0} (order : KeyOrder K) (lawful : IsLawful order) where
   abbrev PLe : Position K → Position K → Type 0
@@ -43,23 +41,23 @@ module _ {K : Type 0} (order : KeyOrder K) (lawful : IsLawful order) where
 
   flipped_by : (a p : K) (o : Option K) → Tells order o a
       → position_cmp order.cmp (at_told o (Beside p After)) (Beside a At) ≡ Equal
-  flipped_by a p v2 t = grind arith
+  flipped_by a p o t = grind arith
 
   flipped_told : (a : K) (o : Option K) → order.pred a ≡ o
       → position_cmp order.cmp (past order (at_told o (Beside a Before))) (Beside a At) ≡ Equal
-  flipped_told a v1 e = grind (arith, flipped_by)
+  flipped_told a o e = grind (arith, flipped_by)
 
   -- the place past an end is that of the start bound just past it
   pub flipped_bound_is_past : (b i : Bound K) → flipped b ≡ Some i
       → position_cmp order.cmp (past order (end_position order b)) (start_position order i) ≡ Equal
-  flipped_bound_is_past v0 i e = grind (arith, flipped_told)
+  flipped_bound_is_past b i e = grind (arith, flipped_told)
 
   pub flipped_back : (b i : Bound K) → flipped b ≡ Some i → flipped i ≡ Some b
-  flipped_back v0 i e = grind arith
+  flipped_back b i e = grind arith
 
   pub flipped_known : (b i : Bound K) → flipped b ≡ Some i → IsKnownBound order b
       → IsKnownBound order i
-  flipped_known v0 i e h = grind arith
+  flipped_known b i e h = grind arith
 
   -- an unbounded start is the least
   pub unbounded_start : (b : Bound K) → IsKnownBound order b

@@ -1,5 +1,5 @@
 -- The parts of two ranges: together the keys of both, in order.
-use Rattle.std.proofs.Common.{◌≡◌, refl, ◌↔◌, true, false, Bool, Option, Some, None, ◌⊎◌, inl, inr, if◌then◌else◌}
+use Rattle.std.proofs.Common.{◌≡◌, refl, ◌↔◌, true, false, Bool, Option, Some, None, ◌⊎◌, inl, inr, if◌then◌else◌, arith, rules}
 use Rattle.std.specs.Option.{option_map, option_or}
 use Rattle.std.specs.declared.ops.Bound.{Bound}
 use Rattle.range_keys.specs.Order.{KeyOrder, IsLawful, Below}
@@ -24,8 +24,6 @@ use Rattle.range_algebra.proofs.Commons.{later_over, earlier_under, common_holds
 use Rattle.range_algebra.proofs.Meeting.{before_is}
 use Rattle.std.specs.Cmp.{upto}
 use Rattle.range_algebra.proofs.Pieces.{start_decided, end_decided, before_holds, after_holds, unless_holds, before_below, after_above}
-use Rattle.std.proofs.Common.{arith}
-use Rattle.std.proofs.Common.{rules}
 
 module _ {K : Type 0} (order : KeyOrder K) (lawful : IsLawful order) where
   abbrev PLt : Position K → Position K → Type 0
@@ -44,7 +42,7 @@ module _ {K : Type 0} (order : KeyOrder K) (lawful : IsLawful order) where
 
   unless_some : (r x : AnyRange K) (d : Bool) → is_empty_range order r ≡ d
       → (if d then None else Some r) ≡ Some x → is_empty_range order r ≡ false
-  unless_some r x v2 e h = grind arith
+  unless_some r x d e h = grind arith
 
   -- there is a part before another range only where the range starts before it
   to_some : (r x : AnyRange K) (b : Bound K) (o : Option (Bound K)) → flipped b ≡ o
@@ -110,27 +108,27 @@ module _ {K : Type 0} (order : KeyOrder K) (lawful : IsLawful order) where
   either_subject : (x y : Option (AnyRange K)) (k : K) → IsOfSubject order (either x y) k
       → RangeHolds order x k
   unfolding either
-  either_subject v0 y k h = grind arith
+  either_subject x y k h = grind arith
 
   either_object : (x y : Option (AnyRange K)) (k : K) → IsOfObject order (either x y) k
       → RangeHolds order y k
   unfolding either
-  either_object v0 y k h = grind arith
+  either_object x y k h = grind arith
 
   either_part : (x y : Option (AnyRange K)) (k : K) → PartHolds order (either x y) k
       → RangeHolds order x k ⊎ RangeHolds order y k
   unfolding either
-  either_part v0 y k h = grind arith
+  either_part x y k h = grind arith
 
   either_first : (x y : Option (AnyRange K)) (k : K) → RangeHolds order x k
       → PartHolds order (either x y) k
   unfolding either
-  either_first v0 y k h = grind arith
+  either_first x y k h = grind arith
 
   either_second : (x y : Option (AnyRange K)) (k : K) → x ≡ None → RangeHolds order y k
       → PartHolds order (either x y) k
   unfolding either
-  either_second v0 y k e h = grind arith
+  either_second x y k e h = grind arith
 
   excluded_keys_are_below : (s : AnyRange K) (a b : K) → order.is_key a → order.is_key b
       → PLe (start_position order s.start) (end_position order s.end)
@@ -244,15 +242,15 @@ module _ {K : Type 0} (order : KeyOrder K) (lawful : IsLawful order) where
 
     object_part : (o : Option (AnyRange K)) (k : K) → PartHolds order (option_map Object o) k
         ↔ RangeHolds order o k
-    object_part v0 k = grind arith
+    object_part o k = grind arith
 
     object_subject : (o : Option (AnyRange K)) (k : K) → IsOfSubject order (option_map Object o) k
         → ⊥
-    object_subject v0 k h = grind arith
+    object_subject o k h = grind arith
 
     object_object : (o : Option (AnyRange K)) (k : K) → IsOfObject order (option_map Object o) k
         → RangeHolds order o k
-    object_object v0 k h = grind arith
+    object_object o k h = grind arith
 
     first_empty : is_empty_range order r ≡ true
         → IsProduct order r s (record
@@ -272,7 +270,7 @@ module _ {K : Type 0} (order : KeyOrder K) (lawful : IsLawful order) where
         }
         else (if e then record { before = None; intersection = None; after = Some (Subject r) }
         else full_product order r s))
-    product_by v0 e f g = grind (arith, first_empty, second_empty, full_is)
+    product_by d e f g = grind (arith, first_empty, second_empty, full_is)
 
     pub product_is : IsProduct order r s (product order r s)
     product_is = product_by (is_empty_range order r) (is_empty_range order s) refl refl

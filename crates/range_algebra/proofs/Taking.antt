@@ -1,5 +1,5 @@
 -- Bounds that are taken from one range into another.
-use Rattle.std.proofs.Common.{◌≡◌, ◌↔◌, true, false, Bool, ◌⊎◌, if◌then◌else◌}
+use Rattle.std.proofs.Common.{◌≡◌, ◌↔◌, true, false, Bool, ◌⊎◌, if◌then◌else◌, arith}
 use Rattle.std.specs.declared.ops.Bound.{Bound}
 use Rattle.std.specs.declared.cmp.Ordering.{Ordering}
 use Rattle.std.specs.declared.cmp.Ordering.TheVariants.{Equal}
@@ -11,7 +11,6 @@ use Rattle.range_algebra.specs.Combined.{earlier_start, later_end, common}
 use Rattle.range_algebra.specs.Range.{StartHolds, EndHolds, Holds, ClonesAreEqual}
 use Rattle.range_algebra.proofs.Canonical.{equal_is_same}
 use Rattle.range_algebra.proofs.Commons.{start_either, end_either, common_holds}
-use Rattle.std.proofs.Common.{arith}
 
 -- what the order of keys says of a clone that equals its source
 pub clones_tie : {K : Type 0} (order : KeyOrder K) (is_clone : K → K → Type 0) (eq : K → K → Bool)
@@ -22,11 +21,11 @@ clones_tie order is_clone eq cmp agrees ties clones x y h = grind arith
 
 module _ {K : Type 0} (order : KeyOrder K) (lawful : IsLawful order) where
   pub own_taken : (t : Bool) (a b : Bound K) → t ≡ true → SameBound order (if t then a else b) a
-  own_taken v0 a b e = grind arith
+  own_taken t a b e = grind arith
 
   pub other_taken : (t : Bool) (a b c : Bound K) → t ≡ false → SameBound order b c
       → SameBound order (if t then a else b) c
-  other_taken v0 a b c e h = grind arith
+  other_taken t a b c e h = grind arith
 
   same_start_holds : (a b : Bound K) (k : K) → order.is_key k → SameBound order a b
       → StartHolds order a k ↔ StartHolds order b k

@@ -1,4 +1,4 @@
-use Rattle.std.proofs.Common.{◌≡◌, arith, ap, subst, sym, ◌∙◌}
+use Rattle.std.proofs.Common.{◌≡◌, arith, ap, subst}
 use Rattle.std.specs.declared.ops.Bound.TheVariants.{Included, Excluded}
 use Rattle.std.specs.Range.Bound.{bound_map}
 use Rattle.std.specs.Ordering.{is_gt}
@@ -11,12 +11,8 @@ pub distance-requires-in-Included-Excluded : goal.distance-requires-in-Included-
 distance-requires-in-Included-Excluded g c =
     let a = c.get.result.now in
     let b = c.get-in-Included-Excluded.result.now in
-    let start : bound_map key_value c.args.start.now ≡ Included a =
-    ap (bound_map key_value) c.in-Included-Excluded.is-0
-    ∙ ap Included (sym c.get.ensures) in
-    let end : bound_map key_value c.args.end.now ≡ Excluded b =
-    ap (bound_map key_value) c.in-Included-Excluded.is-1
-    ∙ ap Excluded (sym c.get-in-Included-Excluded.ensures) in
+    let start : bound_map key_value c.args.start.now ≡ Included a = cc in
+    let end : bound_map key_value c.args.end.now ≡ Excluded b = cc in
     ap is_gt (included_excluded g.T.MaybeBounded.order g.met.T.PartialEnum.lawful _ _ a b start end
     c.requires.nonempty)
 
@@ -24,12 +20,8 @@ pub distance-requires-in-Excluded-Included : goal.distance-requires-in-Excluded-
 distance-requires-in-Excluded-Included g c =
     let a = c.get-a-in-Excluded-Included.result.now in
     let b = c.get-b-in-Excluded-Included.result.now in
-    let start : bound_map key_value c.args.start.now ≡ Excluded a =
-    ap (bound_map key_value) c.in-Excluded-Included.is-0
-    ∙ ap Excluded (sym c.get-a-in-Excluded-Included.ensures) in
-    let end : bound_map key_value c.args.end.now ≡ Included b =
-    ap (bound_map key_value) c.in-Excluded-Included.is-1
-    ∙ ap Included (sym c.get-b-in-Excluded-Included.ensures) in
+    let start : bound_map key_value c.args.start.now ≡ Excluded a = cc in
+    let end : bound_map key_value c.args.end.now ≡ Included b = cc in
     ap is_gt (excluded_included g.T.MaybeBounded.order g.met.T.PartialEnum.lawful _ _ a b start end
     c.requires.nonempty)
 
@@ -38,12 +30,8 @@ overflow_sub-result g c =
     let order = g.T.MaybeBounded.order in
     let a = c.get-a-in-Excluded-Included.result.now in
     let b = c.get-b-in-Excluded-Included.result.now in
-    let start : bound_map key_value c.args.start.now ≡ Excluded a =
-    ap (bound_map key_value) c.in-Excluded-Included.is-0
-    ∙ ap Excluded (sym c.get-a-in-Excluded-Included.ensures) in
-    let end : bound_map key_value c.args.end.now ≡ Included b =
-    ap (bound_map key_value) c.in-Excluded-Included.is-1
-    ∙ ap Included (sym c.get-b-in-Excluded-Included.ensures) in
+    let start : bound_map key_value c.args.start.now ≡ Excluded a = cc in
+    let end : bound_map key_value c.args.end.now ≡ Included b = cc in
     let low = subst (IsKnownBound order) start c.requires.known_start in
     let high = subst (IsKnownBound order) end c.requires.known_end in
     let below =
@@ -56,12 +44,8 @@ overflow_add-result-in-Excluded-Included g c =
     let order = g.T.MaybeBounded.order in
     let a = c.get-a-in-Excluded-Included.result.now in
     let b = c.get-b-in-Excluded-Included.result.now in
-    let start : bound_map key_value c.args.start.now ≡ Excluded a =
-    ap (bound_map key_value) c.in-Excluded-Included.is-0
-    ∙ ap Excluded (sym c.get-a-in-Excluded-Included.ensures) in
-    let end : bound_map key_value c.args.end.now ≡ Included b =
-    ap (bound_map key_value) c.in-Excluded-Included.is-1
-    ∙ ap Included (sym c.get-b-in-Excluded-Included.ensures) in
+    let start : bound_map key_value c.args.start.now ≡ Excluded a = cc in
+    let end : bound_map key_value c.args.end.now ≡ Included b = cc in
     let low = subst (IsKnownBound order) start c.requires.known_start in
     let high = subst (IsKnownBound order) end c.requires.known_end in
     let below =
@@ -73,12 +57,8 @@ pub distance-requires-in-Excluded-Excluded : goal.distance-requires-in-Excluded-
 distance-requires-in-Excluded-Excluded g c =
     let a = c.get-a-in-Excluded-Excluded.result.now in
     let b = c.get-b-in-Excluded-Excluded.result.now in
-    let start : bound_map key_value c.args.start.now ≡ Excluded a =
-    ap (bound_map key_value) c.in-Excluded-Excluded.is-0
-    ∙ ap Excluded (sym c.get-a-in-Excluded-Excluded.ensures) in
-    let end : bound_map key_value c.args.end.now ≡ Excluded b =
-    ap (bound_map key_value) c.in-Excluded-Excluded.is-1
-    ∙ ap Excluded (sym c.get-b-in-Excluded-Excluded.ensures) in
+    let start : bound_map key_value c.args.start.now ≡ Excluded a = cc in
+    let end : bound_map key_value c.args.end.now ≡ Excluded b = cc in
     ap is_gt (excluded_excluded g.T.MaybeBounded.order g.met.T.PartialEnum.lawful _ _ a b start end
     c.requires.nonempty)
 
@@ -87,12 +67,8 @@ overflow_sub-result-in-Excluded-Excluded g c =
     let order = g.T.MaybeBounded.order in
     let a = c.get-a-in-Excluded-Excluded.result.now in
     let b = c.get-b-in-Excluded-Excluded.result.now in
-    let start : bound_map key_value c.args.start.now ≡ Excluded a =
-    ap (bound_map key_value) c.in-Excluded-Excluded.is-0
-    ∙ ap Excluded (sym c.get-a-in-Excluded-Excluded.ensures) in
-    let end : bound_map key_value c.args.end.now ≡ Excluded b =
-    ap (bound_map key_value) c.in-Excluded-Excluded.is-1
-    ∙ ap Excluded (sym c.get-b-in-Excluded-Excluded.ensures) in
+    let start : bound_map key_value c.args.start.now ≡ Excluded a = cc in
+    let end : bound_map key_value c.args.end.now ≡ Excluded b = cc in
     let low = subst (IsKnownBound order) start c.requires.known_start in
     let high = subst (IsKnownBound order) end c.requires.known_end in
     let below =

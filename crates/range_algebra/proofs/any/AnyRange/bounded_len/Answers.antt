@@ -1,7 +1,7 @@
-use Rattle.std.proofs.Common.{rules, ◌≡◌, ap, subst, sym, ◌∙◌}
+use Rattle.std.proofs.Common.{rules, ◌≡◌, subst, sym}
 use Rattle.std.specs.Option.{IsSomeAnd}
 use Rattle.std.specs.Range.Bound.{bound_map}
-use Rattle.range_keys.specs.Position.{bound_of, key_value}
+use Rattle.range_keys.specs.Position.{key_value}
 use Rattle.range_algebra.specs.Measures.{told_bound}
 use Rattle.range_algebra.specs.Numbers.{IsNumberOfKeys}
 use Rattle.range_algebra.specs.Range.{Holds, IsEmptyRange}
@@ -14,9 +14,7 @@ measured-requires-clause-known_start g c =
     let lawful = g.met.T.PartialEnum.lawful in
     let bound = c.args.self.now.start in
     let start : bound_map key_value c.with_told-start.result ≡ told_bound order.least bound =
-    c.with_told-start.ensures
-    ∙ ap (λ told. told_bound told (bound_of c.start_bound.result)) c.min.ensures
-    ∙ ap (told_bound order.least) (c.start_bound.ensures tt) in
+    cc (c.start_bound.ensures tt) in
     rw start (told_known order lawful order.least bound lawful.least_key c.known.ensures.0)
 
 pub measured-requires-clause-known_end : goal.measured-requires-clause-known_end
@@ -25,9 +23,7 @@ measured-requires-clause-known_end g c =
     let lawful = g.met.T.PartialEnum.lawful in
     let bound = c.args.self.now.end in
     let end : bound_map key_value c.with_told-end.result ≡ told_bound order.greatest bound =
-    c.with_told-end.ensures
-    ∙ ap (λ told. told_bound told (bound_of c.end_bound.result)) c.max.ensures
-    ∙ ap (told_bound order.greatest) (c.end_bound.ensures tt) in
+    cc (c.end_bound.ensures tt) in
     rw end (told_known order lawful order.greatest bound lawful.greatest_key c.known.ensures.1)
 
 pub measured-requires-clause-nonempty : goal.measured-requires-clause-nonempty
@@ -36,13 +32,9 @@ measured-requires-clause-nonempty g c =
     let r = c.args.self.now in
     let full : ¬ IsEmptyRange order r = search rules in
     let start : bound_map key_value c.with_told-start.result ≡ told_bound order.least r.start =
-    c.with_told-start.ensures
-    ∙ ap (λ told. told_bound told (bound_of c.start_bound.result)) c.min.ensures
-    ∙ ap (told_bound order.least) (c.start_bound.ensures tt) in
+    cc (c.start_bound.ensures tt) in
     let end : bound_map key_value c.with_told-end.result ≡ told_bound order.greatest r.end =
-    c.with_told-end.ensures
-    ∙ ap (λ told. told_bound told (bound_of c.end_bound.result)) c.max.ensures
-    ∙ ap (told_bound order.greatest) (c.end_bound.ensures tt) in
+    cc (c.end_bound.ensures tt) in
     rw (start, end) (told_reach order g.met.T.PartialEnum.lawful r full)
 
 pub returns-clause-measure : goal.returns-clause-measure
@@ -51,13 +43,9 @@ returns-clause-measure g c =
     let r = c.args.self.now in
     let full : ¬ IsEmptyRange order r = search rules in
     let start : bound_map key_value c.with_told-start.result ≡ told_bound order.least r.start =
-    c.with_told-start.ensures
-    ∙ ap (λ told. told_bound told (bound_of c.start_bound.result)) c.min.ensures
-    ∙ ap (told_bound order.least) (c.start_bound.ensures tt) in
+    cc (c.start_bound.ensures tt) in
     let end : bound_map key_value c.with_told-end.result ≡ told_bound order.greatest r.end =
-    c.with_told-end.ensures
-    ∙ ap (λ told. told_bound told (bound_of c.end_bound.result)) c.max.ensures
-    ∙ ap (told_bound order.greatest) (c.end_bound.ensures tt) in
+    cc (c.end_bound.ensures tt) in
     let whole =
     full_measure order g.met.T.PartialEnum.lawful g.T.Measure.len g.T.Measure.distance r
     full in
