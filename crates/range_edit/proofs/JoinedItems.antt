@@ -1,6 +1,6 @@
 -- Which item a range joins on each side: the one that reaches out of it, or else the one that touches
 -- it.
-use Rattle.range_edit.proofs.Common.{arith, ◌≡◌, ◌↔◌, ℕ, ◌+◌, ◌-◌, ◌<◌, ◌∙◌, List, length, take, drop, get_or, get_or_read, get_or-take, get_or-drop, length-take-le, length-drop, Option, Some, None, MatchOption, Bool, true, false, IsEquivalence, KeyOrder, IsLawful, AnyRange, IsKnownRange, Item, Window, IsWindow, ReachesBefore, ReachesAfter, TouchesBefore, TouchesNoneBefore, TouchesAfter, TouchesNoneAfter, Touches, option_items, lower, upper, item_lower, item_upper, PLe, PLt, lt_le, le_lt_trans, lt_le_trans, every_at}
+use Rattle.range_edit.proofs.Common.{arith, ◌≡◌, ◌↔◌, ℕ, ◌+◌, ◌-◌, ◌<◌, List, length, take, get_or, get_or_read, get_or-take, get_or-drop, length-take-le, length-drop, Option, Some, None, MatchOption, Bool, true, false, IsEquivalence, KeyOrder, IsLawful, AnyRange, Item, Window, IsWindow, ReachesBefore, ReachesAfter, TouchesBefore, TouchesNoneBefore, TouchesAfter, TouchesNoneAfter, Touches, option_items, lower, upper, item_lower, item_upper, PLe, PLt, lt_le, le_lt_trans, lt_le_trans, every_at}
 use Rattle.range_edit.specs.Plans.{IsJoinedLeft, IsJoinedRight}
 use Rattle.range_runs.proofs.CoveredPlaces.{chained_items_have_places}
 use Rattle.range_runs.proofs.Forms.{stored_chain, touches_is}

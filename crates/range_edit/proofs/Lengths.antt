@@ -1,5 +1,5 @@
 -- How long a list is once it was changed.
-use Rattle.range_edit.proofs.Common.{common_steps, ◌≡◌, ℕ, ◌+◌, ◌≤◌, List, ◌++◌, length, take, drop, arith, Option, None, Bound, AnyRange, Item, Border, BorderSide, IsBorderShape, joined_count, option_items}
+use Rattle.range_edit.proofs.Common.{common_steps, ◌≡◌, ℕ, ◌+◌, ◌≤◌, List, ◌++◌, length, take, drop, arith, Option, Bound, AnyRange, Item, Border, BorderSide, IsBorderShape, option_items}
 
 -- an option names at most one item
 pub one_item : {T : Type 0} (o : Option T) → length (option_items o) ≤ 1

@@ -1,5 +1,5 @@
 -- That a container can be changed as planned, and how many items it then has.
-use Rattle.range_edit.proofs.Common.{common_steps, ◌≡◌, ℕ, ◌+◌, ◌*◌, ◌≤◌, List, ◌++◌, length, take, drop, ap, sym, arith, subst, Option, Bool, IsEquivalence, ForSome, Bound, KeyOrder, IsLawful, AnyRange, place_before, IsAt, Item, kept_at, good_at, IsGoodBorder, IsLeftShape, IsRightShape, left_side, right_side, IsReach, option_items, Border}
+use Rattle.range_edit.proofs.Common.{common_steps, ◌≡◌, ℕ, ◌+◌, ◌*◌, ◌≤◌, List, ◌++◌, length, take, drop, arith, Option, Bool, IsEquivalence, ForSome, Bound, KeyOrder, IsLawful, AnyRange, place_before, IsAt, Item, kept_at, good_at, IsGoodBorder, IsLeftShape, IsRightShape, IsReach, option_items, Border}
 use Rattle.range_edit.specs.declared.reach.Reach.{Reach}
 use Rattle.range_edit.specs.Reach.{AreApart}
 use Rattle.range_edit.proofs.BoundEdits.{shape_kept, border_good}

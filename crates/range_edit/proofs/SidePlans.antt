@@ -1,5 +1,5 @@
 -- What is planned on both sides of a range for a list that comes to stand there.
-use Rattle.range_edit.proofs.Common.{Bor, option_copied, subst, common_steps, ◌≡◌, ℕ, ◌+◌, ◌-◌, ◌<◌, ◌≤◌, inl, inr, List, [], ◌∷◌, ◌++◌, length, take, get_or, refl, ap, ◌∙◌, arith, Option, Some, None, Bool, true, slice_get, IsEquivalence, tied_itself, position_total, Bound, KeyOrder, IsLawful, AnyRange, IsAt, Item, joined_count, IsLeftShape, IsRightShape, right_side, IsRunStart, IsReach, IsWindow, IsStored, IsKnownBound, SameBound, flipped_bound, seam_border, option_items, Border, Window, AreWithin, ReachesBefore, ReachesAfter, with_start, with_end, with_first_start, lower, upper, item_lower, item_upper, PLe, lt_not_le}
+use Rattle.range_edit.proofs.Common.{Bor, option_copied, common_steps, ◌≡◌, ℕ, ◌+◌, ◌-◌, ◌<◌, ◌≤◌, inl, inr, List, [], ◌∷◌, ◌++◌, length, take, get_or, refl, ap, ◌∙◌, arith, Option, Some, None, Bool, true, slice_get, IsEquivalence, tied_itself, position_total, Bound, KeyOrder, IsLawful, AnyRange, IsAt, Item, joined_count, IsLeftShape, IsRightShape, right_side, IsRunStart, IsReach, IsWindow, IsStored, IsKnownBound, SameBound, flipped_bound, seam_border, option_items, Border, Window, AreWithin, ReachesBefore, ReachesAfter, with_start, with_end, with_first_start, lower, upper, item_lower, item_upper, PLe, lt_not_le}
 use Rattle.range_edit.specs.declared.borders.Joins.{Joins}
 use Rattle.range_edit.specs.declared.reach.Reach.{Reach}
 use Rattle.range_edit.specs.Borders.{IsSeamAt, run_length}

@@ -1,5 +1,5 @@
 -- That the closure of an update may have answered the first pieces without an error.
-use Rattle.range_edit.proofs.Common.{◌≡◌, ◌<◌, Bool, List, [], ◌∷◌, length, map, arith, Option, Some, Result, Ok, Shared, Bor, Every, KeyOrder, AnyRange, Any, Item, Answered, AreAnswersTo, IsGathered, MayAnswer, SucceedsAtFirst, piece_of}
+use Rattle.range_edit.proofs.Common.{◌<◌, Bool, List, [], ◌∷◌, length, map, arith, Option, Result, Ok, Shared, Bor, Every, KeyOrder, AnyRange, Any, Item, Answered, AreAnswersTo, IsGathered, MayAnswer, SucceedsAtFirst, piece_of}
 use Rattle.std.proofs.lemmas.Grind.{common_steps}
 
 module _ {K : Type 0} (order : KeyOrder K) {V : Type 0} (same : V → V → Bool) {F E : Type 0}

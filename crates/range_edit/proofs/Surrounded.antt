@@ -1,16 +1,19 @@
 -- What becomes of the one item that a range meets where it surrounds the range.
-use Rattle.range_edit.proofs.Common.{ReachesBefore, ReachesAfter, IsStored, position_total, tied_itself, common_steps, ◌≡◌, ℕ, ◌+◌, ◌-◌, ◌<◌, ◌≤◌, List, [], ◌∷◌, ◌++◌, length, take, drop, get_or, refl, ap, sym, ◌∙◌, arith, Option, Some, None, Result, Bool, true, false, IsTrue, IsEquivalence, Shared, Bor, Every, KeyOrder, IsLawful, SameBound, lower, upper, IsKnownBound, AnyRange, Item, AnswersPiece, MayAnswer, IsInserted, IsRemoved, IsDivided, flipped_bound, with_end, Overlap, IsConnectedTo, ArePieces, IsReach, IsSurrounded, option_items, Window, PLt, lt_le}
+use Rattle.range_edit.proofs.Common.{AnswersPiece, AnyRange, ArePieces, Bool, Bor, Every, IsCommonPart, start_position, inl, IsConnectedTo, IsDivided, IsEquivalence, IsInserted, IsKnownBound, IsLawful, IsReach, IsRemoved, IsStored, IsSurrounded, IsTrue, Item, KeyOrder, List, MayAnswer, None, Option, Overlap, PLe, PLt, ReachesAfter, ReachesBefore, Result, SameBound, Shared, Some, Window, [], ap, arith, both, common_steps, drop, end_position, every_append, every_left, every_right, false, flipped_bound, get_or, is_gt, item_lower, item_upper, le_lt_trans, le_refl, length, line_of, lower, lt_le, lt_le_trans, lt_trans, option_items, position_cmp, position_total, refl, subst, sym, take, tied_itself, true, upper, with_end, ℕ, ◌++◌, ◌+◌, ◌-◌, ◌<◌, ◌∙◌, ◌∷◌, ◌≡◌}
 use Rattle.range_edit.specs.declared.cut.DividedItem.{DividedItem}
 use Rattle.range_edit.specs.declared.reach.Reach.{Reach}
-use Rattle.range_runs.proofs.RangePieces.{IsFull, all_full, item_at}
+use Rattle.range_runs.proofs.RangePieces.{IsFull, all_full, cut_all, earlier_under, either_choice_holds, every_with, item_at, later_over}
 use Rattle.range_runs.proofs.ItemPlaces.{listed_at}
 use Rattle.range_edit.proofs.RangeSides.{inserted, removed}
 use Rattle.range_edit.proofs.SewnSides.{first_reaches, last_starts, left_side_cut, left_side_joined, own_stored, own_within, right_side_cut, right_side_joined}
 use Rattle.range_runs.proofs.Tests.{not_both}
 use Rattle.range_runs.proofs.Forms.{Chained, stored_chain, nonempty_good}
-use Rattle.range_edit.proofs.MergedItems.{surrounded_alone}
+use Rattle.range_edit.proofs.ApartRanges.{apart_not}
+use Rattle.range_runs.proofs.Chains.{chain_right, chain_before, follows_above}
+use Rattle.range_runs.proofs.CoveredPlaces.{overlap_is}
+use Rattle.range_runs.proofs.Extents.{end_le}
+use Rattle.range_runs.proofs.Overlaps.{any_at}
 use Rattle.range_edit.proofs.BoundEdits.{standing_item_splits_list}
-use Rattle.range_edit.proofs.UpdatedLists.{whole_piece}
 
 module _ {K : Type 0} {order : KeyOrder K} {V : Type 0} {same : V → V → Bool} {P : Type 0}
     {is_good : P → Type 0} {rank : P → ℕ} {items : List (Item (AnyRange K) V)} {r : AnyRange K}
@@ -130,17 +133,66 @@ module _ {K : Type 0} {order : KeyOrder K} (lawful : IsLawful order) {V : Type 0
   good : PLt lawful (lower order r) (upper order r)
   good = (nonempty_good order lawful r within.window.known).0 within.window.nonempty
 
+  starts : PLt lawful (item_lower order x) (lower order r)
+  starts = within.starts x here
+
+  ends : PLt lawful (upper order r) (item_upper order x)
+  ends = within.ends x here
+
+  abbrev IsAlone : Item (AnyRange K) V → Type 0
+  IsAlone i = IsConnectedTo order i.key r → Overlap order i.key r
+
   -- no other item touches the range
   pub alone : Every (λ i. IsConnectedTo order i.key r → Overlap order i.key r) items
-  alone = surrounded_alone order lawful same equal items r within.window.known good full chain
-      (take place items) (drop (place + 1) items) x split (within.starts x here)
-      (within.ends x here)
+  alone =
+      let line = line_of order lawful same equal in
+      let known = within.window.known in
+      let done = take place items in
+      let rest = drop (place + 1) items in
+      let whole = rw split at chain in
+      let all = subst (λ ys. Every (IsFull order lawful items r) ys) split full in
+      let own = every_right _ done (x ∷ rest) all in
+      let after = follows_above line x rest (chain_right line done (x ∷ rest) whole).1 in
+      let front = every_with _ _ IsAlone done (chain_before line done x rest whole)
+      (every_left _ done (x ∷ rest) all) (λ i h f c. absurd ((apart_not order lawful i.key r f.0
+      known f.1 good (le_lt_trans lawful _ _ _ h.0 starts)).0 c)) in
+      let behind = every_with _ _ IsAlone rest after own.1 (λ i h f c. absurd
+      ((apart_not order lawful r i.key known f.0 good f.1 (lt_le_trans lawful _ _ _ ends h)).1 c)) in
+      let around = (overlap_is order lawful x.key r own.0.0 known).1
+      (lt_trans lawful _ _ _ starts good, lt_trans lawful _ _ _ good ends) in
+      subst (λ ys. Every IsAlone ys) (sym split)
+      (every_append IsAlone done (x ∷ rest) front ((λ c. around), behind))
+
+  whole_common : IsCommonPart order r x.key r
+  whole_common =
+      let cmp = position_cmp order.cmp in
+      let p = start_position order r.start in
+      let q = start_position order x.key.start in
+      let u = end_position order r.end in
+      let v = end_position order x.key.end in
+      let known_x = (item_at (IsFull order lawful items r) items place x full within_list here).0 in
+      let under =
+      end_le order lawful r.end x.key.end within.window.known.1 known_x.1 (lt_le lawful _ _ ends) in
+      record {
+        starts = both lawful _ _ (later_over order lawful p q).0 (either_choice_holds order lawful
+            (λ y. PLe lawful y p) (is_gt (cmp p q)) p q (le_refl lawful p) (lt_le lawful _ _ starts));
+        ends = both lawful _ _ (either_choice_holds order lawful (λ y. PLe lawful u y)
+            (is_gt (cmp u v)) v u under (le_refl lawful u)) (earlier_under order lawful u v).0;
+      }
 
   -- the whole range is the one piece
   pub only_piece : ArePieces order items r (record { key = r; value = Some x.value } ∷ [])
-  only_piece = whole_piece order lawful same equal items r within.window.known full chain good
-      (take place items) (drop (place + 1) items) x split (item_at (IsFull order lawful items r)
-      items place x full within_list here).0 (within.starts x here) (within.ends x here)
+  only_piece = cut_all order lawful items r within.window.known same equal full chain
+      (record { key = r; value = Some x.value } ∷ []) (record {
+        inside = ((within.window.known, le_refl lawful _, good, le_refl lawful _), tt);
+        right = (
+          any_at (λ i. IsCommonPart order r i.key r × (i.value ≡ x.value)) items place x
+              within_list here (whole_common, refl),
+          tt,
+        );
+        rising = (tt, tt);
+        covered = λ m from upto. inl (from, upto);
+      })
 
   -- what the closure may answer to its value
   pub only_answered : {F E : Type 0}

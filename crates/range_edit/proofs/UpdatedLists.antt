@@ -1,8 +1,6 @@
 -- A list that was changed as a closure answers, by what was put in the place of a range.
-use Rattle.range_edit.proofs.Common.{arith, common_steps, ◌≡◌, refl, ◌∙◌, Option, Some, None, Bool, true, IsTrue, List, [], ◌∷◌, ◌++◌, ◌⊎◌, inl, inr, ◌↔◌, Result, Ok, Shared, Bor, Every, is_gt, IsEquivalence, KeyOrder, IsLawful, end_position, position_cmp, AnyRange, IsKnownRange, Any, le_refl, lt_le, both, PLe, PLt, any_right, every_weaker, every_left, every_right, Item, MayAnswer, Answered, IsAsAnswered, IsGivenBy, IsGathered, IsUpdated, AreAnswersTo, Binds, IsSomeOf, IsInserted, IsRemoved, IsUpdateFrame, IsMergedInto, IsMergeFrame, HasValue, JoinsOrMeets, IsPart, IsInsertionFrame, IsRemovalFrame, IsConnectedTo, Overlap, ArePieces, IsCommonPart, IsReplaced, lower, upper}
-use Rattle.range_runs.proofs.RangePieces.{IsFull, IsInside, IsRight, any_use, any_over, every_with, later_over, earlier_under, either_choice_holds, cut_all}
-use Rattle.range_runs.proofs.Extents.{end_le}
-use Rattle.range_runs.proofs.Forms.{Chained}
+use Rattle.range_edit.proofs.Common.{arith, common_steps, ◌≡◌, ◌∙◌, Option, Some, None, Bool, true, IsTrue, List, [], ◌∷◌, ◌++◌, ◌⊎◌, inl, inr, ◌↔◌, Result, Ok, Shared, Bor, Every, IsEquivalence, KeyOrder, AnyRange, Any, every_weaker, every_left, every_right, Item, MayAnswer, Answered, IsAsAnswered, IsGivenBy, IsGathered, IsUpdated, AreAnswersTo, Binds, IsSomeOf, IsInserted, IsRemoved, IsUpdateFrame, IsMergedInto, IsMergeFrame, HasValue, JoinsOrMeets, IsPart, IsInsertionFrame, IsRemovalFrame, IsConnectedTo, Overlap, IsReplaced}
+use Rattle.range_runs.proofs.RangePieces.{any_use, any_over, every_with}
 use Rattle.range_edit.proofs.MergedItems.{rest_stands, way_follows}
 
 module _ {K : Type 0} (order : KeyOrder K) {V : Type 0} (same : V → V → Bool)
@@ -111,34 +109,3 @@ module _ {K : Type 0} (order : KeyOrder K) {V : Type 0} (same : V → V → Bool
       };
       frame = removed_frame h.frame;
     }
-
--- a range that one item surrounds is one piece
-module _ {K : Type 0} (order : KeyOrder K) (lawful : IsLawful order) {V : Type 0}
-    (same : V → V → Bool) (equal : IsEquivalence same) (items : List (Item (AnyRange K) V))
-    (r : AnyRange K) (known : IsKnownRange order r) (full : Every (IsFull order lawful items r)
-    items) (chain : Chained order lawful same equal items) (some : PLt lawful (lower order r)
-    (upper order r)) (done rest : List (Item (AnyRange K) V)) (x : Item (AnyRange K) V)
-    (list : items ≡ done ++ x ∷ rest) (known_x : IsKnownRange order x.key)
-    (starts : PLt lawful (lower order x.key) (lower order r)) (ends : PLt lawful (upper order r)
-    (upper order x.key)) where
-  whole_inside : IsInside order lawful items r r
-  whole_inside = grind (arith, common_steps, le_refl)
-
-  whole_common : IsCommonPart order r x.key r
-  whole_common =
-      let cmp = position_cmp order.cmp in
-      let u = end_position order r.end in
-      let v = end_position order x.key.end in
-      let under = end_le order lawful r.end x.key.end known.1 known_x.1 (lt_le lawful _ _ ends) in
-      record {
-        starts = grind (arith, common_steps, both, later_over, either_choice_holds, le_refl, lt_le);
-        ends = both lawful _ _ (either_choice_holds order lawful (λ y. PLe lawful u y)
-            (is_gt (cmp u v)) v u under (le_refl lawful u)) (earlier_under order lawful u v).0;
-      }
-
-  whole_right : IsRight order lawful items r r (Some x.value)
-  whole_right = grind (arith, common_steps, any_right, whole_common)
-
-  pub whole_piece : ArePieces order items r (record { key = r; value = Some x.value } ∷ [])
-  whole_piece = cut_all order lawful items r known same equal full chain
-      (record { key = r; value = Some x.value } ∷ []) (grind (arith, common_steps, whole_inside, whole_right))

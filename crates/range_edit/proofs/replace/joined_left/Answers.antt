@@ -1,20 +1,14 @@
-use Rattle.range_edit.proofs.Common.{both, not_lt, false≢true, refl, ap, inl, inr, option_copied, lower, Lt, AnyRange, Item, item_lower}
-use Rattle.range_runs.proofs.Forms.{places}
+use Rattle.range_edit.proofs.Common.{both, not_lt, false≢true, refl, ap, inl, inr, option_copied}
 use Rattle.range_edit.proofs.SidePlans.{got_none, got_only}
 use Rattle.range_edit.proofs.replace.joined_left.Goals as goal
+use Rattle.std.proofs.lemmas.Grind.{common_steps}
+use Rattle.std.proofs.Common.{arith}
 
 pub returns-in_default : goal.returns-in_default
 returns-in_default g c = inr (got_none _ c.args.next c.in_default.is, refl)
 
 pub returns-then-starts_before : goal.returns-then-starts_before
-returns-then-starts_before g c =
-    let Later = λ (m : Item (AnyRange g.row.K.Denot) g.row.V.Denot). Lt (places
-    g.K.MaybeBounded.order g.met.K.PartialEnum.lawful) (lower g.K.MaybeBounded.order
-    c.args.range.now) (item_lower g.K.MaybeBounded.order m) in
-    inr (
-      got_only Later c.args.next c.in-Some.item c.in-Some.is (c.if-starts_before.ensures.0 refl),
-      refl,
-    )
+returns-then-starts_before g c = grind (arith, common_steps, got_only)
 
 pub returns : goal.returns
 returns g c =

@@ -1,21 +1,15 @@
-use Rattle.range_edit.proofs.Common.{both, not_lt, false≢true, refl, ap, inl, inr, option_copied, upper, Lt, AnyRange, Item, item_upper}
+use Rattle.range_edit.proofs.Common.{both, not_lt, false≢true, refl, ap, inl, inr, option_copied}
 use Rattle.range_runs.proofs.Extents.{past_le}
-use Rattle.range_runs.proofs.Forms.{places}
 use Rattle.range_edit.proofs.SidePlans.{got_none, got_only}
 use Rattle.range_edit.proofs.replace.joined_right.Goals as goal
+use Rattle.std.proofs.lemmas.Grind.{common_steps}
+use Rattle.std.proofs.Common.{arith}
 
 pub returns-in_default : goal.returns-in_default
 returns-in_default g c = inr (got_none _ c.args.previous c.in_default.is, refl)
 
 pub returns-then-ends_after : goal.returns-then-ends_after
-returns-then-ends_after g c =
-    let Earlier = λ (m : Item (AnyRange g.row.K.Denot) g.row.V.Denot). Lt (places
-    g.K.MaybeBounded.order g.met.K.PartialEnum.lawful) (item_upper g.K.MaybeBounded.order m)
-    (upper g.K.MaybeBounded.order c.args.range.now) in
-    inr (
-      got_only Earlier c.args.previous c.in-Some.item c.in-Some.is (c.if-ends_after.ensures.0 refl),
-      refl,
-    )
+returns-then-ends_after g c = grind (arith, common_steps, got_only)
 
 pub returns : goal.returns
 returns g c =
