@@ -1,6 +1,5 @@
 -- The row of a set in the making, one range of its characters after the other.
 use Rattle.std.proofs.Common.{◌≡◌, refl, ◌↔◌, ◌⊎◌, inl, inr, ℕ, nat_eq, IsTrue, List, [], ◌∷◌, Some, None, BTreeSet, arith}
-use Rattle.std.proofs.Common.{rules}
 use Rattle.std.specs.List.{AllByRecursion}
 use Rattle.std.specs.Ordering.{nat_cmp}
 use Rattle.std.specs.BTreeSet.{contains}

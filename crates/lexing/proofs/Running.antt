@@ -1,6 +1,5 @@
 -- A machine that has read some characters.
 use Rattle.std.proofs.Common.{◌≡◌, ℕ, ◌<◌, ◌+◌, ◌*◌, List, [], ◌∷◌, ◌++◌, length, Option, Some, None, BTreeSet, arith}
-use Rattle.std.proofs.Common.{rules}
 use Rattle.std.specs.Prelude.{IfSome, Bool, true}
 use Rattle.std.specs.Char.{is_ascii}
 use Rattle.std.specs.Option.{MatchOption}
@@ -60,7 +59,12 @@ module _ (machine : Machine) where
         → IsRunning (read ++ c ∷ []) next now
     goes_on now best =
         let (reached, stands, by) = goes was.sets was.are was.all was.set was.stands in
-        grind (arith, after_more HasStep Starts read was.set reached c was.after by, best reached, was.are.first next found reached)
+        grind (
+          arith,
+          after_more HasStep Starts read was.set reached c was.after by,
+          best reached,
+          was.are.first next found reached,
+        )
 
     pub running_grows : (rule len : ℕ) → len ≡ bytes_of (read ++ c ∷ []) → found ≡ Some rule
         → IsRunning (read ++ c ∷ []) next (Some (record { rule = rule; len = len }))

@@ -15,10 +15,5 @@ module _ (In : ℕ → ℕ → Type 0) (ranges : List (ℕ × ℕ)) (state : ℕ
   one_read [] s = grind arith
   one_read (c ∷ []) s =
       let (scalar, none) = and_parts _ _ s in
-      let is = λ (q : ℕ). members c q scalar in (
-        λ (t, q, enters, path, ends). (c, refl, ((is t).0 enters).0),
-        λ (d, same, in_it).
-            let one : d ≡ c = cc in
-            (state, state, (is state).1 (rw one at in_it, refl), refl, inl refl),
-      )
+      let is = λ (q : ℕ). members c q scalar in grind (arith, is state)
   one_read (c ∷ d ∷ w) s = grind arith

@@ -15,13 +15,7 @@ use Rattle.lexing_patterns.proofs.Joining.{path-more, path-within}
 use Rattle.lexing_patterns.proofs.Meanings.{language_same}
 
 pub none_drafted : AreDrafted [] [] [] 0 []
-none_drafted = record {
-  edges_below = λ p c q h. absurd h;
-  starts_below = λ p h. absurd h;
-  ends_below = λ q r h. absurd h;
-  ends_at_one = λ q r s h k. absurd h;
-  languages = λ r re at. grind arith;
-}
+none_drafted = grind arith
 
 module _ (edges more_edges : List Edge) (starts more_starts : List ℕ) (ends more_ends : List End)
     (res : List Re) (re : Re) (part : Part) (low start : ℕ)
@@ -70,12 +64,7 @@ module _ (edges more_edges : List Edge) (starts more_starts : List ℕ) (ends mo
   -- the rules before read what they read
   as_before : (r : ℕ) → r < length res → (w : List ℕ)
       → DraftReads more_edges more_starts more_ends r w ↔ DraftReads edges starts ends r w
-  as_before r among w = (
-    λ (p, q, begins, path, stops).
-        let below = was.ends_below q r in
-        grind (arith, begin p, end q r, was.starts_below p, old_path p w q, new_path p w q),
-    λ (p, q, begins, path, stops). grind (arith, begin p, end q r, join_old p w q path),
-  )
+  as_before r among w = grind (arith, old_path, new_path, join_old)
 
   within_part : (p : ℕ) (w : List ℕ) (q : ℕ) → p < start → Path New p w q
       → Path (HasEdge part.edges.items) p w q × (q < start)
@@ -91,8 +80,7 @@ module _ (edges more_edges : List Edge) (starts more_starts : List ℕ) (ends mo
   reads_part : (w : List ℕ) → Reads part w → (q : ℕ) × Path New start w q × Last q
   reads_part [] h = (start, refl, inr (h, refl))
   reads_part (c ∷ w) (s, t, lead, path, stops) =
-      let along = path-more (HasEdge part.edges.items) New (λ p d q e. inl e) s w t path in
-      (t, (s, inr (refl, lead), along), inl stops)
+      grind (arith, path-more (HasEdge part.edges.items) New)
 
   -- the new rule reads what the part does
   as_part : (w : List ℕ) → DraftReads more_edges more_starts more_ends (length res) w
@@ -103,10 +91,8 @@ module _ (edges more_edges : List Edge) (starts more_starts : List ℕ) (ends mo
         let from = last_from q in
         let reads = part_reads w q in
         let old = old_path p w q in
-        let new = new_path p w q in
-        grind (arith, begin p, end q (length res), was.starts_below p),
-    λ h. let (q, path, last) = reads_part w h in
-        grind (arith, begin start, end q (length res), join_new start w q path),
+        grind (arith, new_path p w q, begin p, end q (length res), was.starts_below p),
+    grind (arith, reads_part w, begin start, join_new start w),
   )
 
   pub one_more_drafted : AreDrafted more_edges more_starts more_ends (start + 1) (res ++ re ∷ [])

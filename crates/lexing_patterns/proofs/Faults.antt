@@ -15,11 +15,7 @@ HasLeavesOf b a = (Is : Re → Type 0) → HasLeaf Is a → HasLeaf Is b
 -- a fault of a part is one of the whole, where its leaves are
 pub fault_of : (a b : Re) → HasLeavesOf b a → (error : PatternError) → IsFaultIn a error
     → IsFaultIn b error
-fault_of a b more (Syntax fault) is = is
-fault_of a b more Assertion is = more IsAssertion is
-fault_of a b more NotText is = more IsBytes is
-fault_of a b more TooLarge is = tt
-fault_of a b more Memory is = tt
+fault_of a b more error is = grind (arith, more IsAssertion, more IsBytes)
 
 -- the leaves of one in the list are those of all, in turn or as choices
 pub has_in_turn : (subs : List Hir) (i : ℕ) (sub : Hir) → i < length subs → sub ≡ get_or subs i sub
@@ -46,8 +42,7 @@ has_behind_copies zero a b Is has = has
 has_behind_copies (suc count) a b Is has = inr (has_behind_copies count a b Is has)
 
 has_in_optional : (greedy : Bool) (a : Re) → HasLeavesOf (optional greedy a) a
-has_in_optional true a Is has = inl has
-has_in_optional false a Is has = inr has
+has_in_optional greedy a Is has = grind arith
 
 pub has_in_up_to : (n count : ℕ) (greedy : Bool) (a : Re) → n < count
     → HasLeavesOf (up_to greedy count a) a

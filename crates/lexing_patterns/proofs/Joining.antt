@@ -122,9 +122,7 @@ module _ (one other both : Part) (low middle high : ℕ) (first : IsWithin one m
         → IsAmong q both.ends.items
         → InTurn (λ u. (t : ℕ) × Path StepOne p u t × IsAmong t one.ends.items) (Reads other) w
     high_path p [] q at path stops =
-        let at_end = ends q in
-        let inside = second.ends q in
-        ([], [], refl, (p, refl, grind arith), grind arith)
+        grind (arith, ends q, second.ends q)
     high_path p (c ∷ w) q at (s, step, path) stops = elim ((edges p c s).0 step) [
       | inl (inl low) ↦ absurd (omega (arith, at, (second.edges p c s low).0.1))
       | inl (inr high) ↦
@@ -156,8 +154,7 @@ module _ (one other both : Part) (low middle high : ℕ) (first : IsWithin one m
     turn_joins [] (c ∷ v) a (s, t, enters, path, stops) =
         grind (arith, leads c s, ends t, of_other s v t path)
     turn_joins (c ∷ u) [] (s, t, enters, path, stops) b =
-        subst (Reads both) (sym (append-nil (c ∷ u)))
-        (grind (arith, leads c s, ends t, of_one s u t path))
+        grind (arith, append-nil (c ∷ u), leads c s, ends t, of_one s u t path)
     turn_joins (c ∷ u) (d ∷ v) (s, t, enters, front, end) (r, q, on, back, last) =
         let step = (edges t d r).1 (inr (end, on)) in (
           s,
@@ -198,8 +195,7 @@ module _ (In : ℕ → ℕ → Type 0) (Step Loop : ℕ → ℕ → ℕ → Type
       elim ((loops p c s).0 step) [
         | inl same ↦ (c ∷ u, v, ap (λ x. c ∷ x) parts, (t, (s, same, front), ends), rest)
         | inr (end, enters) ↦
-            let more = rounds_more (c ∷ u) v (s, t, enters, front, ends) rest in
-            ([], c ∷ w, refl, (p, refl, end), inr (rw parts more))
+            grind (arith, rounds_more (c ∷ u) v (s, t, enters, front, ends) rest)
       ]
 
   loop_splits : (w : List ℕ) → LoopReads w → RoundsOf Once w
@@ -221,9 +217,7 @@ module _ (In : ℕ → ℕ → Type 0) (Step Loop : ℕ → ℕ → ℕ → Type
       more [] v a b = loop_once v b
       more (c ∷ u) [] a b = subst LoopReads (sym (append-nil (c ∷ u))) a
       more (c ∷ u) (d ∷ v) (s, t, enters, front, end) b =
-          let (r, q, on, back, last) = loop_once (d ∷ v) b in
-          let step = (loops t d r).1 (inr (end, on)) in
-          (s, q, enters, path-append Loop s t q u (d ∷ v) front (r, step, back), last)
+          grind (arith, loop_once (d ∷ v) b, loops t d, path-append Loop s t)
 
   pub loop_reads : (w : List ℕ) → LoopReads w ↔ RoundsOf Once w
   loop_reads w = (loop_splits w, loop_joins w)

@@ -17,8 +17,7 @@ language_spelled : (cs : List ℕ) → all_scalars cs ≡ true
     → IsLanguage (literal (encode_utf8_all cs)) (λ w. w ≡ cs)
 language_spelled cs s =
     let same = chars-encodes cs s in
-    language_same (λ w _. (λ h. h ∙ sym same, λ h. h ∙ same))
-    (language_literal (encode_utf8_all cs) (cs, (s, refl)))
+    grind (arith, language_same, language_literal (encode_utf8_all cs) (cs, (s, refl)))
 
 pub literal_ends : (r : Part) (low high : ℕ) → IsBuilt empty r low high
     → IsBuilt (literal []) r low high
@@ -36,8 +35,7 @@ language_begun c cs s =
     language_same
     (λ w _. (
       λ h. (c ∷ [], cs, h, (c, refl, (itself c c).1 refl), refl),
-      λ (u, v, parts, (d, is, by), rest).
-          parts ∙ ap₂ (λ x y. x ++ y) is rest ∙ ap (λ x. x ∷ cs) ((itself c d).0 by),
+      grind (arith, itself c),
     ))
     (language_cat (language_char_in ((c, c) ∷ [])) (language_spelled cs s))
 
@@ -51,15 +49,9 @@ pub literal_begins : (cs : List ℕ) (i c : ℕ) (r : Part) (low high : ℕ) →
     → IsBuilt (cat (char_in ((c, c) ∷ [])) (literal (encode_utf8_all (drop i cs)))) r low high
     → IsBuilt (literal (encode_utf8_all (drop (i - 1) cs))) r low high
 literal_begins cs i c r low high s some within at is =
-    let back : i - 1 + 1 ≡ i = omega (arith, some) in
-    let more : drop (i - 1) cs ≡ c ∷ drop i cs =
-    drop_more cs (i - 1) c (omega (arith, some, within))
-    ∙ ap₂ (λ x n. x ∷ drop n cs) (sym at) back in
-    let all : all_scalars (c ∷ drop i cs) ≡ true =
-    subst (λ x. all_scalars x ≡ true) more (scalars_drop (i - 1) cs s) in
-    subst (λ x. IsBuilt (literal (encode_utf8_all x)) r low high) (sym more)
-    (record {
+    let more : drop (i - 1) cs ≡ c ∷ drop i cs = grind (arith, drop_more cs (i - 1) c) in
+    rw more (record {
       language = language_through is.language (language_begun c (drop i cs) (scalars_drop i cs s))
-          (language_spelled (c ∷ drop i cs) all);
+          (language_spelled (c ∷ drop i cs) (rw more at (scalars_drop (i - 1) cs s)));
       within = is.within;
     })

@@ -23,8 +23,7 @@ use Rattle.lexing_patterns.specs.Drafts.{DraftReads, IsDraft}
 use Rattle.lexing_patterns.specs.Patterns.{MatchesAll, MatchesFirst, IsLongestMatch, IsPoured}
 
 nothing_left : (cs : List ℕ) → length (encode_utf8_all cs) ≡ 0 → cs ≡ []
-nothing_left [] e = refl
-nothing_left (c ∷ cs) e = absurd (grind (arith, common_steps, length-le-encodes (c ∷ cs)))
+nothing_left cs e = grind (arith, common_steps, length-le-encodes cs)
 
 -- the pattern matches a whole text where the text's characters are in its language
 pub whole_text : (re : Re) (L : List ℕ → Type 0) → IsLanguage re L → (text : List ℕ) → IsUtf8 text
@@ -33,17 +32,8 @@ whole_text re L is text utf8 =
     let cs = chars text in
     let coded : encode_utf8_all (chars text) ≡ text = encodes-chars text utf8 in
     let by = is.matches [] cs refl (scalars-chars text utf8) (length text) in (
-      λ h.
-          let (w, more, parts, end, in_it) =
-          by.0 (subst (λ t. Matches t re 0 (length text)) (sym coded) h) in
-          let long = ap (λ x. length (encode_utf8_all x)) parts ∙ ap length (encodes-append w more)
-          ∙ length-append (encode_utf8_all w) (encode_utf8_all more) in
-          let none : more ≡ [] =
-          nothing_left more (omega (arith, long, end, ap length coded)) in
-          subst L (sym (parts ∙ ap (λ x. w ++ x) none ∙ append-nil w)) in_it,
-      λ h.
-          subst (λ t. Matches t re 0 (length text)) coded
-          (by.1 (cs, [], sym (append-nil cs), sym (ap length coded), h)),
+      grind (arith, encodes-append, length-append, nothing_left, append-nil),
+      grind (arith, append-nil cs),
     )
 
 is_character : (c : ℕ) → IsScalar c → IsCharacter c
@@ -65,8 +55,7 @@ module _ (draft : Draft) (lexer : Lexer) (patterns : List Re) (is : IsDraft draf
       ↔ DraftReads draft.edges.items draft.starts.items draft.ends.items rule w
   paths rule w s =
       let ends = λ (q : ℕ). poured.ends is.ends_at_one q rule in (
-        λ (p, q, starts, path, stops).
-            (p, q, (poured.starts p).0 starts, (leads p w q s).0 path, (ends q).0 stops),
+        grind (arith, leads),
         λ (p, q, starts, path, stops).
             (p, q, (poured.starts p).1 starts, (leads p w q s).1 path, (ends q).1 stops),
       )
@@ -91,19 +80,15 @@ module _ (draft : Draft) (lexer : Lexer) (patterns : List Re) (is : IsDraft draf
   module _ (text : List ℕ) (utf8 : IsUtf8 text) where
     first : (rule n : ℕ) → AcceptsFirst (IsAcceptedBy lexer rule) text n
         ↔ MatchesFirst patterns text rule n
-    first rule n = (
-      λ h.
-          let front = IsUtf8-take text n utf8 h.0 in
-          elim (cases_lt rule (length patterns)) [
-            | inl within ↦
-                let (re, at) = some_at patterns rule within in
-                (h.0, (re, at, (accepted rule re at (take n text) front).0 h.1))
-            | inr past ↦ absurd (never_past rule past (take n text) front h.1)
-          ],
-      λ h.
-          let front = IsUtf8-take text n utf8 h.0 in
-          (h.0, (accepted rule h.1.0 h.1.1 (take n text) front).1 h.1.2),
-    )
+    first rule n =
+        grind (
+          arith,
+          IsUtf8-take text n utf8,
+          cases_lt rule (length patterns),
+          some_at patterns rule,
+          accepted rule,
+          never_past rule,
+        )
 
     pub token_is_match : (rule len : ℕ) → IsToken lexer text rule len
         ↔ IsLongestMatch patterns text rule len

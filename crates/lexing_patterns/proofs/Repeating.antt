@@ -16,7 +16,4 @@ repeat_star greedy a = refl
 pub repeat_plus : (least : ℕ) (greedy : Bool) (a : Re) → ¬ (least ≡ 0)
     → repeat least None greedy a ≡ copies (least - 1) a (plus greedy a)
 unfolding repeat
-repeat_plus zero greedy a some = absurd (some refl)
-repeat_plus (suc least) greedy a some =
-    let less : suc least - 1 ≡ least = omega arith in
-    ap (λ n. copies n a (plus greedy a)) (sym less)
+repeat_plus least greedy a some = grind arith

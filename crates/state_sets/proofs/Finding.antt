@@ -45,5 +45,8 @@ module _ (before after : Sets) (set copy key : BTreeSet ℕ) (are : AreFound bef
     found = λ i other at.
         let place = slice_get-push before.listed.items copy i other in
         grind (arith, are.found i other, updates other, equal_by_keys key other, new i other);
-    stands = grind (arith, added_index before.listed.items after.listed.items, keeps_pushed before.listed.items after.listed.items copy pushed, equal_by_keys key);
+    stands = λ q i at.
+        let index = added_index before.listed.items after.listed.items q copy pushed in
+        let kept = keeps_pushed before.listed.items after.listed.items copy pushed in
+        grind (arith, are.stands q i, updates q, equal_by_keys key q);
   }

@@ -49,4 +49,14 @@ module _ (Accepted : List ℕ → Type 0) where
 
     pub bytes_of_chars : (n : ℕ) → IsAcceptedFront (chars text) n → AcceptsFirst Accepted text n
     bytes_of_chars n (k, within, bytes, accepted) =
-        grind (arith, take-append-drop k (chars text), encodes-chars text utf8, encodes-append, scalars_in_parts, scalars-chars text utf8, IsCharBoundary-at_seam text, take-append_seam, chars-encodes) steps 2000000
+        let front = take k (chars text) in
+        let rest = drop k (chars text) in
+        let parts = take-append-drop k (chars text) in
+        let coded : text ≡ encodes front ++ encodes rest =
+        grind (arith, encodes-chars text utf8, encodes-append front rest) in
+        let scalar = scalars_in_parts front rest (ap scalars parts ∙ scalars-chars text utf8) in
+        let cut =
+        IsCharBoundary-at_seam text (encodes front) (encodes rest) coded
+        (rest, (scalar.1, refl)) in
+        let taken = take-append_seam (encodes front) (encodes rest) in
+        grind (arith, chars-encodes front scalar.0)

@@ -28,7 +28,11 @@ module _ {S : Type 0} {steps : S → Option ℕ → S → Type 0} {s : S} {all :
   pub read_more : (c : ℕ) → next ≡ Some c → steps t next u
       → (rest : List ℕ) × (all ≡ read ++ c ∷ rest)
   read_more c is step =
-      grind (arith, YieldsList-so_far yields read t so_far, YieldsList-turn yields read t so_far next u c is step, take-append-drop (length read) all, drop-cons all (length read) c, map-id read)
+      let front = YieldsList-so_far yields read t so_far in
+      let turn = YieldsList-turn yields read t so_far next u c is step in
+      let split = take-append-drop (length read) all in
+      let back = drop-cons all (length read) c turn.0 in
+      (drop (length read + 1) all, grind (arith, map-id read))
 
   pub read_all : next ≡ None → steps t next u → read ≡ all
   read_all is step = sym (map-id read) ∙ (YieldsList-end yields read t so_far next u is step).0

@@ -1,5 +1,4 @@
 use Rattle.std.proofs.Common.{◌≡◌, refl, length, arith}
-use Rattle.std.proofs.Common.{rules}
 use Rattle.std.proofs.lemmas.Option.{slice_get_read}
 use Rattle.std.proofs.lemmas.Result.{err_from_is_err_and}
 use Rattle.btree_range_map.specs.Characters.{character_counted}
@@ -15,10 +14,32 @@ reached : (c : In-Some)
     → IsReached (rules_in c.args.lexer.now) c.in-Some.targets.now
 reached c =
     let rules = rules_in c.args.lexer.now in
-    grind (arith, c.iter-entries.ensures.form, c.stored_lists_are_coarse.ensures.coarse (counted_complete character_counted) c.iter-entries.result c.iter-entries.ensures.form, slice_get_read c.args.sets.now.listed.items (length c.args.sets.now.listed.items) c.args.at c.index.result.now refl (omega arith) c.index.ensures, c.index.ensures, next_reached rules c.index.result.now c.in_ok-leads.leads c.iter-entries.result c.iter-entries.ensures.items c.in_ok-leads.ensures.leads (c.stored_sets_have_all_values.ensures c.iter-entries.result c.iter-entries.ensures.form) c.loop-range.sets.listed.items c.loop-range.row c.loop-range.entries c.loop-range.invariant.row, c.iter-entries.ensures.items, c.in_ok-leads.ensures.leads, c.stored_sets_have_all_values.ensures c.iter-entries.result c.iter-entries.ensures.form, c.loop-range.invariant.row, c.in-Some.ensures.steps, c.requires.met.reached c.args.at c.index.result.now)
+    let sets = c.args.sets.now.listed.items in
+    let set = c.index.result.now in
+    let all = c.iter-entries.result in
+    let form = c.iter-entries.ensures.form in
+    let entry : Entry = record { key = c.in-Some.range.now; value = c.in-Some.targets.now } in
+    let coarse =
+    c.stored_lists_are_coarse.ensures.coarse (counted_complete character_counted) all form in
+    let stands =
+    slice_get_read sets (length sets) c.args.at set refl (omega arith)
+    c.index.ensures in
+    next_reached rules set c.in_ok-leads.leads all c.iter-entries.ensures.items
+    c.in_ok-leads.ensures.leads (c.stored_sets_have_all_values.ensures all form)
+    c.loop-range.sets.listed.items c.loop-range.row c.loop-range.entries c.loop-range.invariant.row entry
+    c.next.new.self c.in-Some.ensures.steps coarse.keyed
+    (c.requires.met.reached c.args.at set stands)
 
 pub loop-range-init : goal.loop-range-init
-loop-range-init c = grind (arith, c.requires.few, c.requires.met, c.requires.found, row_none c.args.sets.now.listed.items c.iter-entries.result c.iter-entries.result c.new-row.result c.new-row.ensures refl, c.new-row.ensures)
+loop-range-init c = record {
+  kept = λ i x h. h;
+  longer = omega arith;
+  few = c.requires.few;
+  met = c.requires.met;
+  found = c.requires.found;
+  row = row_none c.args.sets.now.listed.items c.iter-entries.result c.iter-entries.result c.new-row.result
+      c.new-row.ensures refl;
+}
 
 pub loop-range-preserved : goal.loop-range-preserved
 loop-range-preserved c =
@@ -43,7 +64,12 @@ returns-in_err-next-clause-kept c =
 
 pub returns-in_err-next-clause-refused : goal.returns-in_err-next-clause-refused
 returns-in_err-next-clause-refused c =
-    grind (arith, err_from_is_err_and c.from_residual-in_err-next.result c.from_residual-in_err-next.ensures.1, c.from_residual-in_err-next.ensures.1, c.in_err-next.ensures.refused (rules_in c.args.lexer.now) c.loop-range.invariant.met, c.loop-range.invariant.met, reached)
+    let was =
+    err_from_is_err_and c.from_residual-in_err-next.result c.from_residual-in_err-next.ensures.1 in
+    let found = (goal.at.returns-in_err-next-clause-refused c).In-Some in
+    rw (was.1, was.2)
+    (c.in_err-next.ensures.refused (rules_in c.args.lexer.now) c.loop-range.invariant.met
+    (reached found))
 
 pub returns-in_err-insert-clause-kept : goal.returns-in_err-insert-clause-kept
 returns-in_err-insert-clause-kept c =
@@ -52,4 +78,16 @@ returns-in_err-insert-clause-kept c =
 pub returns-clause-row : goal.returns-clause-row
 returns-clause-row c =
     let rules = rules_in c.args.lexer.now in
-    grind (arith, slice_get_read c.args.sets.now.listed.items (length c.args.sets.now.listed.items) c.args.at c.index.result.now refl (omega arith) c.index.ensures, c.index.ensures, row_all rules c.index.result.now c.in_ok-leads.leads c.iter-entries.result c.iter-entries.ensures.items c.in_ok-leads.ensures.leads (c.stored_sets_have_all_values.ensures c.iter-entries.result c.iter-entries.ensures.form) c.loop-range.sets.listed.items c.loop-range.row c.loop-range.entries c.loop-range.invariant.row c.in_default.ensures.steps.0, c.iter-entries.ensures.items, c.in_ok-leads.ensures.leads, c.stored_sets_have_all_values.ensures c.iter-entries.result c.iter-entries.ensures.form, c.iter-entries.ensures.form, c.loop-range.invariant.row, c.in_default.ensures.steps.0)
+    let sets = c.args.sets.now.listed.items in
+    let first = c.index.result.now in
+    let all = c.iter-entries.result in
+    let stood =
+    slice_get_read sets (length sets) c.args.at first refl (omega arith) c.index.ensures in
+    λ set stands.
+    let same : first ≡ set = cc in
+    rw (← same)
+    (row_all rules first c.in_ok-leads.leads all c.iter-entries.ensures.items
+    c.in_ok-leads.ensures.leads
+    (c.stored_sets_have_all_values.ensures all c.iter-entries.ensures.form)
+    c.loop-range.sets.listed.items c.loop-range.row c.loop-range.entries c.loop-range.invariant.row
+    c.in_default.ensures.steps.0)

@@ -1,5 +1,4 @@
 use Rattle.std.proofs.Common.{arith}
-use Rattle.std.proofs.Common.{rules}
 use Rattle.lexing.specs.Lexers.{rules_in}
 use Rattle.lexing.proofs.Growing.{states_none}
 use Rattle.lexing.proofs.Meeting.{met_first}
@@ -7,4 +6,12 @@ use Rattle.lexing.proofs.build.states_of.Goals as goal
 
 pub loop-alloc-init : goal.loop-alloc-init
 loop-alloc-init c =
-    grind (arith, c.in_ok-sets.ensures.first, states_none c.args.lexer.now c.in_ok-sets.sets.listed.items c.new-states.result c.in_ok-sets.ensures.first c.new-states.ensures.rows c.new-states.ensures.dense c.new-states.ensures.rules, c.new-states.ensures.rows, c.new-states.ensures.dense, c.new-states.ensures.rules, c.in_ok-sets.ensures.first.1, met_first (rules_in c.args.lexer.now) c.in_ok-sets.sets.listed.items c.in_ok-sets.ensures.first, c.in_ok-sets.ensures.found)
+    let sets = c.in_ok-sets.sets.listed.items in
+    let first = c.in_ok-sets.ensures.first in
+    record {
+      states = states_none c.args.lexer.now sets c.new-states.result first c.new-states.ensures.rows
+          c.new-states.ensures.dense c.new-states.ensures.rules;
+      few = grind (arith, first.1);
+      met = met_first (rules_in c.args.lexer.now) sets first;
+      found = c.in_ok-sets.ensures.found;
+    }

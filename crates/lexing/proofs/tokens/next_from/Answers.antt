@@ -5,7 +5,15 @@ use Rattle.lexing.proofs.tokens.next_from.Goals as goal
 pub loop-at-preserved : goal.loop-at-preserved
 loop-at-preserved g c =
     let lexer = g.S.Scanner.lexer c.args.scanner.now in
-    grind (arith, c.loop-at.invariant, token_boundary lexer c.args.text.now c.loop-at.at c.in-Ok.token c.loop-at.invariant.boundary.0 c.in-Ok.ensures, c.loop-at.invariant.boundary.0, c.in-Ok.ensures, token_further lexer c.args.text.now c.loop-at.at c.in-Ok.token c.in-Ok.ensures, skipped_more lexer c.args.text.now c.args.start c.loop-at.at c.in-Ok.token c.loop-at.invariant.skipped c.in-Ok.ensures (c.if-not-is_skipped.ensures.0 refl), c.loop-at.invariant.skipped, c.if-not-is_skipped.ensures.0 refl)
+    let text = c.args.text.now in
+    let was = c.loop-at.invariant in
+    let token = c.in-Ok.token in
+    record {
+      boundary = token_boundary lexer text c.loop-at.at token was.boundary.0 c.in-Ok.ensures;
+      further = omega (arith, token_further lexer text c.loop-at.at token c.in-Ok.ensures);
+      skipped = skipped_more lexer text c.args.start c.loop-at.at token was.skipped c.in-Ok.ensures
+          (c.if-not-is_skipped.ensures.0 refl);
+    }
 
 pub returns-in-Err-NoToken-clause-next : goal.returns-in-Err-NoToken-clause-next
 returns-in-Err-NoToken-clause-next g c =

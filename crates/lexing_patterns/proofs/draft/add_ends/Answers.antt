@@ -8,10 +8,7 @@ pub loop-state-preserved : goal.loop-state-preserved
 loop-state-preserved c =
     λ q r.
     let more = take_more c.args.states.now c.loop-state.state-index 0 c.loop-state-test.true in
-    let state = any-push (λ (state : ℕ). q ≡ state) _ _ _ more in
-    let end =
-    any-push (λ (end : End). (q ≡ end.state) × (r ≡ end.rule)) _ _ _ c.in_ok-push.ensures.items in
-    grind (arith, c.loop-state.invariant q r)
+    grind (arith, any-push, c.loop-state.invariant q r)
 
 pub returns : goal.returns
 returns c =

@@ -18,21 +18,17 @@ returns c =
     } in
     let leads : (d q : ℕ) → Leads both.leads.items d q
     ↔ (Leads other.leads.items d q ⊎ Leads one.leads.items d q) =
-    λ d q. rw (c.in_ok-extend_from_slice.ensures.items, c.deref.ensures.value)
-    (any-append (LeadsBy d q) other.leads.items one.leads.items) in
+    λ d q. grind (arith, any-append (LeadsBy d q) other.leads.items one.leads.items) in
     let ends : (q : ℕ) → IsAmong q both.ends.items
     ↔ (IsAmong q other.ends.items ⊎ IsAmong q one.ends.items) =
-    λ q. rw (c.in_ok-extend_from_slice-2.ensures.items, c.deref-2.ensures.value)
-    (is_among-append other.ends.items one.ends.items q) in
+    λ q. grind (arith, is_among-append other.ends.items one.ends.items q) in
     let edges : (p d q : ℕ) → HasEdge both.edges.items p d q
     ↔ (HasEdge other.edges.items p d q ⊎ HasEdge one.edges.items p d q) =
-    λ p d q. rw (c.in_ok-extend_from_slice-3.ensures.items, c.deref-3.ensures.value)
-    (has_edge-append other.edges.items one.edges.items p d q) in
-    let empty : IsTrue c.if-empty.empty ↔ (IsTrue other.empty ⊎ IsTrue one.empty) = grind arith in
+    λ p d q. grind (arith, has_edge-append other.edges.items one.edges.items p d q) in
     record {
       reads = λ low middle high back front.
-          either_reads one other both low middle high front back leads ends edges empty;
+          either_reads one other both low middle high front back leads ends edges (grind arith);
       within = λ low middle high below above back front.
-          either_within one other both low middle high front back leads ends edges empty below
-          above;
+          either_within one other both low middle high front back leads ends edges (grind arith)
+          below above;
     }

@@ -26,16 +26,7 @@ returns c =
     ⊎ (IsAmong p front.ends.items × Leads back.leads.items d q)) =
     λ p d q.
     let old = has_edge-append back.edges.items front.edges.items p d q in
-    let made : HasEdge both.edges.items p d q
-    ↔ (HasEdge (back.edges.items ++ front.edges.items) p d q
-    ⊎ (IsAmong p front.ends.items × Leads back.leads.items d q)) =
-    rw (
-      ← c.deref-2.ensures.value,
-      ← c.deref-3.ensures.value,
-      ← c.deref.ensures.value,
-      ← c.in_ok-extend_from_slice.ensures.items,
-    ) (c.in_ok-link_all.ensures p d q) in
-    grind arith in
+    grind (arith, c.in_ok-link_all.ensures p d q) in
     let empty : IsTrue c.if-front.empty ↔ (IsTrue front.empty × IsTrue back.empty) = grind arith in
     record {
       reads = λ low middle high of_back of_front.

@@ -11,11 +11,7 @@ loop-lead-preserved c =
     λ p d q.
     let none : Lead = record { first = 0; last = 0; to = 0 } in
     let more = take_more c.args.leads.now c.loop-lead.lead-index none c.loop-lead-test.true in
-    let lead = any-push (LeadsBy d q) _ _ _ more in
-    let edge =
-    any-push (λ (edge : Edge). (p ≡ edge.from) × LeadsBy d q edge.lead) _ _ _
-    c.in_ok-push.ensures.items in
-    grind (arith, c.loop-lead.invariant p d q)
+    grind (arith, any-push (LeadsBy d q), any-push, c.loop-lead.invariant p d q)
 
 pub returns : goal.returns
 returns c =

@@ -7,8 +7,7 @@ pub loop-state-preserved : goal.loop-state-preserved
 loop-state-preserved c =
     λ p d q.
     let more = take_more c.args.states.now c.loop-state.state-index 0 c.loop-state-test.true in
-    let state = any-push (λ (state : ℕ). p ≡ state) _ _ _ more in
-    grind (arith, c.loop-state.invariant p d q, c.in_ok-link.ensures p d q)
+    grind (arith, any-push, c.loop-state.invariant p d q, c.in_ok-link.ensures p d q)
 
 pub returns : goal.returns
 returns c =

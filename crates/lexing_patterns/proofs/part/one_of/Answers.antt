@@ -12,12 +12,7 @@ returns-clause-reads c =
 
 pub returns-clause-within : goal.returns-clause-within
 returns-clause-within c = record {
-  leads = λ d q h.
-      let is = c.in_ok-leads.ensures.one d q h in (omega (arith, is), omega (arith, is));
-  ends = λ q h.
-      elim (rw c.in_ok-ends.ensures.items at h) [
-        | inl is ↦ (omega (arith, is), omega (arith, is))
-        | inr none ↦ absurd none
-      ];
-  edges = λ p d q h. absurd (rw c.new.ensures.items at h);
+  leads = λ d q h. grind (arith, c.in_ok-leads.ensures.one d q h);
+  ends = λ q h. grind arith;
+  edges = λ p d q h. grind arith;
 }

@@ -9,8 +9,7 @@ returns c =
     let part = c.args.part in
     let edges : (p d q : ℕ) → HasEdge c.link_all.new.edges.items p d q
     ↔ (HasEdge part.edges.items p d q ⊎ (IsAmong p part.ends.items × Leads part.leads.items d q)) =
-    λ p d q. rw (← c.deref.ensures.value, ← c.deref-2.ensures.value)
-    (c.in_ok-link_all.ensures p d q) in
+    λ p d q. grind (arith, c.in_ok-link_all.ensures p d q) in
     record {
       reads = loop_reads (Leads part.leads.items) (HasEdge part.edges.items)
           (HasEdge c.link_all.new.edges.items) (λ q. IsAmong q part.ends.items)

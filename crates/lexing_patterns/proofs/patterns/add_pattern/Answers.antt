@@ -1,4 +1,5 @@
 use Rattle.std.proofs.Common.{refl, subst, ◌∙◌, map}
+use Rattle.std.proofs.Common.{arith}
 use Rattle.std.specs.Option.{option_map}
 use Rattle.std.specs.String.{string_bytes}
 use Rattle.regex_hir.specs.Meaning.{meaning}
@@ -13,6 +14,5 @@ returns-in-Ok-parse-clause-added c =
     let read = subst (λ config. Reads config c.args.pattern.now hir names) c.default.ensures
     c.in-Ok-parse.ensures.ok in
     on_ok_weaker c.add.result
-    (λ more res number was.
-    (meaning hir, (hir, names, read, refl), more res (c.in-Ok.ensures.1 ∙ number) was))
+    (grind arith)
     c.add.ensures.added

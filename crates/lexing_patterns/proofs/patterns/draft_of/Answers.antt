@@ -28,27 +28,17 @@ pub loop-i-preserved : goal.loop-i-preserved
 loop-i-preserved c =
     let (res, len, read, draft) = c.loop-i.invariant in
     let (re, is, more) = c.in-Ok.ensures.added res len draft in
-    let front = take c.loop-i.i c.args.rules.now in
-    let next = get_or c.args.rules.now c.loop-i.i no_rule in (
-      res ++ re ∷ [],
-      omega (arith, len, length-append res (re ∷ [])),
-      rw (take_more c.args.rules.now c.loop-i.i no_rule c.loop-i-test.true)
-          (read_more front res next re read is),
-      more,
+    grind (
+      arith,
+      length-append res (re ∷ []),
+      take_more c.args.rules.now c.loop-i.i no_rule c.loop-i-test.true,
+      read_more,
     )
 
 pub returns-clause-drafted : goal.returns-clause-drafted
 returns-clause-drafted c =
-    let all : length c.args.rules.now ≤ c.loop-i.i = omega arith in
-    let (res, len, read, draft) = c.loop-i.invariant in (res, rw take_all at read, draft)
+    grind (arith, take_all)
 
 pub returns-in-Err-clause-refused : goal.returns-in-Err-clause-refused
 returns-in-Err-clause-refused c =
-    let (res, len, read, draft) = c.loop-i.invariant in
-    inr (
-      get_or c.args.rules.now c.loop-i.i no_rule,
-      slice_get-get_or c.args.rules.now c.loop-i.i no_rule c.loop-i-test.true,
-      c.in-Err.ensures.refused,
-      res,
-      read,
-    )
+    grind (arith, slice_get-get_or c.args.rules.now c.loop-i.i no_rule c.loop-i-test.true)

@@ -1,12 +1,10 @@
 use Rattle.lexing_patterns.proofs.Promise.{token_is_match}
+use Rattle.std.proofs.Common.{arith}
 use Rattle.lexing_patterns.proofs.patterns.lexer.Goals as goal
 
 pub returns-in-Ok-clause-tokens : goal.returns-in-Ok-clause-tokens
 returns-in-Ok-clause-tokens c =
-    let draft = c.in_ok-draft.ensures.drafted in (
-      draft.0,
-      draft.1,
-      λ text utf8 rule len.
-          token_is_match c.in_ok-draft.draft c.in-Ok.lexer draft.0 draft.2 c.in-Ok.ensures.poured text
-          utf8 rule len,
+    let draft = c.in_ok-draft.ensures.drafted in grind (
+      arith,
+      token_is_match c.in_ok-draft.draft c.in-Ok.lexer draft.0 draft.2 c.in-Ok.ensures.poured,
     )

@@ -13,11 +13,7 @@ pub loop-rule-preserved : goal.loop-rule-preserved
 loop-rule-preserved c =
     let added = c.in_ok-add_rule.ensures in
     let was = c.loop-rule.invariant in
-    let none : PatternRule = record {
-      name = record { ref_ptr = (0, 0); now = [] };
-      pattern = record { ref_ptr = (0, 0); now = [] };
-      skipped = false;
-    } in record {
+    let none : PatternRule = grind arith in record {
       count = omega (arith, added.count, was.count);
       automaton = added.kept.0 ∙ was.automaton;
       accepting = λ q r. same_both (added.kept.1 q r) (was.accepting q r);

@@ -25,5 +25,4 @@ loop-end-preserved c =
 pub returns-clause-accepting : goal.returns-clause-accepting
 returns-clause-accepting c =
     λ one none q r.
-    let all : length c.args.ends.now ≤ c.loop-end.end-index = omega arith in
-    rw take_all at (c.loop-end.invariant.accepting one none q r)
+    grind (arith, take_all, c.loop-end.invariant.accepting one none q r)

@@ -10,12 +10,4 @@ pub loop-edge-preserved : goal.loop-edge-preserved
 loop-edge-preserved c =
     let none : Edge = record { from = 0; lead = record { first = 0; last = 0; to = 0 } } in
     let more = take_more c.args.edges.now c.loop-edge.edge-index none c.loop-edge-test.true in
-    record {
-      edges = λ p d q key.
-          let edge =
-          any-push (λ (edge : Edge). (p ≡ edge.from) × LeadsBy d q edge.lead) _ _ _ more in
-          let added =
-          rw (c.new.ensures.start, c.new.ensures.end) at (c.in_ok-add.ensures.added p d q key) in
-          grind (arith, not_above, c.loop-edge.invariant.edges p d q key);
-      starts = λ p. same_both (c.in_ok-add.ensures.starts p) (c.loop-edge.invariant.starts p);
-    }
+    grind (arith, any-push, not_above, same_both)

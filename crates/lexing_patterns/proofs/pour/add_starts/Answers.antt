@@ -7,11 +7,4 @@ use Rattle.lexing_patterns.proofs.pour.add_starts.Goals as goal
 pub loop-state-preserved : goal.loop-state-preserved
 loop-state-preserved c =
     let more = take_more c.args.states.now c.loop-state.state-index 0 c.loop-state-test.true in
-    let was = c.loop-state.invariant in
-    let new = c.in_ok-start.ensures in
-    record {
-      starts = λ p.
-          let state = any-push (λ (state : ℕ). p ≡ state) _ _ _ more in
-          grind (arith, was.starts p, new.started p);
-      rules = λ p d q. same_both (new.rules p d q) (was.rules p d q);
-    }
+    grind (arith, any-push, same_both)

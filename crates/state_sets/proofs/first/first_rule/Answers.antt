@@ -18,4 +18,6 @@ loop-state-preserved c =
 
 pub returns : goal.returns
 returns c =
-    grind (arith, common_steps, rest_all, c.in-None.is, c.next.ensures.steps, first_of_all, c.loop-state.invariant)
+    let all = rest_all deref _ _ _ c.in-None.is c.next.ensures.steps in
+    first_of_all c.args.rule_at.now c.args.states.now c.loop-state.first _ all
+    c.loop-state.invariant

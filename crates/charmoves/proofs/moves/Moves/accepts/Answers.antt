@@ -7,4 +7,5 @@ use Rattle.charmoves.proofs.moves.Moves.accepts.Goals as goal
 
 pub returns : goal.returns
 returns c =
-    grind (arith, common_steps, c.is_accepting.ensures.accepting, accepted_among, c.in_ok-states.ensures.after, c.is_accepting.ensures.accepting.0, c.is_accepting.ensures.accepting.1)
+    let told = c.is_accepting.ensures.accepting in
+    grind (arith, common_steps, accepted_among, c.in_ok-states.ensures.after)

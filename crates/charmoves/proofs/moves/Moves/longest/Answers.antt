@@ -67,7 +67,10 @@ loop-c-preserved c =
       after = after;
       bytes = omega (arith, bytes_of-push read c.in-Some.c, c.len_utf8-len.ensures.len);
       best = longest_stays (Accepts rules) read [] c.in-Some.c c.loop-c.longest
-          (grind (arith, take-nil, c.is_accepting-in-loop-c.ensures.accepting.1, c.if-is_accepting-2.false))
+          (λ k. rw take-nil
+          (λ h.
+          let yes = c.is_accepting-in-loop-c.ensures.accepting.1 (among.1 h) in
+          let no = c.if-is_accepting-2.false in absurd cc))
           c.loop-c.invariant.best;
     }
 

@@ -1,6 +1,4 @@
 use Rattle.std.proofs.Common.{◌≡◌, ◌∙◌, ◌||◌, ap, ℕ, OnOk, arith}
-use Rattle.std.proofs.Common.{rules}
-use Rattle.std.proofs.lemmas.Grind.{common_steps}
 use Rattle.std.specs.BTreeSet.{contains}
 use Rattle.std.specs.List.{list_any}
 use Rattle.std.specs.Map.Iter.{TakesFirst, deref}
@@ -40,4 +38,8 @@ loop-state-preserved c =
     (c.loop-state.invariant q)
 
 pub returns : goal.returns
-returns c = grind (arith, common_steps, gathered_all, rest_all, c.in-None.is, c.next.ensures.steps, c.loop-state.invariant)
+returns c = record {
+  reached = λ q.
+      gathered_all (λ p. HasRule (rules_of c.args.self.now) p c.args.c q) c.args.states.now.keys _ _
+      (rest_all deref _ _ _ c.in-None.is c.next.ensures.steps) (c.loop-state.invariant q);
+}

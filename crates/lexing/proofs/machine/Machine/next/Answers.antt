@@ -6,7 +6,13 @@ use Rattle.lexing.proofs.machine.Machine.next.Goals as goal
 pub returns-then-is_ascii-clause-goes : goal.returns-then-is_ascii-clause-goes
 returns-then-is_ascii-clause-goes c =
     let machine = c.args.self.now in
-    grind (arith, below_ascii c.args.c c.is_ascii.result c.is_ascii.ensures c.if-is_ascii.true, c.is_ascii.ensures, c.if-is_ascii.true, goes_by_dense machine c.args.state c.args.c c.index.result.now c.requires c.known.ensures, c.requires, c.known.ensures, slice_get_read machine.states.dense.items (length machine.states.dense.items), c.index.ensures)
+    let dense = machine.states.dense.items in
+    let place = 128 * c.args.state + c.args.c in
+    let next = c.index.result.now in
+    let ascii = below_ascii c.args.c c.is_ascii.result c.is_ascii.ensures c.if-is_ascii.true in
+    goes_by_dense machine c.args.state c.args.c next c.requires c.known.ensures ascii
+    (slice_get_read dense (length dense) place next refl (omega (arith, machine.full))
+    c.index.ensures)
 
 pub returns-then-is_ascii-clause-known : goal.returns-then-is_ascii-clause-known
 returns-then-is_ascii-clause-known c =

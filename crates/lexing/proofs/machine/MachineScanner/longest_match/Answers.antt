@@ -23,7 +23,11 @@ returns-in-None-next c =
     let all = YieldsList-from_chars text c.utf8.text cc in
     let (rest, split) =
     read_more all read _ c.loop-c.yielded_by _ _ c.in-Some.c c.in-Some.is c.next.ensures.steps in
-    grind (arith, token_when_stuck c.args.self.now text c.utf8.text c.loop-c.longest read rest c.in-Some.c c.loop-c.state split c.in-None-next.ensures.goes c.loop-c.invariant.running, c.utf8.text, c.in-None-next.ensures.goes, c.loop-c.invariant.running)
+    record {
+      longest = token_when_stuck c.args.self.now text c.utf8.text c.loop-c.longest read rest
+          c.in-Some.c c.loop-c.state split c.in-None-next.ensures.goes c.loop-c.invariant.running;
+      refused = tt;
+    }
 
 pub overflow_add-len : goal.overflow_add-len
 overflow_add-len c =
@@ -40,7 +44,11 @@ returns c =
     let all = YieldsList-from_chars text c.utf8.text cc in
     let whole =
     read_all all c.loop-c.yielded _ c.loop-c.yielded_by _ _ c.in-None.is c.next.ensures.steps in
-    grind (arith, token_at_end c.args.self.now text c.utf8.text c.loop-c.longest c.loop-c.yielded c.loop-c.state whole c.loop-c.invariant.running, c.utf8.text, c.loop-c.invariant.running)
+    record {
+      longest = token_at_end c.args.self.now text c.utf8.text c.loop-c.longest c.loop-c.yielded
+          c.loop-c.state whole c.loop-c.invariant.running;
+      refused = tt;
+    }
 
 pub loop-c-preserved-in-Some-index : goal.loop-c-preserved-in-Some-index
 loop-c-preserved-in-Some-index c =

@@ -146,27 +146,18 @@ any_of-returns-in_err-one-clause-refused t c =
 pub copies-returns-in_err-front-clause-refused : goal.copies-returns-in_err-front-clause-refused
 copies-returns-in_err-front-clause-refused t c =
     let p = err_from_is_err_and c.from_residual.result c.from_residual.ensures.1 in
-    let sub = meaning c.args.sub.now in
-    rw (p.1, p.2)
-    (λ re. fault_of sub (copies c.args.count sub re)
-    (has_in_copies c.loop-done.done c.args.count sub re (omega arith)) _
-    c.in_err-front.ensures.refused)
+    grind (arith, fault_of, has_in_copies c.loop-done.done c.args.count)
 
 pub up_to-returns-in_err-front-clause-refused : goal.up_to-returns-in_err-front-clause-refused
 up_to-returns-in_err-front-clause-refused t c =
     let p = err_from_is_err_and c.from_residual.result c.from_residual.ensures.1 in
-    let sub = meaning c.args.sub.now in
-    rw (p.1, p.2)
-    (λ greedy. fault_of sub (up_to greedy c.args.most sub)
-    (has_in_up_to c.loop-done.done c.args.most greedy sub (omega arith)) _
-    c.in_err-front.ensures.refused)
+    grind (arith, fault_of, has_in_up_to c.loop-done.done c.args.most)
 
 pub part-returns-in-Repetition-clause-refused : goal.part-returns-in-Repetition-clause-refused
 part-returns-in-Repetition-clause-refused t c =
     IfErr-weaker c.repetition.result _ _
     (λ error fault.
-    rw (c.in-Repetition.is, meaning-Repetition)
-    (rw c.deref-in-Repetition.ensures at (fault c.in-Repetition.greedy)))
+    grind (arith, meaning-Repetition, fault c.in-Repetition.greedy))
     c.repetition.ensures.refused
 
 pub repetition-returns-in_err-rest-in-Some-clause-refused :
@@ -184,24 +175,18 @@ repetition-returns-in_err-once-in-None-clause-refused t c =
     let p =
     err_from_is_err_and c.from_residual-in_err-once-in-None.result
     c.from_residual-in_err-once-in-None.ensures.1 in
-    rw (p.1, p.2)
-    (λ greedy. unbounded_once c.args.min c.args.max greedy (meaning c.args.sub.now) _ c.in-None.is
-    c.in_err-once-in-None.ensures.refused)
+    grind (arith, unbounded_once c.args.min c.args.max)
 
 pub repetition-returns-in_ok-rest-in-Some-clause-refused :
     goal.repetition-returns-in_ok-rest-in-Some-clause-refused
 repetition-returns-in_ok-rest-in-Some-clause-refused t c =
     IfErr-weaker c.copies.result _ _
-    (λ error fault greedy.
-    bounded_copies c.args.min c.args.max greedy (meaning c.args.sub.now) error c.in-Some.max
-    c.in-Some.is fault)
+    (grind (arith, bounded_copies c.args.min c.args.max))
     c.copies.ensures.refused
 
 pub repetition-returns-else-min-eq0-clause-refused :
     goal.repetition-returns-else-min-eq0-clause-refused
 repetition-returns-else-min-eq0-clause-refused t c =
     IfErr-weaker c.copies-in-None.result _ _
-    (λ error fault greedy.
-    unbounded_copies c.args.min c.args.max greedy (meaning c.args.sub.now) error c.in-None.is
-    c.if-min-eq0.false fault)
+    (grind (arith, unbounded_copies c.args.min c.args.max))
     c.copies-in-None.ensures.refused

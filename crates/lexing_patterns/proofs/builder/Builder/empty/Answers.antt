@@ -4,10 +4,4 @@ use Rattle.lexing_patterns.proofs.builder.Builder.empty.Goals as goal
 
 pub returns : goal.returns
 returns c =
-    λ at.
-    let none = c.nothing.ensures in
-    let made = c.or_empty.ensures in
-    record {
-      language = language_same (λ w _. grind (arith, made.reads w, none.reads w)) language_empty;
-      within = made.within at at (none.within at at);
-    }
+    grind (arith, language_same, language_empty)

@@ -32,4 +32,7 @@ returns-clause-found c =
     let copy = c.in_ok-clone-2.field-0 in
     let key_same = each_same set.keys key.keys c.in_ok-clone.ensures.cases in
     let same = each_same set.keys copy.keys c.in_ok-clone-2.ensures.cases in
-    grind (arith, common_steps, found_all, c.requires.found, c.len-ascending.ensures.ordered, c.requires.new, c.in_ok-push.ensures.items, c.in_ok-insert.ensures.updates.0)
+    let place : c.len-index.result ≡ length before.listed.items = omega arith in
+    found_all before (record { listed = c.push.new.self; indices = c.insert.new.self }) set copy key
+    c.requires.found c.len-ascending.ensures.ordered c.requires.new same key_same
+    c.in_ok-push.ensures.items (rw place at c.in_ok-insert.ensures.updates.0)
