@@ -1,5 +1,18 @@
 -- One stored list after another: its form, and what it binds.
-use Rattle.range_map.proofs.Common.{◌≡◌, refl, sym, ◌∙◌, ap, ◌↔◌, ◌+◌, ◌-◌, ◌≤◌, ℕ, zero, suc, Bool, true, false, List, [], ◌∷◌, ◌++◌, length, get_or, inl, inr, arith, if◌then◌else◌, slice_set, and_from, and_parts, IsEquivalence, KeyOrder, IsLawful, Position, Le, Lt, Every, IsKnownRange, LiesBefore, AnyRange, every_append, every_right, every_weaker, Item, BindAlike, line_of, Leads, Follows, Respects, IsStored, item_lower, item_upper, IsApartFromLast, LieBefore, appended, are_one, as_one, joined, every_with, same_is_symmetric, follows_like, chain_before, chain_right, chain_above, places, Known, Chained, Hold, before_is, touches_is, stored_chain, stored_known, chain_stored, same_binds, le_refl, lt_le, le_trans, le_lt_trans, lt_trans, both, cases}
+use Rattle.range_algebra.specs.Orders
+use Rattle.range_map.proofs.Common.{Ordering, IsTotalOrder, ◌⊎◌, position_total, common_steps, ◌≡◌, refl, ap, ◌↔◌, ◌+◌, ◌-◌, ◌≤◌, ℕ, zero, suc, Bool, true, false, List, [], ◌∷◌, ◌++◌, length, get_or, inl, inr, arith, if◌then◌else◌, slice_set, and_from, and_parts, IsEquivalence, KeyOrder, IsLawful, Position, Le, Lt, Every, IsKnownRange, LiesBefore, AnyRange, every_append, every_right, every_weaker, Item, BindAlike, line_of, Leads, Follows, Respects, IsStored, item_lower, item_upper, IsApartFromLast, LieBefore, appended, are_one, as_one, joined, every_with, same_is_symmetric, follows_like, chain_before, chain_right, chain_above, places, Known, Chained, Hold, before_is, touches_is, stored_chain, stored_known, chain_stored, same_binds, le_refl, lt_le, le_trans, le_lt_trans, lt_trans, both}
+
+-- two intervals, the one of which ends where the other starts, hold what one over both does
+two_as_one : {L : Type 0} {cmp : L → L → Ordering} (total : IsTotalOrder cmp) (a b c d p : L)
+    {A B R : Type 0} → Lt cmp a b → Le cmp b c → Le cmp c b → Lt cmp c d → (A → B) → (B → A)
+    → (((Le cmp a p × Lt cmp p d) × A) ⊎ R)
+    ↔ (((Le cmp a p × Lt cmp p b) × A) ⊎ (((Le cmp c p × Lt cmp p d) × B) ⊎ R))
+two_as_one {cmp = cmp} total a b c d p ab bc cb cd to back =
+    let from = Orders.le_trans cmp total a c p in
+    let upto = Orders.lt_trans cmp total p b d in
+    let over = Orders.le_trans cmp total c b p cb in
+    let wide = Orders.le_lt_trans cmp total b c d bc cd in
+    grind (arith, Orders.cases cmp total p b, Orders.le_trans cmp total a b c, Orders.lt_le cmp total)
 
 module _ {K : Type 0} (order : KeyOrder K) {V : Type 0} where
   module _ (same : V → V → Bool) where
@@ -41,18 +54,10 @@ module _ {K : Type 0} (order : KeyOrder K) {V : Type 0} where
     pushed_apart (i ∷ items) j apart =
         parted_last (i ∷ items) (length (i ∷ items) - 1) j j (omega arith) (apart j (omega arith))
 
-    one_fewer : (b : Bool) (i j : Item (AnyRange K) V) (rest : List (Item (AnyRange K) V))
-        → length ((if b then joined i j ∷ [] else i ∷ j ∷ []) ++ rest) ≤ length rest + 2
-    one_fewer true i j rest = omega arith
-    one_fewer false i j rest = omega arith
-
     pub appended_length : (items others : List (Item (AnyRange K) V))
         → length (appended order same items others) ≤ length items + length others
-    appended_length (i ∷ []) (j ∷ others) =
-        let few = one_fewer (are_one order same i j) i j others in omega arith
-    appended_length (i ∷ k ∷ items) others =
-        let few = appended_length (k ∷ items) others in omega arith
-    appended_length items others = omega arith
+    appended_length (i ∷ k ∷ items) others = omega (arith, appended_length (k ∷ items) others)
+    appended_length items others = grind (arith, common_steps)
 
 module _ {K : Type 0} {order : KeyOrder K} (lawful : IsLawful order) {V : Type 0}
     {same : V → V → Bool} (equal : IsEquivalence same) where
@@ -79,22 +84,14 @@ module _ {K : Type 0} {order : KeyOrder K} (lawful : IsLawful order) {V : Type 0
 
     meets : are_one order same i j ≡ true
         → Le (places order lawful) (item_lower order j) (item_upper order i)
-    meets one =
-        (touches_is order lawful i.key.end j.key other_known other_good upto).0
-        (and_parts _ _ one).0
+    meets one = grind (arith, common_steps, touches_is, upto, and_parts)
 
     alike : are_one order same i j ≡ true → same i.value j.value ≡ true
     alike one = (and_parts _ _ one).1
 
     leads : are_one order same i j ≡ false
         → Leads (line_of order lawful same equal) i (item_lower order j) j.value
-    leads apart = (
-      upto,
-      λ reaches s.
-          let touch =
-          (touches_is order lawful i.key.end j.key other_known other_good upto).1 reaches in
-          let clash : true ≡ false = sym (and_from _ _ touch s) ∙ apart in cc,
-    )
+    leads apart = grind (arith, common_steps, upto, touches_is, and_from)
 
     one_as : (b : Bool) → are_one order same i j ≡ b → (rest : List (Item (AnyRange K) V))
         → Known order lawful same equal rest → Follows (line_of order lawful same equal) j rest
@@ -112,34 +109,10 @@ module _ {K : Type 0} {order : KeyOrder K} (lawful : IsLawful order) {V : Type 0
             follows_like line j (joined i j) rest (both lawful _ _ same_end same_end) (alike one)
                 follows,
           );
-          holds = λ W p respects. (
-            λ h. elim h [
-              | inl own ↦ elim (cases lawful p (item_upper order i)) [
-                | inl below ↦ inl ((own.0.0, below), own.1)
-                | inr from ↦
-                    inr (inl (
-                      (le_trans lawful _ _ _ (meets one) from, own.0.1),
-                      respects i.value j.value (alike one) own.1,
-                    ))
-              ]
-              | inr other ↦ inr (inr other)
-            ],
-            λ h. elim h [
-              | inl own ↦
-                  let before = le_lt_trans lawful _ _ _ upto other_good in
-                  inl ((own.0.0, lt_trans lawful _ _ _ own.0.1 before), own.1)
-              | inr others ↦ elim others [
-                | inl own ↦
-                    let from = le_trans lawful _ _ _ (lt_le lawful _ _ good) upto in
-                    let back = same_is_symmetric line i.value j.value (alike one) in
-                    inl (
-                      (le_trans lawful _ _ _ from own.0.0, own.0.1),
-                      respects j.value i.value back own.1,
-                    )
-                | inr other ↦ inr other
-              ]
-            ],
-          );
+          holds = λ W p respects.
+              two_as_one (position_total order.cmp lawful.total) _ _ _ _ p good upto
+              (meets one) other_good (respects i.value j.value (alike one))
+              (respects j.value i.value (same_is_symmetric line _ _ (alike one)));
         }
 
   -- an item that leads to the first of the one list leads to what it begins with then
@@ -168,8 +141,7 @@ module _ {K : Type 0} {order : KeyOrder K} (lawful : IsLawful order) {V : Type 0
   appended_as (i ∷ []) [] known others_known chain others_chain before =
       as_it_is (i ∷ []) known chain
   appended_as (i ∷ []) (j ∷ others) known others_known chain others_chain before =
-      one_as i j known.0 others_known.0 chain.0 others_chain.0 before.0.0 (are_one order same i j)
-      refl others others_known.1 others_chain.1
+      grind (arith, common_steps, one_as)
   appended_as (i ∷ k ∷ items) others known others_known chain others_chain before =
       let rest =
       appended_as (k ∷ items) others known.1 others_known chain.1.1 others_chain before.1 in
@@ -202,8 +174,7 @@ module _ {K : Type 0} {order : KeyOrder K} (lawful : IsLawful order) {V : Type 0
     pub appended_binds : BindAlike order same (appended order same items others) (items ++ others)
     appended_binds k key b =
         same_binds order lawful same equal (items ++ others) (appended order same items others) k
-        (every_append _ items others (stored_known order lawful same equal items form)
-        (stored_known order lawful same equal others others_form)) both_as.known key
+        (grind (arith, common_steps, every_append, stored_known)) both_as.known key
         (λ W respects. both_as.holds W _ respects) b
 
   -- what leads up to a place lies before all that start there at least
@@ -214,9 +185,7 @@ module _ {K : Type 0} {order : KeyOrder K} (lawful : IsLawful order) {V : Type 0
       → LieBefore order items others
   lie_before_from p [] others known others_known ends starts = tt
   lie_before_from p (i ∷ items) others known others_known ends starts = (
-    every_with _ _ _ others others_known starts (λ j known_j le.
-        (before_is order lawful i.key.end j.key.start known.0.1 known_j.0).1
-        (le_trans lawful _ _ _ ends.0 le)),
+    every_with _ _ _ others others_known starts (grind (arith, common_steps, before_is, le_trans)),
     lie_before_from p items others known.1 others_known ends.1 starts,
   )
 

@@ -1,5 +1,6 @@
 -- Whether each key of a range is bound, and that an empty range has no piece.
-use Rattle.range_map.proofs.Common.{◌≡◌, List, [], ◌∷◌, inl, inr, Option, Some, None, Included, KeyOrder, IsLawful, IsComplete, start_position, end_position, Beside, At, AnyRange, Every, Holds, IsEmptyRange, any_none, every_weaker, Item, IsBound, Overlap, BindsAllOf, AreGapsWithin, LiesIn, IsCommonPart, IsFreePart, IsPiece, ArePieces, not_greater, not_both_greater_and_not, holds_by_position, any_use, later_over, earlier_under, binding_meets, le_refl, eq_le, eq_ge, le_trans, not_lt, nonempty_holds}
+use Rattle.range_map.proofs.ClosureAnswers.{every_one}
+use Rattle.range_map.proofs.Common.{arith, common_steps, ◌≡◌, List, [], ◌∷◌, inl, inr, Option, Some, None, Included, KeyOrder, IsLawful, IsComplete, start_position, end_position, Beside, At, AnyRange, Holds, IsEmptyRange, any_none, every_weaker, Item, IsBound, Overlap, BindsAllOf, AreGapsWithin, LiesIn, IsCommonPart, IsFreePart, IsPiece, ArePieces, not_greater, not_both_greater_and_not, holds_by_position, any_use, later_over, earlier_under, binding_meets, le_refl, eq_le, eq_ge, le_trans, not_lt, nonempty_holds}
 use Rattle.range_merge.proofs.HeldInside.{lies_in_holds}
 use Rattle.range_map.proofs.BoundKeys.{bound_or_not, none_holds}
 
@@ -14,10 +15,7 @@ common_lies_in order lawful r s part common =
     later_over order lawful (start_position order r.start) (start_position order s.start) in
     let under =
     earlier_under order lawful (end_position order r.end) (end_position order s.end) in
-    let onward = le_trans lawful in (
-      record { starts = onward _ _ _ over.0 start; ends = onward _ _ _ end under.0 },
-      record { starts = onward _ _ _ over.1 start; ends = onward _ _ _ end under.1 },
-    )
+    grind (arith, common_steps, le_trans)
 
 module _ {K : Type 0} {order : KeyOrder K} (lawful : IsLawful order) {V : Type 0}
     (items : List (Item (AnyRange K) V)) (r : AnyRange K) where
@@ -32,20 +30,12 @@ module _ {K : Type 0} {order : KeyOrder K} (lawful : IsLawful order) {V : Type 0
       → IsEmptyRange order r → ⊥
   piece_of_full part None h empty = within_nonempty part h.0.within h.0.nonempty empty
   piece_of_full part (Some v) h empty =
-      any_use _ _ items h.1 (every_unit items)
+      any_use _ _ items h.1 (every_one (λ _. Unit {0}) items (λ _. tt))
       (λ i c u. within_nonempty part (common_lies_in order lawful r i.key part c.0).0 h.0 empty)
-    where
-      every_unit : (xs : List (Item (AnyRange K) V)) → Every (λ _. Unit {0}) xs
-      every_unit [] = tt
-      every_unit (x ∷ xs) = (tt, every_unit xs)
 
   -- an empty range has no piece
   pub no_pieces : IsEmptyRange order r → ArePieces order items r []
-  no_pieces empty = record {
-    each = tt;
-    rising = tt;
-    all = λ part binding known piece. absurd (piece_of_full part binding piece empty);
-  }
+  no_pieces empty = grind (arith, common_steps, piece_of_full)
 
   pub no_free_part : IsEmptyRange order r → (part : AnyRange K) → IsFreePart order items r part → ⊥
   no_free_part empty part free = within_nonempty part free.within free.nonempty empty

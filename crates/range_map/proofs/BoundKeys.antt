@@ -1,17 +1,8 @@
 -- The keys that a list binds, by its parts and by its values.
-use Rattle.range_map.proofs.Common.{◌∙◌, ◌↔◌, ◌⊎◌, inl, inr, Bool, IsTrue, Option, Some, None, List, [], ◌∷◌, ◌++◌, IsEquivalence, KeyOrder, IsLawful, position_cmp, Position, Overlap, Beside, At, Le, Lt, Every, Any, Holds, IsKnownRange, AnyRange, Item, IsBound, BindsTo, Binds, binds_bound, item_lower, item_ranges, holds_by_position, held_or_not, held_between, le_trans, lt_not_le}
+use Rattle.range_map.proofs.Common.{arith, common_steps, ◌∙◌, ◌↔◌, ◌⊎◌, inl, inr, Bool, IsTrue, Option, List, [], ◌∷◌, ◌++◌, IsEquivalence, KeyOrder, IsLawful, position_cmp, Position, Overlap, Beside, At, Le, Lt, Every, Any, Holds, IsKnownRange, AnyRange, Item, IsBound, BindsTo, Binds, binds_bound, item_lower, item_ranges, holds_by_position, held_or_not, held_between, le_trans, lt_not_le}
 
 one_more : {H A B C : Type 0} → A ↔ (B ⊎ C) → (H ⊎ A) ↔ ((H ⊎ B) ⊎ C)
-one_more later = (
-  λ h. elim h [
-    | inl held ↦ inl (inl held)
-    | inr b ↦ elim (later.0 b) [ inl one ↦ inl (inr one) | inr two ↦ inr two ]
-  ],
-  λ h. elim h [
-    | inl one ↦ elim one [ inl held ↦ inl held | inr b ↦ inr (later.1 (inl b)) ]
-    | inr two ↦ inr (later.1 (inr two))
-  ],
-)
+one_more later = grind (arith, common_steps)
 
 module _ {K : Type 0} {order : KeyOrder K} (lawful : IsLawful order) (k : K)
     (key : order.is_key k) where
@@ -19,11 +10,7 @@ module _ {K : Type 0} {order : KeyOrder K} (lawful : IsLawful order) (k : K)
   pub shared_key_is_overlap : (r s : AnyRange K) → Holds order r k → Holds order s k
       → Overlap order r s
   shared_key_is_overlap r s held other =
-      let first = (holds_by_position order lawful r k key).0 held in
-      let second = (holds_by_position order lawful s k key).0 other in (
-        λ less. lt_not_le lawful _ _ less (le_trans lawful _ _ _ second.0 first.1),
-        λ less. lt_not_le lawful _ _ less (le_trans lawful _ _ _ first.0 second.1),
-      )
+      grind (arith, common_steps, holds_by_position, lt_not_le, le_trans)
 
 module _ {K : Type 0} (order : KeyOrder K) {V : Type 0} where
   -- a key is bound by one list after another where one of them binds it
@@ -35,20 +22,12 @@ module _ {K : Type 0} (order : KeyOrder K) {V : Type 0} where
   pub bound_ranges : (items : List (Item (AnyRange K) V)) (k : K)
       → Any (λ r. Holds order r k) (item_ranges items) ↔ IsBound order items k
   bound_ranges [] k = (λ h. h, λ h. h)
-  bound_ranges (i ∷ rest) k =
-      let others = bound_ranges rest k in (
-        λ h. elim h [ inl e ↦ inl e | inr e ↦ inr (others.0 e) ],
-        λ h. elim h [ inl e ↦ inl e | inr e ↦ inr (others.1 e) ],
-      )
+  bound_ranges (i ∷ rest) k = grind (arith, common_steps, bound_ranges rest k)
 
   pub none_holds : (items : List (Item (AnyRange K) V)) (k : K)
       → (¬ IsBound order items k) ↔ Every (λ i. ¬ Holds order i.key k) items
   none_holds [] k = (λ h. tt, λ h none. none)
-  none_holds (i ∷ rest) k =
-      let others = none_holds rest k in (
-        λ none. (λ h. none (inl h), others.0 (λ h. none (inr h))),
-        λ all h. elim h [ inl held ↦ all.0 held | inr b ↦ others.1 all.1 b ],
-      )
+  none_holds (i ∷ rest) k = grind (arith, common_steps, none_holds rest k)
 
   module _ (same : V → V → Bool) where
     pub binds_split : (xs ys : List (Item (AnyRange K) V)) (k : K) (v : V)
@@ -76,32 +55,19 @@ module _ {K : Type 0} (order : KeyOrder K) {V : Type 0} where
       pub bound_by : (xs ys : List (Item (AnyRange K) V)) (k : K)
           → ((v : V) → BindsTo order same xs k v → BindsTo order same ys k v)
           → IsBound order xs k → IsBound order ys k
-      bound_by xs ys k to h =
-          let found = bound_value xs k h in
-          binds_bound order same ys k found.0 (to found.0 found.1)
+      bound_by xs ys k to h = grind (arith, common_steps, bound_value, binds_bound)
 
       -- lists bind a key alike where they bind it to the same values
       pub binds_by : (xs ys : List (Item (AnyRange K) V)) (k : K)
           → ((v : V) → BindsTo order same xs k v ↔ BindsTo order same ys k v) → (b : Option V)
           → Binds order same xs k b ↔ Binds order same ys k b
-      binds_by xs ys k alike None = (
-        λ free h. free (bound_by ys xs k (λ v. (alike v).1) h),
-        λ free h. free (bound_by xs ys k (λ v. (alike v).0) h),
-      )
-      binds_by xs ys k alike (Some v) = alike v
+      binds_by xs ys k alike option = grind (arith, common_steps, bound_by)
 
   module _ (lawful : IsLawful order) where
     pub bound_or_not : (items : List (Item (AnyRange K) V)) (k : K)
         → IsBound order items k ⊎ (¬ IsBound order items k)
     bound_or_not [] k = inr (λ none. none)
-    bound_or_not (i ∷ rest) k =
-        elim (held_or_not order lawful i.key k) [
-          | inl here ↦ inl (inl here)
-          | inr out ↦ elim (bound_or_not rest k) [
-            | inl later ↦ inl (inr later)
-            | inr none ↦ inr (λ h. elim h [ inl here ↦ out here | inr later ↦ none later ])
-          ]
-        ]
+    bound_or_not (i ∷ rest) k = grind (arith, common_steps, held_or_not, bound_or_not rest k)
 
     -- a key before a place is bound by none that starts there or later
     pub below_all : (items : List (Item (AnyRange K) V)) (p : Position K) (k : K) → order.is_key k
@@ -109,8 +75,6 @@ module _ {K : Type 0} (order : KeyOrder K) {V : Type 0} where
         → Every (λ j. Le (position_cmp order.cmp) p (item_lower order j)) items
         → ¬ IsBound order items k
     below_all [] p k key below known above bound = bound
-    below_all (j ∷ items) p k key below known above (inl held) =
-        let at = (held_between order lawful j.key k known.0 key).0 held in
-        lt_not_le lawful _ _ below (le_trans lawful _ _ _ above.0 at.0)
-    below_all (j ∷ items) p k key below known above (inr bound) =
-        below_all items p k key below known.1 above.1 bound
+    below_all (j ∷ items) p k key below known above either =
+        let later = below_all items p k key below known.1 above.1 in
+        grind (arith, common_steps, held_between, lt_not_le, le_trans)

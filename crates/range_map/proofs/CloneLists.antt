@@ -1,5 +1,5 @@
 -- A list of clones: equal item by item to its source, and in the same form.
-use Rattle.range_map.proofs.Common.{◌≡◌, sym, ap, ◌∙◌, List, [], ◌∷◌, Bool, true, ◌&&◌, IsTrue, All, AllZip, Every, Equal, is_eq, eq_by_cmp, Equal-is, Ordering, IsEquivalence, alike_right, tied_back, and_from, and_parts, KeyOrder, IsLawful, start_position, end_position, position_cmp, position_total, Position, Bound, Included, Excluded, Unbounded, IsBoundClone, range_clone, IsKnownRange, IsEmptyRange, range_cmp, range_total, AnyRange, Item, IsCopyOf, LiesBefore, Touches, IsStored, both_equal, eq_is_equal, before_is, nonempty_good, touches_is, IsListed, stored_list_is_listed, stored_by, eq_le, eq_ge, le_trans, recursion_from_All}
+use Rattle.range_map.proofs.Common.{arith, common_steps, ◌≡◌, sym, ◌∙◌, List, [], ◌∷◌, Bool, true, ◌&&◌, IsTrue, All, AllZip, Every, Equal, is_eq, eq_by_cmp, Equal-is, Ordering, IsEquivalence, alike_right, tied_back, and_from, and_parts, KeyOrder, IsLawful, start_position, end_position, position_cmp, position_total, Position, Bound, IsBoundClone, range_clone, IsKnownRange, IsEmptyRange, range_cmp, range_total, AnyRange, Item, IsCopyOf, LiesBefore, Touches, IsStored, both_equal, eq_is_equal, before_is, nonempty_good, touches_is, IsListed, stored_list_is_listed, stored_by, eq_le, eq_ge, le_trans, recursion_from_All}
 use Rattle.range_algebra.specs.Clones.{IsBoundInfallible}
 use Rattle.range_edit.specs.Clones.{ClonesNeverFail}
 use Rattle.range_runs.proofs.Extents.{past_le}
@@ -14,9 +14,7 @@ clones_tied told equal keys a b h = sym (told a b) ∙ (Equal-is _).0 (sym (equa
 -- no clone of a bound fails where none of a key does
 pub bound_never_fails : {K : Type 0} {is_infallible : K → Type 0} → ClonesNeverFail is_infallible
     → (bound : Bound K) → IsBoundInfallible is_infallible bound
-bound_never_fails never (Included key) = never key
-bound_never_fails never (Excluded key) = never key
-bound_never_fails never Unbounded = tt
+bound_never_fails never bound = grind (arith, common_steps)
 
 module _ {K : Type 0} {order : KeyOrder K} (lawful : IsLawful order) where
   abbrev Same : Position K → Position K → Type 0
@@ -71,9 +69,7 @@ module _ {K : Type 0} {order : KeyOrder K} (lawful : IsLawful order) where
   module _ {V : Type 0} {same : V → V → Bool} (equal : IsEquivalence same) where
     same_values : (v w v' w' : V) → same v v' ≡ true → same w w' ≡ true → same v w ≡ true
         → same v' w' ≡ true
-    same_values v w v' w' e f h =
-        let crossed : same v' w ≡ true = sym (equal.congr v v' w e) ∙ h in
-        equal.symm v' w' ∙ (sym (equal.congr w w' v' f) ∙ (equal.symm w v' ∙ crossed))
+    same_values v w v' w' e f h = grind (arith, common_steps, equal.congr, equal.symm)
 
     copy_full : (i j : Item (AnyRange K) V) → range_cmp order i.key j.key ≡ Equal
         → (IsEmptyRange order j.key → ⊥) → IsEmptyRange order i.key → ⊥
@@ -115,10 +111,7 @@ module _ {K : Type 0} {order : KeyOrder K} (lawful : IsLawful order) where
         copy → IsCopyOf order same copy items
     equal_items_are_copy [] [] zip = tt
     equal_items_are_copy (x ∷ xs) (y ∷ ys) zip =
-        let both = and_parts _ _ zip.0 in (
-          ((eq_is_equal _).0 both.0, both.1),
-          equal_items_are_copy xs ys zip.1,
-        )
+        grind (arith, common_steps, and_parts, eq_is_equal, equal_items_are_copy xs ys zip.1)
     equal_items_are_copy xs ys zip = absurd zip
 
     -- the clone of an item equals it
@@ -129,6 +122,4 @@ module _ {K : Type 0} {order : KeyOrder K} (lawful : IsLawful order) where
         × IsBoundClone is_clone x.key.end y.key.end) → is_value_clone x.value y.value
         → (is_eq (range_cmp order y.key x.key) && same y.value x.value) ≡ true
     item_clone is_clone keys is_value_clone values x y key value =
-        and_from _ _ (ap is_eq (tied_back (range_total order lawful) x.key y.key
-        (range_clone order lawful is_clone keys x.key y.key key)))
-        (equal.symm y.value x.value ∙ values x.value y.value value)
+        grind (arith, common_steps, and_from, tied_back, range_total, range_clone, equal.symm)

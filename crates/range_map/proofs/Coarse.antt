@@ -1,6 +1,6 @@
 -- Coarse lists, by the keys alone: those with the same bindings are alike, and no list with these
 -- bindings is shorter.
-use Rattle.range_map.proofs.Common.{◌≡◌, refl, ap, ◌∙◌, ℕ, suc, ◌≤◌, List, [], ◌∷◌, length, ◌⊎◌, inl, inr, Bool, true, false, IsTrue, Some, arith, Less, Equal, is_gt, IsEquivalence, tied_itself, KeyOrder, IsLawful, Below, Holds, AnyRange, Item, LiesBetween, IsBound, BindsTo, BindAlike, AreDisjoint, IsCoarse, AreAlike, not_not_less, binds_bound, Any, any_over}
+use Rattle.range_map.proofs.Common.{common_steps, ◌≡◌, refl, ap, ◌∙◌, ℕ, suc, ◌≤◌, List, [], ◌∷◌, length, ◌⊎◌, inl, inr, Bool, true, IsTrue, Some, arith, is_gt, IsEquivalence, tied_itself, KeyOrder, IsLawful, Below, Holds, AnyRange, Item, LiesBetween, IsBound, BindsTo, BindAlike, AreDisjoint, IsCoarse, AreAlike, not_not_less, binds_bound, Any, any_over}
 use Rattle.std.proofs.lemmas.Bool.Decides.{leb_tells}
 use Rattle.range_algebra.proofs.Pieces.{start_up, end_down}
 use Rattle.range_map.proofs.BoundKeys.{bound_value}
@@ -8,22 +8,14 @@ use Rattle.range_map.proofs.BoundKeys.{bound_value}
 -- what is decided may be shown by two denials
 
 stable_true : (b : Bool) → ((b ≡ true → ⊥) → ⊥) → b ≡ true
-stable_true true h = refl
-stable_true false h = absurd (h (λ e. cc))
+stable_true test h = grind (arith, common_steps)
 
 stable_order : (m n : ℕ) → ((m ≤ n → ⊥) → ⊥) → m ≤ n
-stable_order m n h =
-    elim (leb_tells m n) [
-      | inl tells ↦ tells.1
-      | inr tells ↦ let more = tells.1 in absurd (h (λ f. omega (arith, more)))
-    ]
+stable_order m n h = grind (arith, common_steps, leb_tells)
 
 module _ {K : Type 0} {order : KeyOrder K} (lawful : IsLawful order) where
   not_below_itself : (a : K) → Below order a a → ⊥
-  not_below_itself a l =
-      let e : order.cmp a a ≡ Less = l in
-      let f : order.cmp a a ≡ Equal = tied_itself lawful.total a in
-      cc
+  not_below_itself a l = grind (arith, common_steps, tied_itself, lawful.total)
 
   -- a range holds what lies between two keys that it holds
   ranges_are_convex : (r : AnyRange K) (a b c : K) → Holds order r a → Holds order r b
@@ -64,17 +56,14 @@ module _ {K : Type 0} {order : KeyOrder K} (lawful : IsLawful order) where
     first_value : (i : Item (AnyRange K) V) (rest : Items) → Coarse (i ∷ rest) → (a : K) (v : V)
         → order.is_key a → Holds order i.key a → BindsTo order same_value (i ∷ rest) a v
         → IsTrue (same_value i.value v)
-    first_value i rest coarse a v key h (inl g) = g.1
-    first_value i rest coarse a v key h (inr g) =
-        absurd (first_alone i rest coarse a key h (binds_bound order same_value rest a v g))
+    first_value i rest coarse a v key h either =
+        grind (arith, common_steps, first_alone, binds_bound)
 
     -- no key is held by two items of a coarse list
     pub coarse_disjoint : (items : Items) → Coarse items → AreDisjoint order items
     coarse_disjoint [] coarse = tt
-    coarse_disjoint (i ∷ rest) coarse = (
-      λ k key h g. first_alone i rest coarse k key h g,
-      coarse_disjoint rest (rest_coarse coarse),
-    )
+    coarse_disjoint (i ∷ rest) coarse =
+        grind (arith, first_alone, coarse_disjoint rest (rest_coarse coarse), rest_coarse)
 
     -- all keys of the range are bound to the value
     abbrev AllBoundTo : Items → AnyRange K → V → Type 0
@@ -163,17 +152,14 @@ module _ {K : Type 0} {order : KeyOrder K} (lawful : IsLawful order) where
       rest_follows held k key v h =
           elim (there k key v (inr h)) [
             | inl g ↦
-                absurd (first_alone i items coarse k key (held k key g.0)
-                (binds_bound order same_value items k v h))
+                grind (arith, first_alone, binds_bound)
             | inr g ↦ g
           ]
 
       first_same : IsTrue (same_value i.value j.value)
       first_same =
-          stable_true (same_value i.value j.value) (λ no. coarse.keyed.0 (λ y in_type h.
-          no (values.symm i.value j.value
-          ∙ first_value j others coarse' y i.value in_type (held_too y in_type h)
-          (first_bound i items (j ∷ others) there y in_type h))))
+          stable_true (same_value i.value j.value)
+          (grind (arith, common_steps, values.symm, first_value, held_too, first_bound))
 
     alike_by : (items others : Items) → Coarse items → Coarse others → Follows items others
         → Follows others items → AreAlike order same_value items others
@@ -222,10 +208,7 @@ module _ {K : Type 0} {order : KeyOrder K} (lawful : IsLawful order) where
           rest = i ∷ found.rest;
           count = ap suc found.count;
           such = found.such;
-          others = λ l f. elim f [
-            | inl own ↦ inr (inl own)
-            | inr later ↦ elim (found.others l later) [ inl e ↦ inl e | inr e ↦ inr (inr e) ]
-          ];
+          others = grind (arith, common_steps);
         }
 
     -- the range holds the key, and its keys are bound to its value
@@ -264,9 +247,8 @@ module _ {K : Type 0} {order : KeyOrder K} (lawful : IsLawful order) where
     covers : (items others : Items) → Follows others items → (k : K) (v : V)
         → BindsTo order same_value others k v → Any (Covers items k) others
     covers items [] back k v h = absurd h
-    covers items (o ∷ others) back k v (inl h) = inl (h.0, first_bound o others items back)
-    covers items (o ∷ others) back k v (inr h) =
-        inr (covers items others (λ c key w g. back c key w (inr g)) k v h)
+    covers items (o ∷ others) back k v either =
+        grind (arith, common_steps, first_bound, covers items others)
 
     -- no list with the same bindings is shorter than a coarse one
     pub coarse_shortest : (items others : Items) → Coarse items

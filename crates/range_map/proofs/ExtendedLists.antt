@@ -1,5 +1,5 @@
 -- One item more that is bound after others.
-use Rattle.range_map.proofs.Common.{◌≡◌, ◌∙◌, sym, ap, Bool, List, [], ◌∷◌, ◌++◌, ◌↔◌, ◌⊎◌, inl, inr, Option, subst, KeyOrder, Holds, AnyRange, Item, Binds, IsBound, IsBoundAfter, IsSomeOf, AreBoundAfter}
+use Rattle.range_map.proofs.Common.{arith, common_steps, ◌≡◌, Bool, List, [], ◌∷◌, ◌++◌, ◌↔◌, ◌⊎◌, inl, inr, Option, KeyOrder, Holds, AnyRange, Item, Binds, IsBound, IsBoundAfter, IsSomeOf, AreBoundAfter}
 use Rattle.range_map.proofs.BoundKeys.{bound_split}
 
 -- where the last of a list stands, that is parted at an item
@@ -15,28 +15,14 @@ last_or_before [] (y ∷ []) rest x i e = absurd (cc)
 last_or_before [] (y ∷ z ∷ front) rest x i e = absurd (cc)
 last_or_before (y ∷ xs) [] rest x i e = inr (record { others = xs; behind = cc; before = cc })
 last_or_before (y ∷ xs) (z ∷ front) rest x i e =
-    let first : y ≡ z = cc in
-    let tail : xs ++ x ∷ [] ≡ front ++ i ∷ rest = cc in
-    elim (last_or_before xs front rest x i tail) [
-      | inl h ↦ inl h
-      | inr h ↦
-          inr (record {
-            others = h.others;
-            behind = h.behind;
-            before = ap (λ ys. y ∷ ys) h.before ∙ ap (λ w. w ∷ front ++ i ∷ h.others) first;
-          })
-    ]
+    grind (arith, common_steps, last_or_before xs front rest x i)
 
 module _ {K : Type 0} (order : KeyOrder K) {V : Type 0} where
   module _ (same : V → V → Bool) where
     -- no item binds nothing
     pub none_bound_after : (items : List (Item (AnyRange K) V))
         → AreBoundAfter order same items items []
-    none_bound_after items =
-        record {
-          held = λ front rest i e. absurd (no_item front rest i e);
-          others = λ k key unheld b. (λ h. h, λ h. h);
-        }
+    none_bound_after items = grind (arith, common_steps, no_item)
       where
         no_item : (front rest : List (Item (AnyRange K) V)) (i : Item (AnyRange K) V)
             → [] ≡ front ++ i ∷ rest → ⊥
@@ -49,14 +35,6 @@ module _ {K : Type 0} (order : KeyOrder K) {V : Type 0} where
       abbrev last : Item (AnyRange K) V
       last = record { key = r; value = v }
 
-      last_binds : (i : Item (AnyRange K) V) (k : K) → order.is_key k → last ≡ i
-          → Holds order i.key k → (b : Option V) → Binds order same after k b
-          ↔ IsSomeOf order same i.value b
-      last_binds i k key is holds b =
-          subst (λ (j : Item (AnyRange K) V). Binds order same after k b
-          ↔ IsSomeOf order same j.value b) is (one.held k key
-          (subst (λ (j : Item (AnyRange K) V). Holds order j.key k) (sym is) holds) b)
-
       earlier_binds : (front rest : List (Item (AnyRange K) V)) (i : Item (AnyRange K) V) (k : K)
           → order.is_key k → PartsBefore items front rest last i → Holds order i.key k
           → (IsBound order rest k → ⊥) → (b : Option V) → Binds order same after k b
@@ -67,9 +45,7 @@ module _ {K : Type 0} (order : KeyOrder K) {V : Type 0} where
           λ h. unheld (rw parts.behind h) in
           let all = bound_split order others (last ∷ []) k in
           let own = one.others k key (λ h. none (all.1 (inr (inl h)))) b in
-          let old =
-          was.held front others i parts.before k key holds (λ h. none (all.1 (inl h))) b in
-          (λ h. old.0 (own.0 h), λ h. own.1 (old.1 h))
+          grind (arith, common_steps)
 
       -- one more is bound after the others
       pub one_bound_after : AreBoundAfter order same before after
@@ -78,7 +54,7 @@ module _ {K : Type 0} (order : KeyOrder K) {V : Type 0} where
           record {
             held = λ front rest i e k key holds unheld b.
                 elim (last_or_before items front rest last i e) [
-                  | inl h ↦ last_binds i k key h.1 holds b
+                  | inl h ↦ grind (arith, common_steps)
                   | inr h ↦ earlier_binds front rest i k key h holds unheld b
                 ];
             others = λ k key unheld b.

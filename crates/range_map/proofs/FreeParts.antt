@@ -1,6 +1,6 @@
 -- What stands free between the items of a stored list is all of its gaps.
-use Rattle.std.proofs.Common.{◌≡◌, refl, sym, ap, Option, Some, Bool, true, false, List, [], ◌∷◌, ◌++◌, inl, inr, map, if◌then◌else◌, ◌+◌, ◌≤◌, arith, length, length-append}
-use Rattle.range_map.proofs.Common.{append-nil, IsEquivalence, Bound, Unbounded, KeyOrder, IsLawful, AnyRange, any_left, any_right, any_none, every_append, every_weaker, flipped, starts_past_end, Any, Every, Holds, IsEmptyRange, IsKnownRange, LiesBefore, Item, full_range, item_ranges, IsHeldOnce, AreGaps, between, free_from, free_ranges, free_piece, pieces_from, LiesIn, Overlap, ArePieces, AreGapsWithin, IsStored, not_both_greater_and_not, every_nonempty, every_with, stored_list_is_listed, start_position, end_position, position_cmp, Le, held_between, unbounded_start, stored_known, any_with, AreOverlapping, le_trans, lt_not_le}
+use Rattle.std.proofs.Common.{◌≡◌, refl, sym, ap, Option, Some, Bool, List, [], ◌∷◌, ◌++◌, inl, inr, map, if◌then◌else◌, ◌+◌, ◌≤◌, arith, length, length-append}
+use Rattle.range_map.proofs.Common.{common_steps, append-nil, IsEquivalence, Bound, Unbounded, KeyOrder, IsLawful, AnyRange, any_left, any_right, any_none, every_append, every_weaker, flipped, Any, Every, Holds, IsEmptyRange, IsKnownRange, LiesBefore, Item, full_range, item_ranges, IsHeldOnce, AreGaps, between, free_from, free_ranges, free_piece, pieces_from, LiesIn, Overlap, ArePieces, AreGapsWithin, IsStored, not_both_greater_and_not, every_nonempty, every_with, stored_list_is_listed, start_position, end_position, position_cmp, Le, held_between, unbounded_start, stored_known, any_with, AreOverlapping, le_trans, lt_not_le}
 use Rattle.range_map.proofs.BoundKeys.{bound_or_not, bound_ranges, shared_key_is_overlap}
 use Rattle.range_map.proofs.BindingAll.{point_is_free, within_nonempty}
 use Rattle.range_runs.proofs.RunItems.{ends_full}
@@ -11,10 +11,8 @@ use Rattle.range_map.proofs.Together.{IsAscending, stored_ascends}
 pairs_append : {X : Type 0} (R : X → X → Type 0) (xs ys : List X) → Pairs R xs → Pairs R ys
     → Every (λ y. Every (λ x. R x y) xs) ys → Pairs R (xs ++ ys)
 pairs_append R [] ys h k across = k
-pairs_append R (x ∷ xs) ys h k across = (
-  every_append (R x) xs ys h.0 (every_weaker _ _ ys (λ y e. e.0) across),
-  pairs_append R xs ys h.1 k (every_weaker _ _ ys (λ y e. e.1) across),
-)
+pairs_append R (x ∷ xs) ys h k across =
+    grind (arith, common_steps, every_append, every_weaker, pairs_append R xs ys h.1 k)
 
 free_pieces_are : {K : Type 0} (V : Type 0) (gaps : List (AnyRange K))
     → free_ranges {V = V} (map free_piece gaps) ≡ gaps
@@ -72,10 +70,7 @@ module _ {K : Type 0} {order : KeyOrder K} (lawful : IsLawful order) {V : Type 0
   Gaps = free_from order (Some Unbounded) items
 
   lies_within : (r : AnyRange K) → IsKnownRange order r → LiesIn order r full_range
-  lies_within r known = record {
-    starts = unbounded_start order lawful r.start known.0;
-    ends = ends_full lawful r.end known.1;
-  }
+  lies_within r known = grind (arith, common_steps, unbounded_start, ends_full)
 
   all_known : Every (λ i. IsKnownRange order i.key) items
   all_known = stored_known order lawful same equal items stored
@@ -94,33 +89,24 @@ module _ {K : Type 0} {order : KeyOrder K} (lawful : IsLawful order) {V : Type 0
     below = tt;
     meet =
         every_with _ _ _ items all_known nonempty
-        (λ i k own. let within = lies_within i.key k in (
-          λ l. lt_not_le lawful _ _ l (le_trans lawful _ _ _ within.starts own),
-          λ l. lt_not_le lawful _ _ l (le_trans lawful _ _ _ own within.ends),
-        ));
+        (grind (arith, common_steps, lies_within, lt_not_le, le_trans));
     above = tt;
   }
 
   none_in_empty : (xs : List (Item (AnyRange K) V)) → Every (λ i. IsKnownRange order i.key) xs
       → Every (λ i. Le (position_cmp order.cmp) (start_position order i.key.start)
       (end_position order i.key.end)) xs → IsEmptyRange order full_range → xs ≡ []
-  none_in_empty [] known own empty = refl
-  none_in_empty (i ∷ rest) known own empty =
-      absurd (within_nonempty lawful items full_range i.key (lies_within i.key known.0)
-      (not_both_greater_and_not _ own.0) empty)
+  none_in_empty list known own empty =
+      grind (arith, common_steps, within_nonempty, lies_within, not_both_greater_and_not)
 
   none_if_empty : IsEmptyRange order full_range → items ≡ []
   none_if_empty = none_in_empty items all_known nonempty
 
   pieces : ArePieces order items full_range Pieces
-  pieces =
-      all_pieces lawful equal items full_range items stored (tt, tt) (λ _. overlapping)
-      none_if_empty
+  pieces = grind (arith, common_steps, all_pieces, overlapping, none_if_empty)
 
   gaps_within : AreGapsWithin order items full_range Gaps
-  gaps_within =
-      rw (free_ones_are order full_range (Some Unbounded) items) at
-      (gaps_within_are lawful items full_range Pieces pieces)
+  gaps_within = grind (arith, common_steps, free_ones_are, gaps_within_are, pieces)
 
   -- all gaps of the list stand free between its items
   pub gaps_are : AreGaps order items Gaps
@@ -152,23 +138,15 @@ module _ {K : Type 0} {order : KeyOrder K} (lawful : IsLawful order) {V : Type 0
       ])
 
 none_or_one : {X : Type 0} (t : Bool) (x : X) → length (if t then [] else x ∷ []) ≤ 1
-none_or_one true x = omega arith
-none_or_one false x = omega arith
+none_or_one test x = grind (arith, common_steps)
 
 -- there is at most one gap more than there are items
 module _ {K : Type 0} (order : KeyOrder K) where
   one_between : (s e : Option (Bound K)) → length (between order s e) ≤ 1
-  one_between (Some a) (Some b) = none_or_one (starts_past_end order a b) _
-  one_between s e = omega arith
+  one_between s e = grind (arith, common_steps, none_or_one)
 
   pub few_free : {V : Type 0} (s : Option (Bound K)) (items : List (Item (AnyRange K) V))
       → length (free_from order s items) ≤ length items + 1
   few_free s [] = omega (arith, one_between s (Some Unbounded))
   few_free s (i ∷ rest) =
-      omega (
-        arith,
-        one_between s (flipped i.key.start),
-        few_free (flipped i.key.end) rest,
-        length-append (between order s (flipped i.key.start))
-            (free_from order (flipped i.key.end) rest),
-      )
+      grind (arith, common_steps, one_between, few_free (flipped i.key.end) rest, length-append)

@@ -1,15 +1,10 @@
 -- The free pieces of a range alone.
-use Rattle.std.proofs.Common.{◌≡◌, refl, List, [], ◌∷◌, ◌++◌, inl, inr, Option, Some, None, Bool}
-use Rattle.range_map.proofs.Common.{IsEquivalence, Equal, KeyOrder, IsLawful, start_position, end_position, position_cmp, AnyRange, Any, Every, IsKnownRange, IsEmptyRange, range_cmp, LiesBefore, any_left, any_right, every_append, every_weaker, Item, range_if_free, free_ranges, AreGapsWithin, IsPiece, IsFreePart, ArePieces, IsStored, greater_or_not, any_over, AreOverlapping, pieces_of}
-use Rattle.range_runs.specs.Neighbours.{BeforeFirst, EachNext}
+use Rattle.std.proofs.Common.{◌≡◌, refl, List, [], ◌∷◌, Option, None, Bool}
+use Rattle.range_map.proofs.Common.{arith, common_steps, IsEquivalence, Equal, KeyOrder, IsLawful, AnyRange, Any, Every, IsKnownRange, IsEmptyRange, range_cmp, LiesBefore, any_left, any_right, every_append, every_weaker, Item, free_ranges, AreGapsWithin, IsPiece, IsFreePart, ArePieces, IsStored, greater_or_not, any_over, AreOverlapping, pieces_of}
+use Rattle.range_runs.specs.Neighbours.{EachNext}
 use Rattle.range_runs.proofs.PieceLists.{IsOver, pieces_are, free_shows}
 use Rattle.range_map.proofs.BindingAll.{no_pieces, no_free_part}
 use Rattle.range_map.proofs.Together.{IsAscending, ascends}
-
-before_first : {X : Type 0} (R : X → X → Type 0) (x : X) (xs : List X) → Every (R x) xs
-    → BeforeFirst R x xs
-before_first R x [] h = tt
-before_first R x (y ∷ xs) h = h.0
 
 -- what holds between each member and those after it
 abbrev pub Pairs : {X : Type 0} → (X → X → Type 0) → List X → Type 0
@@ -18,28 +13,20 @@ Pairs R (x ∷ xs) = Every (R x) xs × Pairs R xs
 
 each_next : {X : Type 0} (R : X → X → Type 0) (xs : List X) → Pairs R xs → EachNext R xs
 each_next R [] h = tt
-each_next R (x ∷ xs) h = (before_first R x xs h.0, each_next R xs h.1)
+each_next R (x ∷ []) h = (tt, tt)
+each_next R (x ∷ y ∷ xs) h = (h.0.0, each_next R (y ∷ xs) h.1)
 
 -- the free ones of a list of pieces
 module _ {K V : Type 0} where
   every_free : (P : AnyRange K → Type 0) (pieces : List (Item (AnyRange K) (Option V)))
       → Every (λ p. p.value ≡ None → P p.key) pieces → Every P (free_ranges pieces)
   every_free P [] h = tt
-  every_free P (p ∷ rest) h =
-      every_append P (range_if_free p.key p.value) (free_ranges rest) (here p.value refl)
-      (every_free P rest h.1)
-    where
-      here : (v : Option V) → p.value ≡ v → Every P (range_if_free p.key v)
-      here None e = (h.0 e, tt)
-      here (Some v) e = tt
+  every_free P (p ∷ rest) h = grind (arith, common_steps, every_append, every_free P rest h.1)
 
   pub any_free : (P : AnyRange K → Type 0) (pieces : List (Item (AnyRange K) (Option V)))
       → Any (λ p. P p.key × (p.value ≡ None)) pieces → Any P (free_ranges pieces)
   any_free P [] h = h
-  any_free P (p ∷ rest) (inl h) =
-      any_left P (range_if_free p.key p.value) (free_ranges rest) (rw h.1 (inl h.0))
-  any_free P (p ∷ rest) (inr h) =
-      any_right P (range_if_free p.key p.value) (free_ranges rest) (any_free P rest h)
+  any_free P (p ∷ rest) either = grind (arith, common_steps, any_left, any_right, any_free P rest)
 
   -- where no range is shown, no piece is free
   pub none_free : (pieces : List (Item (AnyRange K) (Option V))) → free_ranges pieces ≡ []
@@ -49,30 +36,23 @@ module _ {K V : Type 0} where
 
 module _ {K : Type 0} (order : KeyOrder K) {V : Type 0} (R : AnyRange K → AnyRange K → Type 0)
     (apart : (r s : AnyRange K) → LiesBefore order r s → R r s) where
-  pairs_with : (p : Item (AnyRange K) (Option V)) (rest : List (Item (AnyRange K) (Option V)))
-      → Every (λ s. LiesBefore order p.key s.key) rest → Pairs R (free_ranges rest)
-      → (v : Option V) → Pairs R (range_if_free p.key v ++ free_ranges rest)
-  pairs_with p rest before later None =
-      (every_free _ rest (every_weaker _ _ rest (λ s l e. apart p.key s.key l) before), later)
-  pairs_with p rest before later (Some v) = later
-
   pub free_pairs : (pieces : List (Item (AnyRange K) (Option V))) → IsAscending order pieces
       → Pairs R (free_ranges pieces)
   free_pairs [] up = tt
-  free_pairs (p ∷ rest) up = pairs_with p rest up.1 (free_pairs rest up.2) p.value
+  free_pairs (p ∷ rest) up =
+      let all =
+      every_free (R p.key) rest (every_weaker _ _ rest (λ s l _. apart p.key s.key l) up.1) in
+      grind (arith, common_steps, free_pairs rest up.2)
 
 module _ {K : Type 0} {order : KeyOrder K} (lawful : IsLawful order) {V : Type 0}
     (items : List (Item (AnyRange K) V)) (r : AnyRange K) where
   nonempty_piece : (part : AnyRange K) (v : Option V) → IsPiece order items r part v
       → ¬ IsEmptyRange order part
-  nonempty_piece part None h = h.0.nonempty
-  nonempty_piece part (Some v) h = h.0
+  nonempty_piece part option h = grind (arith, common_steps)
 
   pub pieces_ascend : (pieces : List (Item (AnyRange K) (Option V)))
       → ArePieces order items r pieces → IsAscending order pieces
-  pieces_ascend pieces are =
-      ascends lawful pieces
-      (every_weaker _ _ pieces (λ p h. nonempty_piece p.key p.value h) are.each) are.rising
+  pieces_ascend pieces are = grind (arith, common_steps, ascends, every_weaker, nonempty_piece)
 
   -- the free ones of all pieces are all free pieces
   pub gaps_within_are : (pieces : List (Item (AnyRange K) (Option V)))
@@ -101,12 +81,7 @@ module _ {K : Type 0} {order : KeyOrder K} (lawful : IsLawful order) {V : Type 0
 
   either_kind : (P : List (Item (AnyRange K) (Option V)) → Type 0) → (IsEmptyRange order r → P [])
       → ((IsEmptyRange order r → ⊥) → P All) → P All
-  either_kind P empty full =
-      elim (greater_or_not
-      (position_cmp order.cmp (start_position order r.start) (end_position order r.end))) [
-        | inl e ↦ rw (none_of_empty e) (empty e)
-        | inr f ↦ full f
-      ]
+  either_kind P empty full = grind (arith, greater_or_not, none_of_empty)
 
   pub all_pieces : ArePieces order items r All
   all_pieces =

@@ -1,5 +1,5 @@
 -- A key that the ranges of a list and its gaps share out.
-use Rattle.range_map.proofs.Common.{◌⊎◌, inl, inr, List, [], ◌∷◌, ◌++◌, KeyOrder, Any, Holds, AnyRange, any_none, every_right, Item, IsBound, item_ranges, IsHeldOnce}
+use Rattle.range_map.proofs.Common.{arith, common_steps, ◌⊎◌, inl, inr, List, [], ◌∷◌, ◌++◌, KeyOrder, Any, Holds, AnyRange, any_none, every_right, Item, IsBound, item_ranges, IsHeldOnce}
 
 module _ {K : Type 0} (order : KeyOrder K) where
   some_once : (ranges : List (AnyRange K)) (k : K) → IsHeldOnce order ranges k
@@ -21,8 +21,5 @@ module _ {K : Type 0} (order : KeyOrder K) where
           any_none _ _ gaps
               (every_right _ (item_ranges items) gaps held.1) (λ r out held. out held),
         )
-    | inr later ↦ elim (one_of_two items gaps k later.1) [
-      | inl both ↦ inl (inr both.0, both.1)
-      | inr both ↦ inr (λ b. elim b [ inl held ↦ later.0 held | inr held ↦ both.0 held ], both.1)
-    ]
+    | inr later ↦ grind (arith, common_steps, one_of_two items gaps k later.1)
   ]

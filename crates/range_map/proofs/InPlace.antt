@@ -1,5 +1,5 @@
 -- The items of a list that are bound one after the other, and ranges that are unbound so.
-use Rattle.range_map.proofs.Common.{append_assoc, ◌≡◌, refl, sym, subst, ◌∙◌, ◌↔◌, ◌⊎◌, inl, inr, Bool, true, List, [], ◌∷◌, ◌++◌, Option, Some, None, IsEquivalence, Equal, KeyOrder, IsLawful, Any, Holds, range_cmp, AnyRange, any_left, any_right, any_split, Item, IsBound, BindsTo, Binds, IsSomeOf, IsBoundAfter, IsUnboundAfter, IsStored, item_ranges, IsHeldOnce, IsOverlaid, IsRestricted, IsWithout, equal_is_same, held_or_not, AreUnboundAfter}
+use Rattle.range_map.proofs.Common.{arith, common_steps, append_assoc, ◌≡◌, refl, subst, ◌∙◌, ◌↔◌, ◌⊎◌, inl, inr, Bool, true, List, [], ◌∷◌, ◌++◌, Option, Some, None, IsEquivalence, Equal, KeyOrder, IsLawful, Any, Holds, range_cmp, AnyRange, Item, IsBound, BindsTo, Binds, IsSomeOf, IsBoundAfter, IsUnboundAfter, IsStored, item_ranges, IsHeldOnce, IsOverlaid, IsRestricted, IsWithout, equal_is_same, held_or_not, AreUnboundAfter}
 use Rattle.range_map.proofs.BoundKeys.{bound_split, binds_split, binds_by}
 use Rattle.range_map.proofs.HeldOnce.{one_of_two}
 use Rattle.range_map.proofs.Once.{bound_once}
@@ -8,14 +8,14 @@ module _ {K : Type 0} (order : KeyOrder K) where
   -- with one item more the keys of its range are bound too
   bound_with : {V : Type 0} (items : List (Item (AnyRange K) V)) (i : Item (AnyRange K) V) (k : K)
       → IsBound order (items ++ i ∷ []) k ↔ (IsBound order items k ⊎ Holds order i.key k)
-  bound_with items i k =
-      let both = bound_split order items (i ∷ []) k in (
-        λ h. elim (both.0 h) [
-          | inl was ↦ inl was
-          | inr last ↦ elim last [ inl held ↦ inr held | inr none ↦ absurd none ]
-        ],
-        λ h. both.1 (elim h [ inl was ↦ inl was | inr held ↦ inr (inl held) ]),
-      )
+  bound_with items i k = grind (arith, common_steps, bound_split)
+
+  -- and with one range more
+  held_with : (done : List (AnyRange K)) (g : AnyRange K) (k : K)
+      → Any (λ s. Holds order s k) (done ++ g ∷ [])
+      ↔ (Any (λ s. Holds order s k) done ⊎ Holds order g k)
+  held_with [] g k = grind arith
+  held_with (r ∷ done) g k = grind (arith, held_with done g k)
 
   module _ {V : Type 0} (same : V → V → Bool) where
     abbrev Items : Type 0
@@ -37,15 +37,11 @@ module _ {K : Type 0} (order : KeyOrder K) where
           gone = λ k key h.
               elim (held_or_not order lawful r k) [
                 | inl held ↦ (one.held k key held None).1 refl
-                | inr out ↦ elim ((is k key).0 h) [
-                  | inl old ↦ (one.others k key out None).1 (was.gone k key old)
-                  | inr held ↦ absurd (out held)
-                ]
+                | inr out ↦ grind (arith, one.others k key out None, is k key)
               ];
           kept = λ k key none b.
               let own = one.others k key (λ held. none ((is k key).1 (inr held))) b in
-              let old = was.kept k key (λ h. none ((is k key).1 (inl h))) b in
-              (λ h. old.0 (own.0 h), λ h. own.1 (old.1 h));
+              grind (arith, common_steps);
         }
 
     -- a map without the keys of no item
@@ -78,42 +74,16 @@ module _ {K : Type 0} (order : KeyOrder K) where
         let now =
         one_more lawful (λ k. Any (λ s. Holds order s k) done)
         (λ k. Any (λ s. Holds order s k) (done ++ g ∷ [])) first before after r
-        (λ k key. some_with k (equal_is_same order lawful r g e k key))
+        (λ k key. grind (arith, held_with done g k, equal_is_same order lawful r g e k key))
         (record { gone = was.gone; kept = was.kept }) one in
         record { gone = now.gone; kept = now.kept }
-      where
-        some_with : (k : K) → Holds order r k ↔ Holds order g k
-            → Any (λ s. Holds order s k) (done ++ g ∷ [])
-            ↔ (Any (λ s. Holds order s k) done ⊎ Holds order r k)
-        some_with k alike = (
-          λ h. elim (any_split _ done (g ∷ []) h) [
-            | inl some ↦ inl some
-            | inr last ↦ elim last [ inl held ↦ inr (alike.1 held) | inr none ↦ absurd none ]
-          ],
-          λ h. elim h [
-            | inl some ↦ any_left _ done (g ∷ []) some
-            | inr held ↦ any_right _ done (g ∷ []) (inl (alike.0 held))
-          ],
-        )
 
     -- without the keys of all gaps, those are left that the other list binds
     pub all_kept : {W : Type 0} (items new : Items) (others : List (Item (AnyRange K) W))
         (gaps : List (AnyRange K))
         → ((k : K) → order.is_key k → IsHeldOnce order (item_ranges others ++ gaps) k)
         → AreUnboundAfter order same items new gaps → IsRestricted order same items others new
-    all_kept items new others gaps once h =
-        record {
-          kept = λ k key bound.
-              h.kept k key (elim (one_of_two order others gaps k (once k key)) [
-                | inl both ↦ both.1
-                | inr both ↦ absurd (both.0 bound)
-              ]);
-          gone = λ k key free.
-              h.gone k key (elim (one_of_two order others gaps k (once k key)) [
-                | inl both ↦ absurd (free both.0)
-                | inr both ↦ both.1
-              ]);
-        }
+    all_kept items new others gaps once h = grind (arith, common_steps, one_of_two)
 
     -- nothing overlays a map
     pub none_over : (items : Items) → IsOverlaid order same items [] items
@@ -124,21 +94,11 @@ module _ {K : Type 0} (order : KeyOrder K) where
       -- an item that does not hold the key binds it to nothing
       without_last : (done : Items) (i : Item (AnyRange K) V) (k : K) → ¬ Holds order i.key k
           → (b : Option V) → Binds order same (done ++ i ∷ []) k b ↔ Binds order same done k b
-      without_last done i k out =
-          binds_by order same equal (done ++ i ∷ []) done k (λ v.
-          let both = binds_split order same done (i ∷ []) k v in (
-            λ h. elim (both.0 h) [
-              | inl was ↦ was
-              | inr last ↦ elim last [ inl held ↦ absurd (out held.0) | inr none ↦ absurd none ]
-            ],
-            λ was. both.1 (inl was),
-          ))
+      without_last done i k out = grind (arith, common_steps, binds_by, binds_split)
 
       same_some : (v w : V) → same v w ≡ true → (b : Option V) → IsSomeOf order same v b
           ↔ IsSomeOf order same w b
-      same_some v w e None = (λ h. h, λ h. h)
-      same_some v w e (Some u) =
-          let alike = equal.congr v w u e in (λ h. sym alike ∙ h, λ h. alike ∙ h)
+      same_some v w e option = grind (arith, common_steps, equal.congr)
 
       module _ (others : Items) (stored : IsStored order same others) (done rest : Items)
           (i : Item (AnyRange K) V) (split : done ++ i ∷ rest ≡ others) where
@@ -152,12 +112,8 @@ module _ {K : Type 0} (order : KeyOrder K) where
             subst (λ l. BindsTo order same l k w) (append_assoc done (i ∷ []) rest ∙ split)
             ((binds_split order same (done ++ i ∷ []) rest k w).1 (inl h)) in
             let last = λ (w : V) (e : same i.value w ≡ true).
-            (binds_split order same done (i ∷ []) k w).1 (inr (inl (held, e))) in (
-              λ h.
-                  bound_once lawful equal others stored k key i.value v
-                  (among i.value (last i.value (equal.refl i.value))) (among v h),
-              λ e. last v e,
-            )
+            (binds_split order same done (i ∷ []) k w).1 (inr (inl (held, e))) in
+            grind (arith, common_steps, bound_once, equal.refl)
 
         -- one item more is bound over the map, by a range and a value that equal its own
         pub one_over : (first before after : Items) (r : AnyRange K) (v : V)
@@ -172,17 +128,11 @@ module _ {K : Type 0} (order : KeyOrder K) where
                     | inl held ↦
                         let new = one.held k key (alike.1 held) b in
                         let value = to_value k key held b in
-                        let some = same_some i.value v f b in
-                        (λ h. value.1 (some.1 (new.0 h)), λ h. new.1 (some.0 (value.0 h)))
+                        grind (arith, same_some i.value v f b)
                     | inr out ↦
                         let own = one.others k key (λ h. out (alike.0 h)) b in
-                        let old =
-                        was.over k key (elim ((bound_with done i k).0 bound) [
-                          | inl b ↦ b
-                          | inr held ↦ absurd (out held)
-                        ]) b in
                         let last = without_last done i k out b in
-                        (λ h. last.1 (old.0 (own.0 h)), λ h. own.1 (old.1 (last.0 h)))
+                        grind (arith, bound_with done i k, was.over k key)
                   ];
               under = λ k key free b.
                   let alike = equal_is_same order lawful r i.key e k key in

@@ -1,5 +1,5 @@
 -- Items put one after the other, where two that touch with equal values become one.
-use Rattle.range_map.proofs.Common.{inl, inr, Bool, true, false, Some, None, List, [], ◌∷◌, ◌++◌, if◌then◌else◌, IsEquivalence, KeyOrder, IsLawful, position_cmp, Position, Beside, At, lower, Le, Lt, Every, Holds, IsEmptyRange, IsKnownRange, AnyRange, every_weaker, Item, BindAlike, BindsTo, IsBound, IsStored, item_lower, item_upper, full_range, held_between, unbounded_start, every_with, before_is, nonempty_good, stored_known, LieBefore, appended, are_one, joined, lt_le, le_trans, lt_not_le, lt_le_trans}
+use Rattle.range_map.proofs.Common.{arith, common_steps, inl, inr, Bool, Some, None, List, [], ◌∷◌, ◌++◌, if◌then◌else◌, IsEquivalence, KeyOrder, IsLawful, position_cmp, Position, Beside, At, lower, Le, Lt, Every, Holds, IsEmptyRange, IsKnownRange, AnyRange, every_weaker, Item, BindAlike, BindsTo, IsBound, IsStored, item_lower, item_upper, full_range, held_between, unbounded_start, every_with, before_is, nonempty_good, stored_known, LieBefore, appended, are_one, joined, lt_le, le_trans, lt_not_le, lt_le_trans}
 use Rattle.range_map.proofs.BoundKeys.{bound_split, binds_split}
 use Rattle.range_map.proofs.Together.{IsAscending, stored_ascends}
 use Rattle.range_map.proofs.AppendedLists.{appended_binds, appended_stored, lie_before_from}
@@ -9,21 +9,12 @@ module _ {K : Type 0} (order : KeyOrder K) {V : Type 0} where
     more_bound : (xs ys more : List (Item (AnyRange K) V)) (k : K)
         → (¬ IsBound order ys k → ¬ IsBound order xs k) → ¬ IsBound order (ys ++ more) k
         → ¬ IsBound order (xs ++ more) k
-    more_bound xs ys more k free none h =
-        let all = bound_split order ys more k in
-        elim ((bound_split order xs more k).0 h) [
-          | inl e ↦ free (λ g. none (all.1 (inl g))) e
-          | inr e ↦ none (all.1 (inr e))
-        ]
+    more_bound xs ys more k free none h = grind (arith, common_steps, bound_split)
 
     more_binds : (xs ys more : List (Item (AnyRange K) V)) (k : K) (v : V)
         → (BindsTo order same xs k v → BindsTo order same ys k v)
         → BindsTo order same (xs ++ more) k v → BindsTo order same (ys ++ more) k v
-    more_binds xs ys more k v to h =
-        (binds_split order same ys more k v).1 (elim ((binds_split order same xs more k v).0 h) [
-          | inl e ↦ inl (to e)
-          | inr e ↦ inr e
-        ])
+    more_binds xs ys more k v to h = grind (arith, common_steps, binds_split)
 
     -- two lists that bind alike do so with the same items after both
     alike_more : (xs ys more : List (Item (AnyRange K) V)) → BindAlike order same xs ys
@@ -50,11 +41,7 @@ module _ {K : Type 0} (order : KeyOrder K) {V : Type 0} where
     pub bound : BindAlike order same built given
 
   pub built_none : (same : V → V → Bool) (m : Position K) → IsBuilt same m [] []
-  built_none same m = record {
-    stored = record { known = tt; nonempty = tt; rising = tt };
-    upto = tt;
-    bound = λ k key b. (λ h. h, λ h. h);
-  }
+  built_none same m = grind (arith, common_steps)
 
 module _ {K : Type 0} {order : KeyOrder K} (lawful : IsLawful order) {V : Type 0} where
   rises_from : (m : Position K) (items : List (Item (AnyRange K) V))
@@ -75,15 +62,13 @@ module _ {K : Type 0} {order : KeyOrder K} (lawful : IsLawful order) {V : Type 0
       → Every (λ i. IsKnownRange order i.key) items → IsAscending order items
       → RisesFrom order (lower order full_range) items
   ascending_rises items known up =
-      rises_from _ items known up
-      (every_weaker _ _ items (λ i k. unbounded_start order lawful i.key.start k.0) known)
+      grind (arith, common_steps, rises_from, every_weaker, unbounded_start)
 
   pub stored_rises : {same : V → V → Bool} → IsEquivalence same
       → (items : List (Item (AnyRange K) V)) → IsStored order same items
       → RisesFrom order (lower order full_range) items
   stored_rises {same = same} equal items stored =
-      ascending_rises items (stored_known order lawful same equal items stored)
-      (stored_ascends lawful stored)
+      grind (arith, common_steps, ascending_rises, stored_known, stored_ascends)
 
 module _ {K : Type 0} {order : KeyOrder K} (lawful : IsLawful order) {V : Type 0}
     {same : V → V → Bool} (equal : IsEquivalence same) where
@@ -92,8 +77,7 @@ module _ {K : Type 0} {order : KeyOrder K} (lawful : IsLawful order) {V : Type 0
       → Le (position_cmp order.cmp) (item_upper order j) n
       → Every (λ x. Le (position_cmp order.cmp) (item_upper order x) n)
       ((if b then joined i j ∷ [] else i ∷ j ∷ []) ++ [])
-  one_upto n i j true first second = (second, tt)
-  one_upto n i j false first second = (first, (second, tt))
+  one_upto n i j test first second = grind (arith, common_steps)
 
   appended_upto : (n : Position K) (items : List (Item (AnyRange K) V)) (j : Item (AnyRange K) V)
       → Every (λ x. Le (position_cmp order.cmp) (item_upper order x) n) items
@@ -149,6 +133,4 @@ module _ {K : Type 0} {order : KeyOrder K} (lawful : IsLawful order) {V : Type 0
   pub first_alone : (k : K) → order.is_key k → (m : Position K) (x : Item (AnyRange K) V)
       (xs : List (Item (AnyRange K) V)) → RisesFrom order m (x ∷ xs) → Holds order x.key k
       → ¬ IsBound order xs k
-  first_alone k key m x xs rises held =
-      none_before k key (item_upper order x) xs rises.3
-      ((held_between order lawful x.key k rises.0 key).0 held).1
+  first_alone k key m x xs rises held = grind (arith, common_steps, none_before, held_between)

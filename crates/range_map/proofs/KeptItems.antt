@@ -1,5 +1,5 @@
 -- Which items of a list are kept, one answer after the other.
-use Rattle.range_map.proofs.Common.{◌≡◌, ◌∙◌, refl, sym, ap, ℕ, ◌+◌, ◌-◌, ◌<◌, ◌≤◌, Bool, true, false, List, [], ◌∷◌, ◌++◌, length, ◌↔◌, inl, inr, Option, Some, None, arith, subst, remove, slice_index_or, items_where_true, IsEquivalence, length-append, length_push, append_assoc, append-nil, remove-append_right, KeyOrder, IsLawful, Every, AnyRange, Item, BindsTo, Binds, Line, Follows, IsChain, line_of, IsStored, strictly_leads, stored_known, stored_chain, chain_stored, binds_bound, BindOnlyAsBefore}
+use Rattle.range_map.proofs.Common.{common_steps, ◌≡◌, ◌∙◌, refl, sym, ap, ℕ, ◌+◌, ◌-◌, ◌<◌, ◌≤◌, Bool, true, false, List, [], ◌∷◌, ◌++◌, length, arith, subst, remove, slice_index_or, items_where_true, IsEquivalence, length-append, length_push, append_assoc, append-nil, remove-append_right, KeyOrder, IsLawful, Every, AnyRange, Item, BindsTo, Line, Follows, IsChain, line_of, IsStored, strictly_leads, stored_known, stored_chain, chain_stored, binds_bound, BindOnlyAsBefore}
 use Rattle.std.specs.List.Retain.{ReturnsInTurn}
 use Rattle.range_algebra.specs.Orders.{le_lt_trans, lt_le_trans}
 use Rattle.range_map.proofs.BoundKeys.{bound_value, bound_to_equal}
@@ -7,14 +7,12 @@ use Rattle.range_map.proofs.Once.{bound_once}
 
 every_kept : {X : Type 0} (P : X → Type 0) (bs : List Bool) (xs : List X) → Every P xs
     → Every P (items_where_true bs xs)
-every_kept P (true ∷ bs) (x ∷ xs) h = (h.0, every_kept P bs xs h.1)
-every_kept P (false ∷ bs) (x ∷ xs) h = every_kept P bs xs h.1
+every_kept P (test ∷ bs) (x ∷ xs) h = grind (arith, common_steps, every_kept P bs xs h.1)
 every_kept P bs xs h = tt
 
 pub fewer_kept : {X : Type 0} (bs : List Bool) (xs : List X)
     → length (items_where_true bs xs) ≤ length xs
-fewer_kept (true ∷ bs) (x ∷ xs) = let rest = fewer_kept bs xs in omega arith
-fewer_kept (false ∷ bs) (x ∷ xs) = let rest = fewer_kept bs xs in omega arith
+fewer_kept (test ∷ bs) (x ∷ xs) = grind (arith, common_steps, fewer_kept bs xs)
 fewer_kept bs xs = omega arith
 
 module _ {L V X : Type 0} (line : Line L V X) where
@@ -55,32 +53,13 @@ module _ {K : Type 0} {order : KeyOrder K} (lawful : IsLawful order) {V : Type 0
       → BindsTo order same (items_where_true bs items) k v → BindsTo order same items k v
   kept_binds [] items k v h = absurd h
   kept_binds (b ∷ bs) [] k v h = h
-  kept_binds (true ∷ bs) (i ∷ items) k v (inl h) = inl h
-  kept_binds (true ∷ bs) (i ∷ items) k v (inr h) = inr (kept_binds bs items k v h)
-  kept_binds (false ∷ bs) (i ∷ items) k v h = inr (kept_binds bs items k v h)
+  kept_binds (test ∷ bs) (i ∷ items) k v either = grind (arith, kept_binds bs items k v)
 
   -- a key that is bound in what is kept is bound as before
   pub kept_as_before : (bs : List Bool) (items : List (Item (AnyRange K) V))
       → IsStored order same items → BindOnlyAsBefore order same items (items_where_true bs items)
-  kept_as_before bs items form k key bound b = by_value b
-    where
-      here : (v : V) × BindsTo order same (items_where_true bs items) k v
-      here = bound_value order same equal (items_where_true bs items) k bound
-
-      by_value : (b : Option V) → Binds order same (items_where_true bs items) k b
-          ↔ Binds order same items k b
-      by_value None = (
-        λ none. absurd (none bound),
-        λ none.
-            absurd (none (binds_bound order same items k here.0
-            (kept_binds bs items k here.0 here.1))),
-      )
-      by_value (Some w) = (
-        kept_binds bs items k w,
-        λ h. bound_to_equal order same equal (items_where_true bs items) k here.0 w
-            (bound_once lawful equal items form k key here.0 w
-            (kept_binds bs items k here.0 here.1) h) here.1,
-      )
+  kept_as_before bs items form k key bound b =
+      grind (arith, common_steps, bound_value, binds_bound, kept_binds, bound_to_equal, bound_once)
 
 module _ {X F : Type 0} (R : F → X → Bool → F → Type 0) where
   told_more : (s f g : F) (bs : List Bool) (b : Bool) (done : List X) (x : X)
@@ -95,9 +74,7 @@ picked_more : {X : Type 0} (bs : List Bool) (b : Bool) (done : List X) (x : X)
     → length bs ≡ length done → items_where_true (bs ++ b ∷ []) (done ++ x ∷ [])
     ≡ items_where_true bs done ++ items_where_true (b ∷ []) (x ∷ [])
 picked_more [] b [] x size = refl
-picked_more (true ∷ bs) b (y ∷ done) x size =
-    ap (λ xs. y ∷ xs) (picked_more bs b done x (omega (arith, size)))
-picked_more (false ∷ bs) b (y ∷ done) x size = picked_more bs b done x (omega (arith, size))
+picked_more (test ∷ bs) b (y ∷ done) x size = grind (arith, common_steps, picked_more bs b done x)
 picked_more bs b done x size = absurd (omega (arith, size))
 
 module _ {X F : Type 0} (R : F → X → Bool → F → Type 0) (old : List X) (start : F) where
@@ -131,8 +108,7 @@ module _ {X F : Type 0} (R : F → X → Bool → F → Type 0) (old : List X) (
 
   next_of : (kept rest : List X) (x : X) → length kept < length (kept ++ rest)
       → x ≡ slice_index_or (kept ++ rest) (length kept) x → (others : List X) × (rest ≡ x ∷ others)
-  next_of kept [] x within e = absurd (omega (arith, ap length (append-nil kept), within))
-  next_of kept (y ∷ others) x within e = (others, ap (λ z. z ∷ others) (item_is kept others x y e))
+  next_of kept list x within e = grind (arith, common_steps, append-nil, item_is)
 
   -- one item more
   pub retaining_more : (items next : List X) (f g : F) (x : X) (b : Bool) (place : ℕ)
@@ -140,26 +116,7 @@ module _ {X F : Type 0} (R : F → X → Bool → F → Type 0) (old : List X) (
       → next ≡ items_where_true was.bs was.done ++ (items_where_true (b ∷ []) (x ∷ []) ++ others)
       → IsRetaining next (place + length (items_where_true (b ∷ []) (x ∷ []))) g
   retaining_more items next f g x b place was others more one is =
-      let picked = picked_more was.bs b was.done x was.answers in
-      record {
-        done = was.done ++ x ∷ [];
-        rest = others;
-        bs = was.bs ++ b ∷ [];
-        whole =
-            was.whole ∙ ap (λ xs. was.done ++ xs) more
-            ∙ sym (append_assoc was.done (x ∷ []) others);
-        left =
-            is
-            ∙ sym (append_assoc (items_where_true was.bs was.done)
-            (items_where_true (b ∷ []) (x ∷ [])) others)
-            ∙ ap (λ xs. xs ++ others) (sym picked);
-        size =
-            ap length picked
-            ∙ length-append (items_where_true was.bs was.done) (items_where_true (b ∷ []) (x ∷ []))
-            ∙ ap (λ n. n + length (items_where_true (b ∷ []) (x ∷ []))) was.size;
-        answers = omega (arith, was.answers, length_push was.bs b, length_push was.done x);
-        told = told_more R start f g was.bs b was.done x was.answers was.told one;
-      }
+      grind (arith, picked_more, append_assoc, length-append, length_push, told_more)
 
   -- the next item stands
   pub kept_next : (items : List X) (f g : F) (x : X) (place : ℕ) → IsRetaining items place f
@@ -196,19 +153,4 @@ module _ {X F : Type 0} (R : F → X → Bool → F → Type 0) (old : List X) (
       → place ≡ length items
       → (bs : List Bool) × (q : F) × (length bs ≡ length old) × ReturnsInTurn R start bs old q
       × (items ≡ items_where_true bs old)
-  retained {f = f} was end =
-      let kept = items_where_true was.bs was.done in
-      let none = no_rest kept was.rest (omega (arith, end, was.size, ap length was.left)) in
-      let all : old ≡ was.done =
-      was.whole ∙ ap (λ xs. was.done ++ xs) none ∙ append-nil was.done in (
-        was.bs,
-        f,
-        was.answers ∙ ap length (sym all),
-        rw all was.told,
-        was.left ∙ ap (λ xs. kept ++ xs) none ∙ append-nil kept
-            ∙ ap (items_where_true was.bs) (sym all),
-      )
-    where
-      no_rest : (kept rest : List X) → length (kept ++ rest) ≡ length kept → rest ≡ []
-      no_rest kept [] e = refl
-      no_rest kept (x ∷ rest) e = absurd (omega (arith, e, length-append kept (x ∷ rest)))
+  retained {f = f} was end = grind (arith, common_steps, append-nil, length-append)

@@ -1,6 +1,6 @@
 -- Two lists of ranges, by the keys that they bind: where they share none, and where the one binds
 -- all of the other.
-use Rattle.range_map.proofs.Common.{◌≡◌, refl, inl, inr, Bool, true, Some, List, [], ◌∷◌, Bound, Included, Excluded, Unbounded, Ordering, IsEquivalence, KeyOrder, IsLawful, IsComplete, start_position, end_position, position_cmp, Position, Beside, At, flipped, lower, upper, past, Le, Lt, Any, Holds, IsKnownRange, IsKnownBound, AnyRange, Item, IsBound, line_of, LiesIn, IsStored, past_is_start, held_between, flipped_bound_is_past, reaching_is_before_past, flipped_known, unbounded_end, MeetNowhere, LieInside, ShareNoKey, BindKeysOf, chain_above, lies_in, Known, Chained, nonempty_good, stored_chain, stored_known, binding_meets, meeting_binds, le_refl, lt_le, eq_le, eq_ge, le_trans, lt_not_le, lt_trans, cases, le_lt_trans, lt_le_trans, not_le, nonempty_holds}
+use Rattle.range_map.proofs.Common.{arith, common_steps, ◌≡◌, refl, inl, inr, Bool, true, Some, List, [], ◌∷◌, Bound, Included, Excluded, Unbounded, Ordering, IsEquivalence, KeyOrder, IsLawful, IsComplete, start_position, end_position, position_cmp, Position, Beside, At, flipped, lower, upper, past, Le, Lt, Any, Holds, IsKnownRange, IsKnownBound, AnyRange, Item, IsBound, line_of, LiesIn, IsStored, past_is_start, held_between, flipped_bound_is_past, reaching_is_before_past, flipped_known, unbounded_end, MeetNowhere, LieInside, ShareNoKey, BindKeysOf, chain_above, lies_in, Known, Chained, nonempty_good, stored_chain, stored_known, binding_meets, meeting_binds, le_refl, lt_le, eq_le, eq_ge, le_trans, lt_not_le, lt_trans, cases, le_lt_trans, lt_le_trans, not_le, nonempty_holds}
 use Rattle.range_keys.proofs.BoundPositions.{starts_lie_at_starts, ends_lie_at_ends}
 use Rattle.range_algebra.proofs.Canonical.{NotPast, IsBefore, KeyFrom, key_from}
 use Rattle.range_merge.proofs.HeldInside.{inside_holds}
@@ -29,19 +29,15 @@ module _ {K : Type 0} {order : KeyOrder K} (lawful : IsLawful order) where
         (others : List (Item (AnyRange K) W))
         → MeetNowhere order items others → ShareNoKey order items others
     apart_share_none [] others apart k key bound other = bound
-    apart_share_none (i ∷ items) others apart k key (inl held) other =
-        apart.0 (binding_meets order lawful others i.key (k, key, held, other)).1
-    apart_share_none (i ∷ items) others apart k key (inr bound) other =
-        apart_share_none items others apart.1 k key bound other
+    apart_share_none (i ∷ items) others apart k key either other =
+        grind (arith, common_steps, binding_meets, apart_share_none items others apart.1 k key)
 
     -- what lies inside binds no other keys
     pub inside_binds : (items : List (Item (AnyRange K) V)) (others : List (Item (AnyRange K) W))
         → LieInside order items others → BindKeysOf order items others
     inside_binds [] others inside k key bound = absurd bound
-    inside_binds (i ∷ items) others inside k key (inl held) =
-        inside_holds lawful i.key others k key held inside.0
-    inside_binds (i ∷ items) others inside k key (inr bound) =
-        inside_binds items others inside.1 k key bound
+    inside_binds (i ∷ items) others inside k key either =
+        grind (arith, common_steps, inside_holds, inside_binds items others inside.1 k key)
 
   module _ (complete : IsComplete order) where
     -- a key from the one place on and before the other, which a range holds
@@ -58,15 +54,8 @@ module _ {K : Type 0} {order : KeyOrder K} (lawful : IsLawful order) where
         nonempty_holds order lawful complete part (known_b, known.1)
         ((reaching_is_before_past order lawful b r.end known_b known.1).1 upto) in
         let at =
-        (held_between order lawful part found.0 (known_b, known.1) found.1).0 found.2 in (
-          found.0,
-          found.1,
-          (held_between order lawful r found.0 known found.1).1 (
-            le_trans lawful _ _ _ from at.0,
-            at.1,
-          ),
-          at.0,
-        )
+        (held_between order lawful part found.0 (known_b, known.1) found.1).0 found.2 in
+        grind (arith, common_steps, held_between, le_trans)
 
     end_is_flipped : (r : AnyRange K) (e b : Bound K) → flipped e ≡ Some b → IsKnownRange order r
         → IsKnownBound order e → Le cmp (Lo r) (past order (end_position order e))
@@ -136,9 +125,7 @@ module _ {K : Type 0} {order : KeyOrder K} (lawful : IsLawful order) where
             (chain_above (line_of order lawful any_same all_same) (Lo y.key) y ys chain
             (le_refl lawful _)) (each k key held))
             (from_bound i.key i.key.start known known.0 (le_refl lawful _) full)
-            (key_from order lawful complete (Lo i.key) (Lo y.key)
-            (starts_lie_at_starts order lawful i.key.start known.0)
-            (starts_lie_at_starts order lawful y.key.start known_ys.0.0) late) (le_refl lawful _)
+            (grind (arith, common_steps, key_from, starts_lie_at_starts)) (le_refl lawful _)
 
         not_by_first : (y : Item (AnyRange K) W) (ys : List (Item (AnyRange K) W)) (k : K)
             → IsKnownRange order y.key → order.is_key k → Le cmp (Hi y.key) (Beside k At)
@@ -174,8 +161,7 @@ module _ {K : Type 0} {order : KeyOrder K} (lawful : IsLawful order) where
         chain_rest : (y : Item (AnyRange K) W) (ys : List (Item (AnyRange K) W))
             → Chained order lawful any_same all_same (y ∷ ys)
             → Chained order lawful any_same all_same ys
-        chain_rest y [] chain = tt
-        chain_rest y (z ∷ zs) chain = chain.1.1
+        chain_rest y list chain = grind (arith, common_steps)
 
         -- a range whose keys are all bound lies in one range of the list
         inside_some : (ys : List (Item (AnyRange K) W)) → Known order lawful any_same all_same ys
@@ -191,14 +177,8 @@ module _ {K : Type 0} {order : KeyOrder K} (lawful : IsLawful order) where
                   not_by_first y ys k known_ys.0 key
                   (le_trans lawful _ _ _ past_it
                   ((held_between order lawful i.key k known key).0 held).0) (each k key held)))
-              | inl reaches ↦ elim (cases lawful (Lo i.key) (Lo y.key)) [
-                | inl late ↦ absurd (starts_late y ys known_ys chain each late)
-                | inr from ↦ elim (cases lawful (Hi y.key) (Hi i.key)) [
-                  | inl early ↦
-                      absurd (ends_early y ys known_ys chain each (lt_le lawful _ _ reaches) early)
-                  | inr upto ↦ inl (lies_in order lawful i.key y.key known known_ys.0 from upto)
-                ]
-              ]
+              | inl reaches ↦
+                  grind (arith, common_steps, cases, starts_late, ends_early, lt_le, lies_in)
             ]
 
 module _ {K : Type 0} {order : KeyOrder K} (lawful : IsLawful order) {V W : Type 0} where

@@ -1,12 +1,11 @@
 -- A clone of a range in the place of the range.
-use Rattle.range_map.proofs.Common.{◌≡◌, refl, ◌∙◌, Option, Some, None, Bool, false, IsTrue, List, ◌⊎◌, inl, inr, Result, Shared, Bor, Bound, Included, Excluded, Unbounded, Ordering, Equal, Greater, is_gt, is_eq, tied_back, tied_itself, KeyOrder, IsLawful, start_position, end_position, position_cmp, position_total, Position, AnyRange, SameBound, same_start, same_end, starts_at_end, Holds, IsEmptyRange, every_weaker, Item, IsUpdated, later, earlier, IsCommonPart, LiesIn, IsFreePart, IsPiece, ArePieces, Overlap, eq_is_equal, not_both_greater_and_not, PLe, any_over, later_over, earlier_under, either_choice_holds, eq_le, eq_ge, le_trans, lt_le_trans, le_lt_trans, both, IsMergedInto}
+use Rattle.range_map.proofs.Common.{arith, common_steps, ◌≡◌, ◌∙◌, Option, Bool, false, IsTrue, List, ◌⊎◌, inl, inr, Result, Shared, Bor, Bound, Included, Excluded, Unbounded, Ordering, Equal, Greater, is_gt, is_eq, tied_back, tied_itself, KeyOrder, IsLawful, start_position, end_position, position_cmp, position_total, Position, AnyRange, SameBound, same_start, same_end, starts_at_end, Holds, IsEmptyRange, every_weaker, Item, IsUpdated, later, earlier, IsCommonPart, LiesIn, IsFreePart, IsPiece, ArePieces, Overlap, eq_is_equal, not_both_greater_and_not, PLe, any_over, later_over, earlier_under, either_choice_holds, eq_le, eq_ge, le_trans, lt_le_trans, le_lt_trans, both, IsMergedInto}
 use Rattle.range_runs.specs.Answers.{AnswersPiece}
 use Rattle.range_merge.proofs.HeldInside.{lies_in_holds}
 use Rattle.range_edit.proofs.MergedItems.{way_follows}
 
 not_false_is_greater : (o : Ordering) → (is_gt o ≡ false → ⊥) → o ≡ Greater
-not_false_is_greater Greater h = refl
-not_false_is_greater o h = absurd (h refl)
+not_false_is_greater o h = grind (arith, common_steps)
 
 module _ {K : Type 0} {order : KeyOrder K} (lawful : IsLawful order) where
   equal_positions_chain : (p q s : Position K) → position_cmp order.cmp p q ≡ Equal
@@ -24,8 +23,7 @@ module _ {K : Type 0} {order : KeyOrder K} (lawful : IsLawful order) where
       → PLe order lawful (later order q u) (later order p u)
   later_under p q u le =
       let over = later_over order lawful p u in
-      either_choice_holds order lawful (λ y. PLe order lawful y (later order p u))
-      (is_gt (position_cmp order.cmp q u)) q u (le_trans lawful _ _ _ le over.0) over.1
+      grind (arith, common_steps, either_choice_holds, le_trans)
 
   earlier_over : (p q u : Position K) → PLe order lawful p q
       → PLe order lawful (earlier order p u) (earlier order q u)
@@ -51,12 +49,10 @@ module _ {K : Type 0} {order : KeyOrder K} (lawful : IsLawful order) where
         record {
           starts =
               equal_positions_chain _ _ _ h.starts
-              (both lawful _ _ (later_under _ _ u (eq_le lawful _ _ starts))
-              (later_under _ _ u (eq_ge lawful _ _ starts)));
+              (grind (arith, common_steps, both, later_under, eq_le, eq_ge));
           ends =
               equal_positions_chain _ _ _ h.ends
-              (both lawful _ _ (earlier_over _ _ v (eq_le lawful _ _ ends))
-              (earlier_over _ _ v (eq_ge lawful _ _ ends)));
+              (grind (arith, common_steps, both, earlier_over, eq_le, eq_ge));
         }
 
     lies_too : (part : AnyRange K) → LiesIn order part r → LiesIn order part s
@@ -88,17 +84,8 @@ module _ {K : Type 0} {order : KeyOrder K} (lawful : IsLawful order) where
       → position_cmp order.cmp (end_position order r.end) (end_position order s.end) ≡ Equal
       → (part : AnyRange K) (value : Option V) → IsPiece order items r part value
       → IsPiece order items s part value
-  piece_too items r s starts ends part None h =
-      let start_back = equal_positions_turn _ _ starts in
-      let end_back =
-      equal_positions_turn _ _ ends in (
-        free_too r s starts ends items part h.0,
-        λ other free wide. h.1 other (free_too s r start_back end_back items other free) wide,
-      )
-  piece_too items r s starts ends part (Some v) h = (
-    h.0,
-    any_over _ _ items (λ i t. (common_too r s starts ends i.key part t.0, t.1)) h.1,
-  )
+  piece_too items r s starts ends part option h =
+      grind (arith, common_steps, equal_positions_turn, free_too, any_over, common_too)
 
   at_too : (p q s t : Position K) → position_cmp order.cmp q p ≡ Equal
       → position_cmp order.cmp s t ≡ Equal → IsTrue (is_eq (position_cmp order.cmp p s))
@@ -121,8 +108,7 @@ module _ {K : Type 0} {order : KeyOrder K} (lawful : IsLawful order) where
   touches_end (Included a) (Included b) p alike h =
       at_too _ _ p p (same_start order lawful (Excluded b) (Excluded a) alike) (equal_itself p) h
   touches_end (Excluded a) (Excluded b) p alike h =
-      at_too (start_position order (Included a)) (start_position order (Included b)) p p
-      (same_start order lawful (Included b) (Included a) alike) (equal_itself p) h
+      grind (arith, common_steps, at_too, same_start, equal_itself)
   touches_end Unbounded f p alike h = absurd (cc)
   touches_end e f p alike h = absurd alike
 
@@ -169,8 +155,7 @@ module _ {K : Type 0} {order : KeyOrder K} (lawful : IsLawful order) where
     pieces_too items pieces are =
         record {
           each =
-              every_weaker _ _ _
-              (λ p t. piece_too items s r starts_alike ends_alike p.key p.value t) are.each;
+              grind (arith, common_steps, every_weaker, piece_too, starts_alike, ends_alike);
           rising = are.rising;
           all =
               λ part binding known piece. are.all part binding known

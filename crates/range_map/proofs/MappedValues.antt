@@ -1,6 +1,6 @@
 -- Answers to the values of a list, put one after the other.
-use Rattle.std.proofs.Common.{◌≡◌, refl, sym, ◌∙◌, ◌↔◌, inl, inr, Bool, Option, Some, None, Result, Ok, List, [], ◌∷◌, ◌++◌, append_assoc}
-use Rattle.range_map.proofs.Common.{Shared, FnReturnsAt, AllZip, IsEquivalence, Equal, Bor, KeyOrder, IsLawful, position_cmp, Position, IsRangeClone, bound_clone, range_clone, same_start, Any, Every, Holds, HoldSame, IsKnownRange, AnyRange, Item, Binds, IsBound, IsSomeOf, IsStored, item_lower, item_upper, equal_is_same, nonempty_good, binds_bound, appended, eq_le, eq_ge, le_trans, lt_le_trans, le_lt_trans}
+use Rattle.std.proofs.Common.{◌≡◌, sym, ◌∙◌, ◌↔◌, inl, inr, Bool, Option, None, Result, Ok, List, [], ◌∷◌, ◌++◌, append_assoc}
+use Rattle.range_map.proofs.Common.{arith, common_steps, Shared, FnReturnsAt, AllZip, IsEquivalence, Equal, Bor, KeyOrder, IsLawful, position_cmp, Position, IsRangeClone, bound_clone, range_clone, same_start, Any, Every, Holds, HoldSame, IsKnownRange, AnyRange, Item, Binds, IsBound, IsSomeOf, IsStored, item_lower, item_upper, equal_is_same, nonempty_good, binds_bound, appended, eq_le, eq_ge, le_trans, lt_le_trans, le_lt_trans}
 use Rattle.range_runs.proofs.CutParts.{same_past}
 use Rattle.range_map.specs.MappedValues.{AnswersItem, AreAnswered, AreMapped, IsAnsweredEach, IsMappedAt}
 use Rattle.range_map.proofs.JoinedItems.{IsBuilt, RisesFrom, built_more, first_alone, stored_rises}
@@ -50,8 +50,7 @@ module _ {K : Type 0} (order : KeyOrder K) {F V W E : Type 0}
     rest = left;
     all = sym was.parted;
     given =
-        zip_first _ (λ x. (a : W) × FnReturnsAt calls f x.value (Ok a)) was.done was.answers
-        was.given (λ x a h. (a.value, h.1));
+        grind (arith, common_steps, zip_first);
     says = says;
   }
 
@@ -102,35 +101,20 @@ module _ {K : Type 0} {order : KeyOrder K} (lawful : IsLawful order) {F V W E : 
       → order.is_key k → AreAnswered order calls f items answers → IsBound order answers k
       → IsBound order items k
   held_back [] [] k key given bound = bound
-  held_back (i ∷ items) (a ∷ answers) k key given (inl held) = inl ((given.0.0 k key).1 held)
-  held_back (i ∷ items) (a ∷ answers) k key given (inr later) =
-      inr (held_back items answers k key given.1 later)
+  held_back (i ∷ items) (a ∷ answers) k key given either =
+      grind (arith, common_steps, held_back items answers k key given.1)
   held_back items answers k key given bound = absurd given
 
   -- the answer of the one item that holds the key binds it
   answer_alone : (a : Item (AnyRange K) W) (answers : List (Item (AnyRange K) W)) (k : K)
       → Holds order a.key k → ¬ IsBound order answers k → (b : Option W)
       → Binds order same (a ∷ answers) k b ↔ IsSomeOf order same a.value b
-  answer_alone a answers k held alone None = (λ free. free (inl held), λ none. absurd none)
-  answer_alone a answers k held alone (Some w) = (
-    λ binds. elim binds [
-      | inl own ↦ own.1
-      | inr later ↦ absurd (alone (binds_bound order same answers k w later))
-    ],
-    λ equal. inl (held, equal),
-  )
+  answer_alone a answers k held alone option = grind (arith, common_steps, binds_bound)
 
   answer_later : (a : Item (AnyRange K) W) (answers : List (Item (AnyRange K) W)) (k : K)
       → ¬ Holds order a.key k → (b : Option W)
       → Binds order same (a ∷ answers) k b ↔ Binds order same answers k b
-  answer_later a answers k out None = (
-    λ free bound. free (inr bound),
-    λ free bound. elim bound [ inl held ↦ out held | inr later ↦ free later ],
-  )
-  answer_later a answers k out (Some w) = (
-    λ binds. elim binds [ inl own ↦ absurd (out own.0) | inr later ↦ later ],
-    λ later. inr later,
-  )
+  answer_later a answers k out option = grind (arith, common_steps)
 
   mapped_at : (m : Position K) (items : List (Item (AnyRange K) V))
       (answers : List (Item (AnyRange K) W)) → RisesFrom order m items
@@ -139,29 +123,10 @@ module _ {K : Type 0} {order : KeyOrder K} (lawful : IsLawful order) {F V W E : 
   mapped_at m [] answers rises given k key bound = absurd bound
   mapped_at m (i ∷ items) [] rises given k key bound = absurd given
   mapped_at m (i ∷ items) (a ∷ answers) rises given k key (inl held) =
-      record {
-        value = i.value;
-        answer = a.value;
-        was = inl (held, refl);
-        given = given.0.1;
-        is =
-            answer_alone a answers k ((given.0.0 k key).0 held)
-            (λ bound. first_alone lawful k key m i items rises held
-            (held_back items answers k key given.1 bound));
-      }
+      grind (arith, common_steps, answer_alone, first_alone, held_back)
   mapped_at m (i ∷ items) (a ∷ answers) rises given k key (inr later) =
       let at = mapped_at (item_upper order i) items answers rises.3 given.1 k key later in
-      let out : ¬ Holds order a.key k =
-      λ held. first_alone lawful k key m i items rises ((given.0.0 k key).1 held) later in
-      record {
-        value = at.value;
-        answer = at.answer;
-        was = inr at.was;
-        given = at.given;
-        is = λ b.
-            let rest = answer_later a answers k out b in
-            (λ h. (at.is b).0 (rest.0 h), λ h. rest.1 ((at.is b).1 h));
-      }
+      grind (arith, first_alone, answer_later)
 
   pub keys_mapped : {same_value : V → V → Bool} → IsEquivalence same_value
       → (items : List (Item (AnyRange K) V)) (new : List (Item (AnyRange K) W))
@@ -169,19 +134,7 @@ module _ {K : Type 0} {order : KeyOrder K} (lawful : IsLawful order) {F V W E : 
       → AreMapped order calls f same items new
   keys_mapped values items new stored made =
       record {
-        held = λ k key bound.
-            let at =
-            mapped_at _ items made.answers
-            (stored_rises lawful values items stored) made.given k key bound in
-            record {
-              value = at.value;
-              answer = at.answer;
-              was = at.was;
-              given = at.given;
-              is = λ b.
-                  let alike = made.bound k key b in
-                  (λ h. (at.is b).0 (alike.0 h), λ h. alike.1 ((at.is b).1 h));
-            };
+        held = grind (arith, common_steps, mapped_at, stored_rises);
         free = λ k key free.
             (made.bound k key None).1
             (λ bound. free (held_back items made.answers k key made.given bound));

@@ -1,6 +1,6 @@
 -- The measures of ranges in order, added up from the front.
-use Rattle.std.proofs.Common.{◌≡◌, ℕ, ◌+◌, ◌<◌, ◌^◌, inl, inr, ◌⊎◌, ◌↔◌, refl, sym, ap, subst, ◌∙◌, arith, Option, Some, None, Bool, List, [], ◌∷◌, ◌++◌, append_assoc}
-use Rattle.range_map.proofs.Common.{IsNone, IsSome, IsSomeAnd, Bound, Included, Excluded, Unbounded, KeyOrder, IsLawful, IsMeasure, AnyRange, Any, Holds, IsEmptyRange, Item, IsBound, item_ranges, IsStored, IsListed, stored_list_is_listed}
+use Rattle.std.proofs.Common.{◌≡◌, ℕ, ◌+◌, ◌<◌, ◌^◌, ◌⊎◌, ◌↔◌, refl, sym, ap, ◌∙◌, arith, Option, Some, None, Bool, List, [], ◌∷◌, ◌++◌, append_assoc}
+use Rattle.range_map.proofs.Common.{common_steps, IsNone, IsSome, IsSomeAnd, Bound, Unbounded, KeyOrder, IsLawful, IsMeasure, AnyRange, Any, Holds, IsEmptyRange, Item, IsBound, item_ranges, IsStored, IsListed, stored_list_is_listed}
 use Rattle.range_keys.specs.Counted.{IsCountedMeasure}
 use Rattle.range_algebra.specs.Measures.{HasUntoldEnd, told_bound, measure_between, measure_sum, range_measure, list_measure, AreInOrder}
 use Rattle.range_algebra.specs.Numbers.{IsNumberOfKeys}
@@ -10,50 +10,35 @@ use Rattle.range_algebra.proofs.Numbers.{number_same}
 use Rattle.range_map.proofs.BoundKeys.{bound_ranges}
 
 zero_sum : (o : Option ℕ) → o ≡ measure_sum (Some 0) o
-zero_sum (Some n) = ap Some (omega arith)
-zero_sum None = refl
+zero_sum option = grind (arith, common_steps)
 
 sum_assoc : (o p q : Option ℕ) → measure_sum o (measure_sum p q) ≡ measure_sum (measure_sum o p) q
-sum_assoc (Some a) (Some b) (Some c) = ap Some (omega arith)
-sum_assoc o p q = refl
+sum_assoc o p q = grind (arith, common_steps)
 
 none_sum : (o p : Option ℕ) → IsNone (measure_sum o p) ↔ (IsNone o ⊎ IsNone p)
-none_sum None p = (λ h. inl refl, λ h. refl)
-none_sum (Some a) None = (λ h. inr refl, λ h. refl)
-none_sum (Some a) (Some b) = (λ h. absurd (cc), λ h. elim h [ inl e ↦ e | inr e ↦ e ])
+none_sum option p = grind (arith, common_steps)
 
 either_iff : {A B C D : Type 0} → A ↔ B → C ↔ D → (A ⊎ C) ↔ (B ⊎ D)
-either_iff h k = (
-  λ e. elim e [ inl a ↦ inl (h.0 a) | inr c ↦ inr (k.0 c) ],
-  λ e. elim e [ inl b ↦ inl (h.1 b) | inr d ↦ inr (k.1 d) ],
-)
+either_iff h k = grind (arith, common_steps)
 
 module _ {K : Type 0} (len : K → ℕ) (distance : K → K → ℕ) where
   none_between : (s e : Bound K) → IsNone (measure_between len distance s e)
       ↔ ((s ≡ Unbounded) ⊎ (e ≡ Unbounded))
-  none_between Unbounded e = (λ h. inl refl, λ h. refl)
-  none_between (Included a) Unbounded = (λ h. inr refl, λ h. refl)
-  none_between (Excluded a) Unbounded = (λ h. inr refl, λ h. refl)
-  none_between s e = grind arith
+  none_between s e = grind (arith, common_steps)
 
 unbounded_told : {K : Type 0} (o : Option K) (b : Bound K) → (told_bound o b ≡ Unbounded)
     ↔ ((b ≡ Unbounded) × (o ≡ None))
-unbounded_told None Unbounded = (λ e. (refl, refl), λ h. refl)
-unbounded_told o b = grind arith
+unbounded_told o b = grind (arith, common_steps)
 
 module _ {K : Type 0} (order : KeyOrder K) (len : K → ℕ) (distance : K → K → ℕ) where
   measure_append : (xs ys : List (AnyRange K)) → list_measure order len distance (xs ++ ys)
       ≡ measure_sum (list_measure order len distance xs) (list_measure order len distance ys)
   measure_append [] ys = zero_sum (list_measure order len distance ys)
-  measure_append (x ∷ xs) ys =
-      ap (measure_sum (range_measure order len distance x)) (measure_append xs ys)
-      ∙ sum_assoc (range_measure order len distance x) (list_measure order len distance xs)
-      (list_measure order len distance ys)
+  measure_append (x ∷ xs) ys = grind (arith, common_steps, measure_append xs ys, sum_assoc)
 
   in_order_front : (xs ys : List (AnyRange K)) → AreInOrder order (xs ++ ys) → AreInOrder order xs
   in_order_front [] ys h = tt
-  in_order_front (x ∷ []) [] h = h
-  in_order_front (x ∷ []) (y ∷ ys) h = (h.0, h.1)
+  in_order_front (x ∷ []) list h = grind (arith, common_steps)
   in_order_front (x ∷ z ∷ xs) ys h = (h.0, h.1, h.2, in_order_front (z ∷ xs) ys h.3)
 
   -- the ranges before the rest measure so much
@@ -87,22 +72,18 @@ module _ {K : Type 0} {order : KeyOrder K} {len : K → ℕ} {distance : K → K
   measured_fits {n = n} lawful measured ordered e =
       let more = measured_more e in
       list_measure_fits order lawful len distance measured more.done (t + n)
-      (in_order_front order len distance more.done others
-      (subst (AreInOrder order) more.split ordered)) more.sum
+      (grind (arith, common_steps, in_order_front)) more.sum
 
 module _ {K V : Type 0} (order : KeyOrder K) {m n : K} (least : order.least ≡ Some m)
     (greatest : order.greatest ≡ Some n) where
   none_untold : (items : List (Item (AnyRange K) V)) → Any (λ i. HasUntoldEnd order i.key) items → ⊥
   none_untold [] h = h
-  none_untold (i ∷ rest) (inl (inl e)) = cc
-  none_untold (i ∷ rest) (inl (inr e)) = cc
-  none_untold (i ∷ rest) (inr h) = none_untold rest h
+  none_untold (i ∷ rest) either = grind (arith, common_steps, none_untold rest)
 
   -- where both ends are told, each list has a measure
   pub told_some : (items : List (Item (AnyRange K) V)) (o : Option ℕ)
       → (IsNone o → Any (λ i. HasUntoldEnd order i.key) items) → IsSome o
-  told_some items (Some l) h = refl
-  told_some items None h = absurd (none_untold items (h refl))
+  told_some items option h = grind (arith, common_steps, none_untold)
 
 module _ {K : Type 0} {order : KeyOrder K} (lawful : IsLawful order) (len : K → ℕ)
     (distance : K → K → ℕ) where
@@ -128,18 +109,13 @@ module _ {K : Type 0} {order : KeyOrder K} (lawful : IsLawful order) (len : K �
         either_iff
         (untold_range i.key (first_known order lawful i.key (item_ranges rest) h).1)
         (untold_list rest (rest_in_order order lawful i.key (item_ranges rest) h)) in
-        let both =
-        none_sum (range_measure order len distance i.key)
-        (list_measure order len distance (item_ranges rest)) in
-        (λ e. either.0 (both.0 e), λ e. both.1 (either.1 e))
+        grind (arith, common_steps, none_sum)
 
     number_bound : (items : List (Item (AnyRange K) V)) (o : Option ℕ)
         → IsSomeAnd o (IsNumberOfKeys order (λ k. Any (λ r. Holds order r k) (item_ranges items)))
         → IsSomeAnd o (IsNumberOfKeys order (IsBound order items))
-    number_bound items None h = h
-    number_bound items (Some n) h =
-        number_same order lawful.total (λ k. Any (λ r. Holds order r k) (item_ranges items))
-        (IsBound order items) n (λ k key. bound_ranges order items k) h
+    number_bound items option h =
+        grind (arith, common_steps, number_same, lawful.total, bound_ranges)
 
     -- over counted keys the measures add up to the number of bound keys
     pub counted_bound : (items : List (Item (AnyRange K) V)) → IsCountedMeasure order len distance

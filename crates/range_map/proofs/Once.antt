@@ -1,5 +1,5 @@
 -- A list in stored form binds a key once.
-use Rattle.range_map.proofs.Common.{sym, ◌∙◌, Bool, IsTrue, List, [], ◌∷◌, inl, inr, IsEquivalence, KeyOrder, IsLawful, Position, AnyRange, Item, BindsTo, item_upper, IsStored, binds_bound}
+use Rattle.range_map.proofs.Common.{arith, common_steps, Bool, IsTrue, List, [], ◌∷◌, inl, inr, IsEquivalence, KeyOrder, IsLawful, Position, AnyRange, Item, BindsTo, item_upper, IsStored, binds_bound}
 use Rattle.range_map.proofs.JoinedItems.{RisesFrom, first_alone, stored_rises}
 
 module _ {K : Type 0} {order : KeyOrder K} (lawful : IsLawful order) {V : Type 0}
@@ -11,10 +11,8 @@ module _ {K : Type 0} {order : KeyOrder K} (lawful : IsLawful order) {V : Type 0
       → RisesFrom order m items → BindsTo order same items k v → BindsTo order same items k w
       → IsTrue (same v w)
   two_bindings_are_same k key m [] v w rises b c = absurd b
-  two_bindings_are_same k key m (i ∷ rest) v w rises (inl b) (inl c) =
-      sym (equal.congr i.value v w b.1) ∙ c.1
-  two_bindings_are_same k key m (i ∷ rest) v w rises (inl b) (inr c) =
-      absurd (first_alone lawful k key m i rest rises b.0 (binds_bound order same rest k w c))
+  two_bindings_are_same k key m (i ∷ rest) v w rises (inl b) either =
+      grind (arith, common_steps, equal.congr, first_alone, binds_bound)
   two_bindings_are_same k key m (i ∷ rest) v w rises (inr b) (inl c) =
       absurd (first_alone lawful k key m i rest rises c.0 (binds_bound order same rest k v b))
   two_bindings_are_same k key m (i ∷ rest) v w rises (inr b) (inr c) =

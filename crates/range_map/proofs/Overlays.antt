@@ -1,5 +1,5 @@
 -- What a copy of one of the two values of each key makes of two lists.
-use Rattle.range_map.proofs.Common.{◌≡◌, refl, sym, subst, ◌∙◌, ◌↔◌, inl, inr, Bool, true, false, List, Option, Some, None, Result, Ok, IsEquivalence, Shared, FnReturnsAt, Bor, KeyOrder, IsLawful, ClonesAreEqual, AnyRange, Item, IsAsAnswered, IsBound, Binds, IsCombinedAt, AreCombined, IsSecondOrFirst, MayOverlay, first_where, IsCopyOfValue, IsOverlaid, IsRestricted, IsWithout, IsStored, binds_bound}
+use Rattle.range_map.proofs.Common.{arith, common_steps, ◌≡◌, refl, subst, ◌↔◌, inl, inr, Bool, true, false, List, Option, Some, None, Result, Ok, IsEquivalence, Shared, FnReturnsAt, Bor, KeyOrder, IsLawful, ClonesAreEqual, AnyRange, Item, IsAsAnswered, IsBound, Binds, IsCombinedAt, AreCombined, IsSecondOrFirst, MayOverlay, first_where, IsCopyOfValue, IsOverlaid, IsRestricted, IsWithout, IsStored, binds_bound}
 use Rattle.range_map.proofs.BoundKeys.{bound_or_not, bound_to_equal, binds_by}
 use Rattle.range_map.proofs.Once.{bound_once}
 
@@ -14,9 +14,7 @@ module _ {F V E : Type 0} (is_clone : V → V → Type 0)
     (clones : (w v : V) → FnReturnsAt calls f w (Ok v) → is_clone w v) where
   chosen_copied : (left right copy : Option V) → IsSecondOrFirst is_clone calls f left right copy
       → IsCopyOfValue is_clone (second_or_first left right) copy
-  chosen_copied left None copy h = h
-  chosen_copied left (Some w) None h = absurd h
-  chosen_copied left (Some w) (Some v) h = clones w v h
+  chosen_copied left option copy h = grind (arith, common_steps)
 
   pub clones_overlaid : (left right copy : Option V)
       → MayOverlay is_clone calls f left right (Ok copy)
@@ -28,12 +26,7 @@ pub chosen_may : {F V W E : Type 0} (is_clone : V → V → Type 0)
     (right : Option W) (answer : Option V)
     → IsSecondOrFirst is_clone calls f left right answer
     → MayOverlay is_clone calls f left right (Ok answer)
-chosen_may is_clone calls f left right answer chosen =
-    record {
-      chosen = λ other e.
-          let same : answer ≡ other = cc in
-          subst (λ a. IsSecondOrFirst is_clone calls f left right a) same chosen;
-    }
+chosen_may is_clone calls f left right answer chosen = grind (arith, common_steps)
 
 -- what the answers are is known less exactly
 pub combined_weaker : {K V W X E : Type 0} (order : KeyOrder K) (same_left : V → V → Bool)
@@ -46,20 +39,7 @@ pub combined_weaker : {K V W X E : Type 0} (order : KeyOrder K) (same_left : V �
     → AreCombined order same_left same_right same may items others new
     → AreCombined order same_left same_right same less items others new
 combined_weaker order same_left same_right same may less items others new weaker combined =
-    record {
-      held = λ k key bound.
-          let at = combined.held k key bound in
-          record {
-            left = at.left;
-            right = at.right;
-            answer = at.answer;
-            first = at.first;
-            second = at.second;
-            given = weaker at.left at.right at.answer at.given;
-            is = at.is;
-          };
-      free = combined.free;
-    }
+    grind (arith, common_steps)
 
 module _ {K : Type 0} (order : KeyOrder K) where
   -- a key that is bound as a copy of what a list binds it to is bound as in the list
@@ -69,19 +49,8 @@ module _ {K : Type 0} (order : KeyOrder K) where
       (stored : IsStored order same items) (k : K) (key : order.is_key k) where
     as_copied : (o copy b : Option V) → Binds order same items k o → IsCopyOfValue is_clone o copy
         → IsAsAnswered same copy b ↔ Binds order same items k b
-    as_copied None None None h is = (λ e. h, λ free. refl)
-    as_copied None None (Some u) h is =
-        (λ e. absurd (cc), λ to. absurd (h (binds_bound order same items k u to)))
-    as_copied None (Some w) b h is = absurd (cc)
-    as_copied (Some v) None b h is = absurd is
-    as_copied (Some v) (Some w) None h is =
-        (λ e. absurd e, λ free. free (binds_bound order same items k v h))
-    as_copied (Some v) (Some w) (Some u) h is =
-        let copied = clones v w is in (
-          λ e. bound_to_equal order same equal items k v u (equal.congr v w u copied ∙ e) h,
-          λ to. sym (equal.congr v w u copied)
-              ∙ bound_once lawful equal items stored k key v u h to,
-        )
+    as_copied option other_option b h is =
+        grind (arith, common_steps, binds_bound, bound_to_equal, equal.congr, bound_once)
 
     bound_as_copied : (o copy : Option V) → Binds order same items k o
         → IsCopyOfValue is_clone o copy
@@ -105,19 +74,6 @@ module _ {K : Type 0} (order : KeyOrder K) where
       (stored : IsStored order same items)
       (may : Option V → Option W → Result (Option V) E → Type 0)
       (combined : AreCombined order same same_other same may items others new) where
-    -- where the second binds the key, and where it does not
-    there : (P : Option W → Type 0) (k : K) (right : Option W)
-        → Binds order same_other others k right → IsBound order others k
-        → ((w : W) → P (Some w)) → P right
-    there P k None second bound use_it = absurd (second bound)
-    there P k (Some w) second bound use_it = use_it w
-
-    missing : (P : Option W → Type 0) (k : K) (right : Option W)
-        → Binds order same_other others k right → ¬ IsBound order others k → P None → P right
-    missing P k None second free use_it = use_it
-    missing P k (Some w) second free use_it =
-        absurd (free (binds_bound order same_other others k w second))
-
     -- what is copied where the other list binds the key, and where it does not
     module _ (kept : Option V → Option W → Option V)
         (told : (left : Option V) (right : Option W) (copy : Option V) → may left right (Ok copy)
@@ -126,14 +82,10 @@ module _ {K : Type 0} (order : KeyOrder K) where
           (at : IsCombinedAt order same same_other same may items others new k) where
         as_in_items : kept at.left at.right ≡ at.left → (b : Option V)
             → Binds order same new k b ↔ Binds order same items k b
-        as_in_items is =
-            bound_as_copied lawful equal is_clone clones items new stored k key at.left
-            at.answer at.first (rw is at (told at.left at.right at.answer at.given)) at.is
+        as_in_items is = grind (arith, common_steps, bound_as_copied)
 
         gone_at : kept at.left at.right ≡ None → ¬ IsBound order new k
-        gone_at is =
-            free_as_copied lawful equal is_clone clones items new stored k key at.answer
-            (rw is at (told at.left at.right at.answer at.given)) at.is
+        gone_at is = grind (arith, common_steps, free_as_copied)
 
       items_where_free : ((left : Option V) → kept left None ≡ left) → (k : K)
           → order.is_key k → ¬ IsBound order others k → (b : Option V)
@@ -142,13 +94,8 @@ module _ {K : Type 0} (order : KeyOrder K) where
           elim (bound_or_not order lawful items k) [
             | inl bound ↦
                 let at = combined.held k key (inl bound) in
-                as_in_items k key at
-                (missing (λ right. kept at.left right ≡ at.left) k at.right at.second free
-                (is at.left))
-            | inr none ↦ binds_by order same equal new items k (λ v. (
-              λ h. absurd (combined.free k key none free (binds_bound order same new k v h)),
-              λ h. absurd (none (binds_bound order same items k v h)),
-            ))
+                as_in_items k key at (grind (arith, common_steps, binds_bound, is at.left))
+            | inr none ↦ grind (arith, common_steps, binds_by, binds_bound)
           ]
 
     -- the answers are copies of the first value where there is a second, or where there is none
@@ -164,15 +111,12 @@ module _ {K : Type 0} (order : KeyOrder K) where
         record {
           kept = λ k key bound.
               let at = combined.held k key (inr bound) in
-              as_in_items kept told k key at
-              (there (λ right. kept at.left right ≡ at.left) k at.right at.second bound
-              (λ w. refl));
+              as_in_items kept told k key at (grind (arith, common_steps));
           gone = λ k key free.
               elim (bound_or_not order lawful items k) [
                 | inl bound ↦
                     let at = combined.held k key (inl bound) in
-                    gone_at kept told k key at
-                    (missing (λ right. kept at.left right ≡ None) k at.right at.second free refl)
+                    gone_at kept told k key at (grind (arith, common_steps, binds_bound))
                 | inr none ↦ combined.free k key none free
               ];
         }
@@ -185,8 +129,7 @@ module _ {K : Type 0} (order : KeyOrder K) where
         record {
           gone = λ k key bound.
               let at = combined.held k key (inr bound) in
-              gone_at kept told k key at
-              (there (λ right. kept at.left right ≡ None) k at.right at.second bound (λ w. refl));
+              gone_at kept told k key at (grind (arith, common_steps));
           kept = items_where_free kept told (λ left. refl);
         }
 
@@ -203,10 +146,8 @@ module _ {K : Type 0} (order : KeyOrder K) where
         → ((b : Option V) → Binds order same new k b ↔ IsAsAnswered same copy b)
         → IsBound order others k → (b : Option V)
         → Binds order same new k b ↔ Binds order same others k b
-    over_at k key left None copy second is answered bound = absurd (second bound)
-    over_at k key left (Some w) copy second is answered bound =
-        bound_as_copied lawful equal is_clone clones others new stored_others k key (Some w)
-        copy second is answered
+    over_at k key left option copy second is answered bound =
+        grind (arith, common_steps, bound_as_copied)
 
     pub overlaid : IsOverlaid order same items others new
     overlaid =

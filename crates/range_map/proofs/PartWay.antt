@@ -1,6 +1,6 @@
 -- A list that is gone over, and what holds of the part of it that is done.
-use Rattle.std.proofs.Common.{◌≡◌, refl, sym, ap, subst, ◌∙◌, append_assoc, List, [], ◌∷◌, ◌++◌}
-use Rattle.range_map.proofs.Common.{append-nil, KeyOrder, AnyRange, Item, AreGaps, BeforeOne, BeforeOneGap}
+use Rattle.std.proofs.Common.{◌≡◌, refl, sym, ap, ◌∙◌, List, [], ◌∷◌, ◌++◌}
+use Rattle.range_map.proofs.Common.{arith, common_steps, append-nil, KeyOrder, AnyRange, Item, AreGaps, BeforeOne, BeforeOneGap}
 
 module _ {A : Type 0} where
   -- P holds of what stands before the rest
@@ -15,13 +15,7 @@ module _ {A : Type 0} where
   pub one_done : {P Q : List A → Type 0} {all rest others : List A} {x : A} → rest ≡ x ∷ others
       → ((done : List A) → done ++ x ∷ others ≡ all → P done → Q (done ++ x ∷ []))
       → IsPartWay P all rest → IsPartWay Q all others
-  one_done {others = others} {x = x} came step way =
-      let split = ap (λ l. way.done ++ l) (sym came) ∙ way.split in
-      record {
-        done = way.done ++ x ∷ [];
-        split = append_assoc way.done (x ∷ []) others ∙ split;
-        so_far = step way.done split way.so_far;
-      }
+  one_done {others = others} {x = x} came step way = grind (arith, common_steps)
 
   -- where it stopped at the next element
   pub stopped : {P : List A → Type 0} {all rest others : List A} {x : A} → rest ≡ x ∷ others
@@ -31,9 +25,7 @@ module _ {A : Type 0} where
 
   -- where nothing is left
   pub arrived : {P : List A → Type 0} {all rest : List A} → rest ≡ [] → IsPartWay P all rest → P all
-  arrived {P = P} ended way =
-      subst P (sym (append-nil way.done) ∙ (ap (λ l. way.done ++ l) (sym ended) ∙ way.split))
-      way.so_far
+  arrived {P = P} ended way = grind (arith, common_steps, append-nil)
 
 pub stopped_at_gap : {K V : Type 0} {order : KeyOrder K} {P : List (AnyRange K) → Type 0}
     {items : List (Item (AnyRange K) V)} {gaps rest others : List (AnyRange K)} {g : AnyRange K}

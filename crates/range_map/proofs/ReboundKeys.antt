@@ -1,5 +1,5 @@
 -- What the keys of a piece are bound to, and what they come to be bound to by an answer to it.
-use Rattle.range_map.proofs.Common.{◌≡◌, Bool, List, [], ◌∷◌, map, Option, Some, None, ◌↔◌, inl, inr, Result, Ok, Bor, Shared, IsEquivalence, KeyOrder, IsLawful, Any, Every, every_weaker, Holds, AnyRange, Item, Answered, IsAsAnswered, MayAnswer, IsUpdated, piece_of, Binds, BindsTo, IsPiece, IsCommonPart, IsRebound, AreRebound}
+use Rattle.range_map.proofs.Common.{arith, common_steps, ◌≡◌, Bool, List, [], ◌∷◌, map, Option, ◌↔◌, Result, Ok, Bor, Shared, IsEquivalence, KeyOrder, IsLawful, Any, Every, every_weaker, Holds, AnyRange, Item, Answered, IsAsAnswered, MayAnswer, IsUpdated, piece_of, Binds, BindsTo, IsPiece, IsCommonPart, IsRebound, AreRebound}
 use Rattle.range_map.proofs.BindingAll.{common_lies_in}
 use Rattle.range_map.proofs.BoundKeys.{none_holds, shared_key_is_overlap}
 use Rattle.range_merge.proofs.HeldInside.{lies_in_holds}
@@ -11,21 +11,14 @@ module _ {K : Type 0} {order : KeyOrder K} (lawful : IsLawful order) (k : K)
         → Any (λ i. IsCommonPart order r i.key part × (i.value ≡ v)) items → Holds order part k
         → BindsTo order same items k v
     some_bound [] r part v h held = h
-    some_bound (i ∷ items) r part v (inl (common, e)) held =
-        inl (
-          lies_in_holds lawful k key part i.key (common_lies_in order lawful r i.key part common).1
-              held,
-          rw e (equal.refl v),
-        )
-    some_bound (i ∷ items) r part v (inr h) held = inr (some_bound items r part v h held)
+    some_bound (i ∷ items) r part v either held =
+        grind (arith, lies_in_holds, common_lies_in, equal.refl, some_bound items r part v)
 
     -- a piece tells what its keys are bound to
     piece_binds : (items : List (Item (AnyRange K) V)) (r part : AnyRange K) (value : Option V)
         → IsPiece order items r part value → Holds order part k → Binds order same items k value
-    piece_binds items r part None piece held =
-        (none_holds order items k).1 (every_weaker _ _ items (λ i apart here.
-        apart (shared_key_is_overlap lawful k key i.key part here held)) piece.0.free)
-    piece_binds items r part (Some v) piece held = some_bound items r part v piece.1 held
+    piece_binds items r part option piece held =
+        grind (arith, common_steps, none_holds, every_weaker, shared_key_is_overlap, some_bound)
 
     -- a held key is bound as the answer to its piece says
     rebound_at : {E : Type 0} (may : Option V → Result (Option V) E → Type 0)
@@ -35,16 +28,8 @@ module _ {K : Type 0} {order : KeyOrder K} (lawful : IsLawful order) (k : K)
         × ((b : Option V) → Binds order same next k b ↔ IsAsAnswered same a.answer b)) answers
         → IsRebound order same may items next k
     rebound_at may items next r [] pieces given held = absurd held
-    rebound_at may items next r (a ∷ answers) pieces given (inl here) =
-        record {
-          old = a.value;
-          answer = a.answer;
-          was = piece_binds items r a.key a.value pieces.0 here.0;
-          given = given.0;
-          is = here.1;
-        }
-    rebound_at may items next r (a ∷ answers) pieces given (inr rest) =
-        rebound_at may items next r answers pieces.1 given.1 rest
+    rebound_at may items next r (a ∷ answers) pieces given either =
+        grind (arith, piece_binds, rebound_at may items next r answers pieces.1 given.1)
 
 module _ {K : Type 0} {order : KeyOrder K} (lawful : IsLawful order) {V : Type 0}
     {same : V → V → Bool} (equal : IsEquivalence same) {F E : Type 0}

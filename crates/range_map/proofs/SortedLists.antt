@@ -1,5 +1,5 @@
 -- Lists that are sorted up to a place, and what a map is built of.
-use Rattle.range_map.proofs.Common.{◌≡◌, refl, ap, ◌∙◌, ◌+◌, ◌<◌, ◌≤◌, ℕ, zero, suc, take, map, get_or, length, Some, List, [], ◌∷◌, ◌++◌, arith, map_more, take-map, KeyOrder, IsLawful, lower, Every, IsKnownRange, AnyRange, Item, full_range, IsFirstFault, IsNext, IsSorted, last_key}
+use Rattle.range_map.proofs.Common.{common_steps, ◌≡◌, refl, ◌∙◌, ◌+◌, ◌<◌, ◌≤◌, ℕ, zero, suc, take, map, get_or, length, Some, List, [], ◌∷◌, ◌++◌, arith, map_more, take-map, KeyOrder, IsLawful, lower, Every, IsKnownRange, AnyRange, Item, full_range, IsFirstFault, IsNext, IsSorted, last_key}
 use Rattle.range_map.proofs.JoinedItems.{RisesFrom, ascending_rises}
 use Rattle.range_map.proofs.Together.{ascends}
 
@@ -9,6 +9,10 @@ last_is (y ∷ z ∷ rest) x = last_is (z ∷ rest) x
 last_is xs x = refl
 
 module _ {K : Type 0} (order : KeyOrder K) {V : Type 0} where
+  tail_sorted : {x : Item (AnyRange K) V} {xs : List (Item (AnyRange K) V)} → IsSorted order (x ∷ xs)
+      → IsSorted order xs
+  tail_sorted sorted = record { nonempty = sorted.nonempty.1; rising = sorted.rising.1 }
+
   -- one more is sorted with the others where it is the next
   pub sorted_more : (xs : List (Item (AnyRange K) V)) (x : Item (AnyRange K) V)
       → IsSorted order xs → IsNext order (last_key xs) x.key → IsSorted order (xs ++ x ∷ [])
@@ -17,21 +21,15 @@ module _ {K : Type 0} (order : KeyOrder K) {V : Type 0} where
   sorted_more (y ∷ []) x sorted next =
       record { nonempty = (sorted.nonempty.0, (next.0, tt)); rising = (next.1, (tt, tt)) }
   sorted_more (y ∷ z ∷ rest) x sorted next =
-      let more =
-      sorted_more (z ∷ rest) x
-      (record { nonempty = sorted.nonempty.1; rising = sorted.rising.1 }) next in
-      record {
-        nonempty = (sorted.nonempty.0, more.nonempty);
-        rising = (sorted.rising.0, more.rising);
-      }
+      let more = sorted_more (z ∷ rest) x (tail_sorted sorted) next in
+      grind (arith, common_steps)
 
   pub more_sorted : (xs : List (Item (AnyRange K) V)) (x : Item (AnyRange K) V)
       → IsSorted order (xs ++ x ∷ []) → IsNext order (last_key xs) x.key
   more_sorted [] x sorted = sorted.nonempty.0
   more_sorted (y ∷ []) x sorted = (sorted.nonempty.1.0, sorted.rising.0)
   more_sorted (y ∷ z ∷ rest) x sorted =
-      more_sorted (z ∷ rest) x
-      (record { nonempty = sorted.nonempty.1; rising = sorted.rising.1 })
+      more_sorted (z ∷ rest) x (tail_sorted sorted)
 
   -- the first of what is sorted are sorted
   pub front_sorted : (n : ℕ) (xs : List (Item (AnyRange K) V)) → IsSorted order xs
@@ -42,13 +40,8 @@ module _ {K : Type 0} (order : KeyOrder K) {V : Type 0} where
       record { nonempty = (sorted.nonempty.0, tt); rising = (tt, tt) }
   front_sorted (suc (suc n)) (x ∷ []) sorted = sorted
   front_sorted (suc (suc n)) (x ∷ y ∷ xs) sorted =
-      let rest =
-      front_sorted (suc n) (y ∷ xs)
-      (record { nonempty = sorted.nonempty.1; rising = sorted.rising.1 }) in
-      record {
-        nonempty = (sorted.nonempty.0, rest.nonempty);
-        rising = (sorted.rising.0, rest.rising);
-      }
+      let front = front_sorted (suc n) (y ∷ xs) (tail_sorted sorted) in
+      grind (arith, common_steps)
 
   -- a sorted list has no fault
   pub sorted_has_none : (xs : List (Item (AnyRange K) V)) (n : ℕ) → IsSorted order xs
@@ -56,8 +49,7 @@ module _ {K : Type 0} (order : KeyOrder K) {V : Type 0} where
   sorted_has_none xs n sorted fault = fault.1 (front_sorted (n + 1) xs sorted)
 
   fewer : (m n : ℕ) (xs : List (Item (AnyRange K) V)) → m ≤ n → take m (take n xs) ≡ take m xs
-  fewer (suc m) zero xs le = absurd (omega (arith, le))
-  fewer (suc m) (suc n) (x ∷ xs) le = ap (λ ys. x ∷ ys) (fewer m n xs (omega (arith, le)))
+  fewer (suc m) count xs le = grind (arith, common_steps, fewer m)
   fewer m n xs le = refl
 
   not_later : (xs : List (Item (AnyRange K) V)) (m n : ℕ) → IsFirstFault order xs m
@@ -69,10 +61,7 @@ module _ {K : Type 0} (order : KeyOrder K) {V : Type 0} where
   -- there is one first fault
   pub one_fault : (xs : List (Item (AnyRange K) V)) (m n : ℕ) → IsFirstFault order xs m
       → IsFirstFault order xs n → m ≡ n
-  one_fault xs m n fault other =
-      let up = not_later xs m n fault other in
-      let down = not_later xs n m other fault in
-      omega (arith, up, down)
+  one_fault xs m n fault other = grind (arith, common_steps, not_later)
 
   module _ (lawful : IsLawful order) where
     -- a sorted list rises

@@ -1,6 +1,6 @@
 -- A stored list cut in two at a key.
 use Rattle.range_keys.proofs.Orderings.{any_then_equal}
-use Rattle.range_map.proofs.Common.{◌≡◌, sym, ◌∙◌, ◌+◌, ◌≤◌, Bool, true, IsTrue, List, [], ◌∷◌, ◌++◌, length, arith, subst, Equal, inl, inr, Bound, Included, Excluded, Unbounded, IsEquivalence, append_assoc, length-append, KeyOrder, IsLawful, Below, NotAbove, start_position, Position, Beside, At, SameBound, Le, Lt, Every, Holds, IsKnownBound, AnyRange, MeetsSome, Overlap, before_is, unbounded_end, lt_le_trans, lt_not_le, every_append, every_left, every_right, every_weaker, Item, line_of, IsLeft, IsRight, IsStored, item_lower, item_upper, held_between, same_is_symmetric, chain_before, places, Known, bound_hold, chain_stored, same_binds, stored_chain, stored_known, le_refl, lt_le, le_trans, not_lt, both}
+use Rattle.range_map.proofs.Common.{common_steps, ◌≡◌, sym, ◌∙◌, ◌+◌, ◌≤◌, Bool, true, IsTrue, List, [], ◌∷◌, ◌++◌, length, arith, subst, Equal, inl, Bound, Included, Excluded, Unbounded, IsEquivalence, append_assoc, length-append, KeyOrder, IsLawful, Below, NotAbove, start_position, Position, Beside, At, SameBound, Le, Lt, Every, Holds, IsKnownBound, AnyRange, MeetsSome, Overlap, before_is, unbounded_end, lt_le_trans, lt_not_le, every_append, every_left, every_right, every_weaker, Item, line_of, IsLeft, IsRight, IsStored, item_lower, item_upper, held_between, same_is_symmetric, chain_before, places, Known, bound_hold, chain_stored, same_binds, stored_chain, stored_known, le_refl, lt_le, le_trans, not_lt, both}
 use Rattle.range_runs.specs.Edits.{with_start}
 use Rattle.range_map.specs.Splitting.{IsDivided}
 use Rattle.range_runs.proofs.ChainSides.{left_whole, left_cut, right_whole, right_cut, none_above, none_below}
@@ -41,8 +41,7 @@ module _ {K : Type 0} {order : KeyOrder K} (lawful : IsLawful order) {V : Type 0
     unmet_by items (i ∷ xs) full none =
         let ends : Le (places order lawful) (item_upper order i) cut =
         not_lt lawful _ _ (λ reaches. none (inl (reaching_meets items i full.0 reaches))) in
-        let rest = unmet_by items xs full.1 (λ meets. none (inr meets)) in
-        ((ends, rest.0), (lt_le_trans lawful _ _ _ full.0.1 ends, rest.1))
+        grind (arith, common_steps, unmet_by items xs full.1, lt_le_trans)
 
     -- where none meets what lies from the key on, each ends and starts before the key
     pub unmet_is_below : (items : List (Item (AnyRange K) V)) → IsStored order same items

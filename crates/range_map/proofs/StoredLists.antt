@@ -1,6 +1,6 @@
 -- Lists of the map's form are coarse over complete keys, and equal exactly where they bind every
 -- key alike.
-use Rattle.range_map.proofs.Common.{◌≡◌, refl, sym, ap, ◌∙◌, List, [], ◌∷◌, length, inl, inr, ◌↔◌, Bool, IsTrue, Some, Ordering, Equal, is_eq, eq_by_cmp, IsEquivalence, IsTotalOrder, Equal-is, alike_right, first_so, second_so, KeyOrder, IsLawful, IsComplete, Holds, IsKnownRange, IsEmptyRange, IsKeyless, AnyRange, Every, and_from, Item, IsBound, BindsTo, BindAlike, IsCoarse, AreAlike, IsOnlyCoarse, IsLeastCount, IsStored, same_list, list_cmp, lists_tied, lists_order, empty_is_keyless, same_is_equal, equal_is_same, binds_bound, nonempty_holds}
+use Rattle.range_map.proofs.Common.{arith, common_steps, ◌≡◌, refl, sym, ap, ◌∙◌, List, [], ◌∷◌, length, ◌↔◌, Bool, IsTrue, Some, Ordering, Equal, is_eq, eq_by_cmp, IsEquivalence, IsTotalOrder, Equal-is, alike_right, first_so, second_so, KeyOrder, IsLawful, IsComplete, Holds, IsKnownRange, IsEmptyRange, IsKeyless, AnyRange, Every, and_from, Item, IsBound, BindsTo, BindAlike, IsCoarse, AreAlike, IsOnlyCoarse, IsLeastCount, IsStored, same_list, list_cmp, lists_tied, lists_order, empty_is_keyless, same_is_equal, equal_is_same, binds_bound, nonempty_holds}
 use Rattle.range_algebra.proofs.Meeting.{not_greater}
 use Rattle.range_map.proofs.BoundKeys.{bound_value, bound_to_equal, bound_by, binds_by}
 use Rattle.range_map.proofs.Coarse.{coarse_alike, coarse_shortest}
@@ -81,12 +81,7 @@ module _ {K : Type 0} {order : KeyOrder K} (lawful : IsLawful order) {V : Type 0
       → BindsTo order same_value items k v ↔ BindsTo order same_value others k v
   alike_binds_to [] [] alike k key v = (λ h. h, λ h. h)
   alike_binds_to (i ∷ items) (j ∷ others) alike k key v =
-      let held = alike.0.0 k key in
-      let value = values.congr i.value j.value v alike.0.1 in
-      let behind = alike_binds_to items others alike.1 k key v in (
-        λ h. elim h [ inl g ↦ inl (held.0 g.0, sym value ∙ g.1) | inr g ↦ inr (behind.0 g) ],
-        λ h. elim h [ inl g ↦ inl (held.1 g.0, value ∙ g.1) | inr g ↦ inr (behind.1 g) ],
-      )
+      grind (arith, common_steps, values.congr, alike_binds_to items others alike.1 k key v)
   alike_binds_to items others alike k key v = absurd alike
 
   -- alike lists bind every key alike
@@ -104,12 +99,8 @@ module _ {K : Type 0} {order : KeyOrder K} (lawful : IsLawful order) {V : Type 0
   pub stored_equal : IsComplete order → (items others : List (Item (AnyRange K) V))
       → IsStored order same_value items → IsStored order same_value others
       → IsTrue (same_list order same_value items others) ↔ BindAlike order same_value items others
-  stored_equal complete items others stored stored' = (
-    equal_binds items others,
-    λ alike. alike_equal complete items others stored stored'
-        (coarse_alike lawful values items others
-        (stored_coarse lawful _ stored complete) (stored_coarse lawful _ stored' complete) alike),
-  )
+  stored_equal complete items others stored stored' =
+      grind (arith, common_steps, equal_binds, alike_equal, coarse_alike, stored_coarse)
 
   module _ (value_cmp : V → V → Ordering) (total : IsTotalOrder value_cmp)
       (tied : (u v : V) → same_value u v ≡ eq_by_cmp value_cmp u v)
@@ -139,28 +130,18 @@ module _ {K : Type 0} {order : KeyOrder K} (lawful : IsLawful order) {V : Type 0
 module _ {K : Type 0} (order : KeyOrder K) {V : Type 0} (same_value : V → V → Bool)
     (one : (u v : V) → IsTrue (same_value u v)) where
   all_equal : IsEquivalence same_value
-  all_equal =
-      record {
-        refl = λ u. one u u;
-        symm = λ u v. one u v ∙ sym (one v u);
-        congr = λ u v w e. one u w ∙ sym (one v w);
-      }
+  all_equal = grind (arith, common_steps)
 
   binds_any : (items : List (Item (AnyRange K) V)) (k : K) (v : V) → IsBound order items k
       → BindsTo order same_value items k v
-  binds_any items k v h =
-      let found = bound_value order same_value all_equal items k h in
-      bound_to_equal order same_value all_equal items k found.0 v (one found.0 v) found.1
+  binds_any items k v h = grind (arith, common_steps, bound_value, all_equal, bound_to_equal)
 
   -- where all values are equal, as in a set, lists bind alike where they hold the same keys
   pub same_keys : (items others : List (Item (AnyRange K) V))
       → ((k : K) → order.is_key k → IsBound order items k ↔ IsBound order others k)
       ↔ BindAlike order same_value items others
   same_keys items others = (
-    λ alike k key. binds_by order same_value all_equal items others k (λ v. (
-      λ h. binds_any others k v ((alike k key).0 (binds_bound order same_value items k v h)),
-      λ h. binds_any items k v ((alike k key).1 (binds_bound order same_value others k v h)),
-    )),
+    grind (arith, common_steps, binds_by, all_equal, binds_any, binds_bound),
     λ alike k key. (
       bound_by order same_value all_equal items others k (λ v. (alike k key (Some v)).0),
       bound_by order same_value all_equal others items k (λ v. (alike k key (Some v)).1),
@@ -196,9 +177,5 @@ module _ {K : Type 0} {order : KeyOrder K} (lawful : IsLawful order) (complete :
       record {
         known = known;
         nonempty = (keyed_full i.key coarse.keyed.0, behind.nonempty);
-        rising = (
-          is_before_of order lawful complete i.key j.key known.0 known.1.0 first.0 next.0 first.1
-              next.1 first.2 next.2 coarse.rising.0 (same_value i.value j.value) coarse.parted.0,
-          behind.rising,
-        );
+        rising = grind (arith, common_steps, is_before_of);
       }

@@ -1,5 +1,5 @@
 -- Two lists of ranges in one pass over both: what the first ranges say of all.
-use Rattle.range_map.proofs.Common.{◌≡◌, sym, ◌∙◌, ◌<◌, ◌↔◌, inl, inr, Bool, Option, Some, None, List, [], ◌∷◌, ◌++◌, length, arith, MatchOption, option_map, Bor, KeyOrder, IsLawful, start_position, end_position, position_cmp, Le, Any, Every, IsEmptyRange, LiesBefore, AnyRange, any_none, every_weaker, Item, shown_item, MeetsSome, LiesIn, IsStored, not_greater, MeetNowhere, LieInside, IsListed, stored_list_is_listed, le_trans, lt_le, lt_not_le, lt_le_trans}
+use Rattle.range_map.proofs.Common.{common_steps, ◌≡◌, ◌<◌, ◌↔◌, inl, inr, Bool, Option, Some, None, List, [], ◌∷◌, ◌++◌, length, arith, MatchOption, option_map, Bor, KeyOrder, IsLawful, start_position, end_position, position_cmp, Le, Any, Every, IsEmptyRange, LiesBefore, AnyRange, any_none, every_weaker, Item, shown_item, MeetsSome, LiesIn, IsStored, not_greater, MeetNowhere, LieInside, IsListed, stored_list_is_listed, le_trans, lt_le, lt_not_le, lt_le_trans}
 use Rattle.range_runs.specs.Neighbours.{EachNext}
 use Rattle.range_runs.specs.Window.{option_items}
 
@@ -17,14 +17,12 @@ Gives before next after =
 stepped : {K V : Type 0} (before after : List (Item (AnyRange K) V))
     (next : Option (Bor (AnyRange K) × Bor V)) → Gives before next after
     → ahead next after ≡ before
-stepped before after None steps = steps.1 ∙ sym steps.0
-stepped before after (Some x) steps = sym steps
+stepped before after option steps = grind (arith, common_steps)
 
 drained : {K V : Type 0} (before after : List (Item (AnyRange K) V))
     (next : Option (Bor (AnyRange K) × Bor V)) → Gives before next after → next ≡ None
     → after ≡ []
-drained before after None steps e = steps.1
-drained before after (Some x) steps e = absurd (cc)
+drained before after option steps e = grind (arith, common_steps)
 
 -- the list of both is shorter by the one that it gave
 pub shorter : {K V : Type 0} (before after : List (Item (AnyRange K) V))
@@ -132,20 +130,7 @@ module _ {K : Type 0} {order : KeyOrder K} (lawful : IsLawful order) where
         → Gives before next ranges → Gives before_other near rest
         → IsPass order M items others next ranges near rest
     sets_out M before ranges items next before_other rest others near e f stored stored_other steps
-        steps_other = record {
-          left = rw (
-            ← e,
-            ← f,
-            stepped before ranges next steps,
-            stepped before_other rest near steps_other,
-          ) (record {
-            left_ascends = stored_ascends stored;
-            right_ascends = stored_ascends stored_other;
-            same = (λ h. h, λ h. h);
-          });
-          first = drained before ranges next steps;
-          second = drained before_other rest near steps_other;
-        }
+        steps_other = grind (arith, common_steps, stepped, stored_ascends, drained)
 
     -- a range before all of the first list tells nothing of them
     past_second : (P : Item (AnyRange K) V → List (Item (AnyRange K) W) → Type 0)
@@ -161,10 +146,7 @@ module _ {K : Type 0} {order : KeyOrder K} (lawful : IsLawful order) where
             → Every (λ x. LiesBefore order j.key x.key) xs
             → Every (λ x. P x (j ∷ right)) xs ↔ Every (λ x. P x right) xs
         past_all [] rising all = (λ h. h, λ h. h)
-        past_all (x ∷ xs) rising all =
-            let here = f x all.0 rising.0 in
-            let behind = past_all xs rising.2 all.1 in
-            (λ h. (here.0 h.0, behind.0 h.1), λ h. (here.1 h.0, behind.1 h.1))
+        past_all (x ∷ xs) rising all = grind (arith, common_steps, past_all xs rising.2 all.1)
 
     pub apart_tells : Tells order (MeetNowhere order {V = V} {W = W}) (LiesBefore order)
     apart_tells i left j right rising rising' = record {
@@ -176,15 +158,11 @@ module _ {K : Type 0} {order : KeyOrder K} (lawful : IsLawful order) where
     }
       where
         unmet : LiesBefore order i.key j.key → ¬ MeetsSome order (j ∷ right) i.key
-        unmet h (inl meets) = meets.1 h
-        unmet h (inr meets) =
-            any_none _ _ right rising'.1
-            (λ l k m. m.1 (before_through i.key j.key l.key rising'.0 h k)) meets
+        unmet h either = grind (arith, common_steps, any_none, before_through)
 
         unmet_by : (x : Item (AnyRange K) V) → LiesBefore order j.key x.key
             → (¬ MeetsSome order right x.key) → ¬ MeetsSome order (j ∷ right) x.key
-        unmet_by x before none (inl meets) = meets.0 before
-        unmet_by x before none (inr meets) = none meets
+        unmet_by x before none either = grind (arith, common_steps)
 
     pub inside_tells : Tells order (LieInside order {V = V} {W = W}) (LiesIn order)
     inside_tells i left j right rising rising' = record {
@@ -192,12 +170,7 @@ module _ {K : Type 0} {order : KeyOrder K} (lawful : IsLawful order) where
       second =
           past_second (λ x others. Any (λ l. LiesIn order x.key l.key) others) i left j right
           (λ x before full. (in_rest x before full, λ inside. inr inside)) rising;
-      none = λ h k inside. elim inside.0 [
-        | inl part ↦ h part
-        | inr later ↦
-            any_none _ _ right rising'.1 (λ l m part. k (lt_le_trans lawful _ _ _ m part.starts))
-            later
-      ];
+      none = grind (arith, common_steps, any_none, lt_le_trans);
     }
       where
         in_rest : (x : Item (AnyRange K) V) → LiesBefore order j.key x.key
@@ -215,14 +188,10 @@ module _ {K V W : Type 0} {order : KeyOrder K}
     {near : Option (Bor (AnyRange K) × Bor W)} {rest : List (Item (AnyRange K) W)}
     (was : IsPass order M items others next ranges near rest) where
   pub none_left : next ≡ None → M items others ↔ M [] (ahead near rest)
-  none_left e =
-      let end : IsLeft order M items others [] (ahead near rest) =
-      rw (e, was.first e) at was.left in end.same
+  none_left e = grind (arith, common_steps)
 
   pub none_right : near ≡ None → M items others ↔ M (ahead next ranges) []
-  none_right e =
-      let end : IsLeft order M items others (ahead next ranges) [] =
-      rw (e, was.second e) at was.left in end.same
+  none_right e = grind (arith, common_steps)
 
   module _ {F : AnyRange K → AnyRange K → Type 0} (tells : Tells order M F)
       {pair : Bor (AnyRange K) × Bor V} {other : Bor (AnyRange K) × Bor W}
@@ -231,41 +200,19 @@ module _ {K V W : Type 0} {order : KeyOrder K}
     both_left = rw (e, f) at was.left
 
     told : IsTold order M F (shown_item pair) ranges (shown_item other) rest
-    told =
-        tells (shown_item pair) ranges (shown_item other) rest both_left.left_ascends
-        both_left.right_ascends
+    told = grind (arith, common_steps)
 
     pub goes_left : F pair.0.now other.0.now → (after : List (Item (AnyRange K) V))
         (result : Option (Bor (AnyRange K) × Bor V)) → Gives ranges result after
         → IsPass order M items others result after near rest
-    goes_left h after result steps = record {
-      left = rw (stepped ranges after result steps, f) (record {
-        left_ascends = both_left.left_ascends.2;
-        right_ascends = both_left.right_ascends;
-        same = (
-          λ m. (told.first h).0 (both_left.same.0 m),
-          λ m. both_left.same.1 ((told.first h).1 m),
-        );
-      });
-      first = drained ranges after result steps;
-      second = was.second;
-    }
+    goes_left h after result steps =
+        grind (arith, common_steps, stepped, both_left, told, drained)
 
     pub goes_right : LiesBefore order other.0.now pair.0.now
         → (after : List (Item (AnyRange K) W)) (result : Option (Bor (AnyRange K) × Bor W))
         → Gives rest result after → IsPass order M items others next ranges result after
-    goes_right h after result steps = record {
-      left = rw (stepped rest after result steps, e) (record {
-        left_ascends = both_left.left_ascends;
-        right_ascends = both_left.right_ascends.2;
-        same = (
-          λ m. (told.second h).0 (both_left.same.0 m),
-          λ m. both_left.same.1 ((told.second h).1 m),
-        );
-      });
-      first = was.first;
-      second = drained rest after result steps;
-    }
+    goes_right h after result steps =
+        grind (arith, common_steps, stepped, both_left, told, drained)
 
     pub not_so : (¬ F pair.0.now other.0.now) → (¬ LiesBefore order other.0.now pair.0.now)
         → ¬ M items others

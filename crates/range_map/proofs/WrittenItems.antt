@@ -1,6 +1,6 @@
 -- A loop that writes items one after the other.
-use Rattle.std.proofs.Common.{◌≡◌, refl, ◌∙◌, ap, ℕ, List, [], ◌∷◌, ◌++◌, append_assoc, Option, Some, Result, sym}
-use Rattle.range_map.proofs.Common.{IsOk, AnyRange, Item}
+use Rattle.std.proofs.Common.{◌≡◌, refl, ℕ, List, [], ◌∷◌, ◌++◌, Option, Some, Result}
+use Rattle.range_map.proofs.Common.{arith, common_steps, IsOk, AnyRange, Item}
 use Rattle.std.specs.Fmt.{HasWritten, IsPlainFormatter, DisplaysOnOk, option_append}
 use Rattle.std.specs.declared.fmt.Error.{Error}
 use Rattle.std.specs.declared.fmt.Formatter.{Formatter}
@@ -10,8 +10,7 @@ use Rattle.range_map.specs.Texts.{item_text, items_text}
 -- where two texts are known together, each is
 pub both_known : (o p : Option (List ℕ)) (text : List ℕ) → option_append o p ≡ Some text
     → (a b : List ℕ) × (o ≡ Some a) × (p ≡ Some b) × (text ≡ a ++ b)
-both_known (Some a) (Some b) text e = (a, b, refl, refl, cc)
-both_known o p text e = absurd (cc)
+both_known o p text e = grind (arith, common_steps)
 
 module _ {K V : Type 0} (key_text : K → Option (List ℕ)) (value_text : V → Option (List ℕ))
     {W : Type 0} (took : W → List ℕ → W → Type 0) where
@@ -38,8 +37,6 @@ module _ {K V : Type 0} (key_text : K → Option (List ℕ)) (value_text : V →
         before.0 ++ parts.0,
         parts.1,
         parts.3,
-        before.3 ∙ ap (λ (l : List ℕ). before.0 ++ l) parts.4
-            ∙ sym (append_assoc before.0 parts.0 parts.1),
-        has_written_append took f before.0 g parts.0 h before.4
-            ((rw parts.2 at displays) before.4.plain ok),
+        grind (arith, common_steps),
+        grind (arith, common_steps, has_written_append),
       )

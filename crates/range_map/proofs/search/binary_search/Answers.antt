@@ -1,15 +1,6 @@
-use Rattle.range_map.proofs.Common.{◌+◌, ◌-◌, ◌/◌, ap, sym, ◌∙◌, arith, common_steps, is_before}
+use Rattle.range_map.proofs.Common.{◌+◌, ◌-◌, ◌/◌, ap, sym, ◌∙◌, arith, is_before}
 use Rattle.range_runs.proofs.Comparisons.{before_from}
 use Rattle.range_map.proofs.search.binary_search.Goals as goal
-
-pub loop-low-preserved : goal.loop-low-preserved
-loop-low-preserved g c =
-    record {
-      in_order = omega arith;
-      in_range = omega arith;
-      reached = grind (arith, common_steps);
-      behind = c.loop-low.invariant.behind;
-    }
 
 pub loop-low-preserved-then-is_before : goal.loop-low-preserved-then-is_before
 loop-low-preserved-then-is_before g c =

@@ -1,5 +1,5 @@
-use Rattle.range_map.proofs.Common.{refl, arith, false≢true, MeetNowhere, not_both}
-use Rattle.range_map.proofs.Together.{shorter, sets_out, apart_tells, goes_left, goes_right, not_so, none_left, none_right, none_met}
+use Rattle.range_map.proofs.Common.{common_steps, arith, false≢true, MeetNowhere, not_both}
+use Rattle.range_map.proofs.Together.{shorter, sets_out, apart_tells, goes_left, goes_right, not_so, none_right, none_met}
 use Rattle.range_map.proofs.inner.relate.meet_nowhere.Goals as goal
 
 pub loop-next-init : goal.loop-next-init
@@ -51,12 +51,4 @@ returns-else-lies_before-2 g c = (
 )
 
 pub returns-in_default : goal.returns-in_default
-returns-in_default g c = (
-  λ _. (none_right c.loop-next.invariant c.in_default.is-1).1
-      (none_met g.K.MaybeBounded.order g.row.W.Denot _),
-  λ _. refl,
-)
-
-pub returns-in_default-2 : goal.returns-in_default-2
-returns-in_default-2 g c =
-    (λ _. (none_left c.loop-next.invariant c.in_default.is-0).1 tt, λ _. refl)
+returns-in_default g c = grind (arith, common_steps, none_right, none_met)

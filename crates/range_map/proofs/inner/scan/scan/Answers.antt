@@ -1,12 +1,10 @@
-use Rattle.range_map.proofs.Common.{Holds, bound_at, not_both, All-more}
+use Rattle.range_map.proofs.Common.{arith, common_steps, Holds, bound_at, not_both, All-more}
 use Rattle.range_map.proofs.Scans.{none_holds}
 use Rattle.range_map.proofs.inner.scan.scan.Goals as goal
 
 pub returns-then-holds : goal.returns-then-holds
 returns-then-holds g c =
-    bound_at g.K.MaybeBounded.order g.met.K.PartialEnum.lawful g.V.PartialEq.eq c.args.items.now
-    c.args.key.now c.loop-item.item-index c.item-item.result g.met.V.Eq.laws
-    c.loop-item-test.true c.item-item.is (c.holds.ensures.held.0 c.if-holds.true)
+    grind (arith, common_steps, bound_at, g.met.K.PartialEnum.lawful, g.met.V.Eq.laws)
 
 pub loop-item-preserved : goal.loop-item-preserved
 loop-item-preserved g c =

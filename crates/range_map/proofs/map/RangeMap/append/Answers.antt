@@ -1,4 +1,4 @@
-use Rattle.range_map.proofs.Common.{◌≡◌, ◌∙◌, Result, Ok, Err, ap, arith, refl, false≢true, rules, LieBefore, appended, error_has_no_value, on_error}
+use Rattle.range_map.proofs.Common.{common_steps, ◌≡◌, ◌∙◌, Result, Ok, Err, ap, arith, refl, false≢true, rules, LieBefore, appended, error_has_no_value, on_error}
 use Rattle.std.specs.Result.{IsErrAnd}
 use Rattle.range_edit.specs.declared.error.NotAppended.{NotAppended}
 use Rattle.range_edit.specs.declared.error.NotAppended.TheVariants.{Memory}
@@ -13,26 +13,13 @@ memory_is_in_order : {A : Type 0} (r : Result A NotAppended) → IsErrAnd r (λ 
 memory_is_in_order (Ok a) memory fault = absurd memory
 memory_is_in_order (Err e) memory fault = absurd (rw memory at fault)
 
-pub returns-then-not-lies_before : goal.returns-then-not-lies_before
-returns-then-not-lies_before g c =
-    record {
-      out_of_order = (
-        λ fault before.
-            let yes = c.lies_before.ensures.1 before in absurd (search (rules, yes)),
-        λ not. tt,
-      );
-      bound = tt;
-      list = tt;
-      emptied = tt;
-      form = c.in_form.ensures;
-      coarse = stored_coarse g.met.K.PartialEnum.lawful _ c.in_form.ensures;
-      only = stored_only g.met.K.PartialEnum.lawful g.met.V.Eq.laws _ c.in_form.ensures;
-      few = omega arith;
-      succeeds = λ before enough.
-          let yes = c.lies_before.ensures.1 before in absurd (search (rules, yes));
-      refused = refl;
-      other_refused = refl;
-    }
+pub returns-then-not-lies_before-clause-coarse : goal.returns-then-not-lies_before-clause-coarse
+returns-then-not-lies_before-clause-coarse g c =
+    stored_coarse g.met.K.PartialEnum.lawful _ c.in_form.ensures
+
+pub returns-then-not-lies_before-clause-only : goal.returns-then-not-lies_before-clause-only
+returns-then-not-lies_before-clause-only g c =
+    stored_only g.met.K.PartialEnum.lawful g.met.V.Eq.laws _ c.in_form.ensures
 
 pub returns-in_err-reserve : goal.returns-in_err-reserve
 returns-in_err-reserve g c =
@@ -62,17 +49,7 @@ returns-in_err-reserve g c =
 
 pub invariant_of-self-2 : goal.invariant_of-self-2
 invariant_of-self-2 g c =
-    let order = g.K.MaybeBounded.order in
-    let same = g.V.PartialEq.eq in
-    let items = g.C.Storage.items c.self.inside.stored in
-    let others = g.D.Storage.items c.other.inside.stored in
-    let before : LieBefore order items others =
-    rw (c.self.view_is, c.other.view_is) (c.lies_before.ensures.0 (search rules)) in
-    let whole : g.C.Storage.items c.move_all.new.stored ≡ appended order same items others =
-    c.move_all.ensures.list ∙ c.move_first.ensures.list
-    ∙ ap (λ xs. appended order same xs others) c.reserve.ensures.list in
-    rw whole (appended_stored g.met.K.PartialEnum.lawful g.met.V.Eq.laws items others
-    c.self.invariant c.other.invariant before)
+    grind (arith, common_steps, appended_stored, g.met.K.PartialEnum.lawful, g.met.V.Eq.laws)
 
 pub returns : goal.returns
 returns g c =

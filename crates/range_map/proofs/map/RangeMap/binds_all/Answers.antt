@@ -1,11 +1,10 @@
-use Rattle.range_map.proofs.Common.{false≢true}
+use Rattle.range_map.proofs.Common.{arith, common_steps, false≢true}
 use Rattle.range_map.proofs.BindingAll.{full_binds, bound_is_full, shown_is_free}
 use Rattle.range_map.proofs.map.RangeMap.binds_all.Goals as goal
 
 pub returns-in-None-clause-bound : goal.returns-in-None-clause-bound
-returns-in-None-clause-bound g c = λ _.
-    full_binds g.met.K.PartialEnum.lawful _ _
-    (c.gaps_within-gaps.ensures.none c.in-None.ensures.steps.0)
+returns-in-None-clause-bound g c =
+    grind (arith, common_steps, full_binds, g.met.K.PartialEnum.lawful)
 
 pub returns : goal.returns
 returns g c =

@@ -1,31 +1,28 @@
 use Rattle.std.proofs.lemmas.Bool.{cases_lt}
-use Rattle.range_map.proofs.Common.{arith, inl, inr, length, false≢true, rules, error_has_no_value}
+use Rattle.range_map.proofs.Common.{arith, inl, inr, length, false≢true, error_has_no_value}
 use Rattle.range_map.proofs.ClosureAnswers.{memory_is_no_closure}
 use Rattle.range_map.proofs.Coarse.{coarse_alike}
 use Rattle.range_merge.proofs.Combination.{pieces_combine}
 use Rattle.range_map.proofs.StoredLists.{stored_coarse}
 use Rattle.range_map.proofs.map.RangeMap.combine.Goals as goal
 
-pub returns : goal.returns
-returns g c =
-    record {
-      pieces = search rules;
-      form = search rules;
-      closure = search rules;
-      memory = search rules;
-      bound =
-          rw c.in_ok-map_of.ensures.items (pieces_combine g.met.K.PartialEnum.lawful g.met.V.Eq.laws
-          g.met.W.Eq.laws c.in_ok-answers.ensures.combined);
-      coarse =
-          rw c.in_ok-map_of.ensures.items
-          (stored_coarse g.met.K.PartialEnum.lawful _ c.in_ok-answers.ensures.form);
-      only =
-          rw c.in_ok-map_of.ensures.items (λ complete others coarse alike.
-          coarse_alike g.met.K.PartialEnum.lawful
-          g.met.X.Eq.laws c.in_ok-answers.answers.items others
-          (stored_coarse g.met.K.PartialEnum.lawful _ c.in_ok-answers.ensures.form
-          complete) coarse alike);
-    }
+pub returns-clause-bound : goal.returns-clause-bound
+returns-clause-bound g c =
+    rw c.in_ok-map_of.ensures.items (pieces_combine g.met.K.PartialEnum.lawful g.met.V.Eq.laws
+    g.met.W.Eq.laws c.in_ok-answers.ensures.combined)
+
+pub returns-clause-coarse : goal.returns-clause-coarse
+returns-clause-coarse g c =
+    rw c.in_ok-map_of.ensures.items
+    (stored_coarse g.met.K.PartialEnum.lawful _ c.in_ok-answers.ensures.form)
+
+pub returns-clause-only : goal.returns-clause-only
+returns-clause-only g c =
+    rw c.in_ok-map_of.ensures.items (λ complete others coarse alike.
+    coarse_alike g.met.K.PartialEnum.lawful
+    g.met.X.Eq.laws c.in_ok-answers.answers.items others
+    (stored_coarse g.met.K.PartialEnum.lawful _ c.in_ok-answers.ensures.form
+    complete) coarse alike)
 
 pub returns-in_err-map_of : goal.returns-in_err-map_of
 returns-in_err-map_of g c =

@@ -1,19 +1,10 @@
-use Rattle.range_map.proofs.Common.{◌∷◌, [], map, rules, map-append, item_of, error_has_no_value, on_error}
+use Rattle.range_map.proofs.Common.{arith, common_steps, rules, error_has_no_value, on_error, ◌∷◌, [], map, map-append, item_of}
 use Rattle.range_map.proofs.ExtendedLists.{none_bound_after, one_bound_after}
 use Rattle.range_map.proofs.StoredLists.{stored_coarse, stored_only}
 use Rattle.range_map.proofs.map.RangeMap.extend.Goals as goal
 
 pub loop-range-init : goal.loop-range-init
-loop-range-init g c =
-    let ready =
-    c.requires.ends c.into_iter-range-iterator.result
-    c.into_iter-range-iterator.ensures.into_iter_gives in
-    record {
-      can = ready.0;
-      ends = ready.1;
-      bound = none_bound_after g.K.MaybeBounded.order g.V.PartialEq.eq _;
-      form = c.in_form.ensures;
-    }
+loop-range-init g c = grind (arith, common_steps, none_bound_after)
 
 pub loop-range-preserved : goal.loop-range-preserved
 loop-range-preserved g c =
@@ -33,25 +24,22 @@ loop-range-preserved g c =
       form = c.insert.ensures.form;
     }
 
-pub returns-in_err-insert : goal.returns-in_err-insert
-returns-in_err-insert g c =
-    record {
-      bound = error_has_no_value _ c.from_residual.result c.from_residual.ensures.0;
-      refused =
-          on_error _ c.from_residual.result (
-            c.into_iter-range-iterator.result,
-            c.loop-range.yielded,
-            (c.in-Some.range, c.in-Some.value),
-            c.next.new.self,
-            c.into_iter-range-iterator.ensures.into_iter_gives,
-            (c.loop-range.range-iterator, search rules, search rules),
-            λ empty. absurd (search (rules, c.insert.ensures.empty empty)),
-            rw c.in_err-insert.ensures.refused c.loop-range.invariant.bound,
-          );
-      form = c.insert.ensures.form;
-      coarse = c.insert.ensures.coarse;
-      only = c.insert.ensures.only;
-    }
+pub returns-in_err-insert-clause-bound : goal.returns-in_err-insert-clause-bound
+returns-in_err-insert-clause-bound g c =
+    error_has_no_value _ c.from_residual.result c.from_residual.ensures.0
+
+pub returns-in_err-insert-clause-refused : goal.returns-in_err-insert-clause-refused
+returns-in_err-insert-clause-refused g c =
+    on_error _ c.from_residual.result (
+      c.into_iter-range-iterator.result,
+      c.loop-range.yielded,
+      (c.in-Some.range, c.in-Some.value),
+      c.next.new.self,
+      c.into_iter-range-iterator.ensures.into_iter_gives,
+      (c.loop-range.range-iterator, search rules, search rules),
+      λ empty. absurd (search (rules, c.insert.ensures.empty empty)),
+      rw c.in_err-insert.ensures.refused c.loop-range.invariant.bound,
+    )
 
 pub returns-clause-coarse : goal.returns-clause-coarse
 returns-clause-coarse g c = stored_coarse g.met.K.PartialEnum.lawful _ c.loop-range.invariant.form

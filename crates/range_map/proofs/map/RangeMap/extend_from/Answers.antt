@@ -1,6 +1,6 @@
 use Rattle.range_map.proofs.Common.{tied_back, range_clone, range_total, AnyRange, Item, IsOverlaid, error_has_no_value, on_error}
 use Rattle.range_map.proofs.InPlace.{none_over, one_over}
-use Rattle.range_map.proofs.PartWay.{set_out, one_done, stopped, arrived}
+use Rattle.range_map.proofs.PartWay.{set_out, one_done, stopped}
 use Rattle.range_map.proofs.StoredLists.{stored_coarse, stored_only}
 use Rattle.range_map.proofs.CloneLists.{clones_tied}
 use Rattle.range_map.proofs.map.RangeMap.extend_from.Goals as goal
@@ -52,27 +52,10 @@ loop-range-preserved g c =
       only = c.insert.ensures.only;
     }
 
-pub returns : goal.returns
-returns g c =
-    record {
-      bound = arrived c.in_default.ensures.steps.0 c.loop-range.invariant.way;
-      refused = tt;
-      form = c.loop-range.invariant.form;
-      coarse = c.loop-range.invariant.coarse;
-      only = c.loop-range.invariant.only;
-    }
-
-pub returns-in_err-clone : goal.returns-in_err-clone
-returns-in_err-clone g c =
+pub returns-in_err-clone-clause-refused : goal.returns-in_err-clone-clause-refused
+returns-in_err-clone-clause-refused g c =
     let left = c.from_residual in
-    record {
-      bound = error_has_no_value _ left.result left.ensures.0;
-      refused =
-          on_error _ left.result (stopped c.in-Some.ensures.steps c.loop-range.invariant.way);
-      form = c.loop-range.invariant.form;
-      coarse = c.loop-range.invariant.coarse;
-      only = c.loop-range.invariant.only;
-    }
+    on_error _ left.result (stopped c.in-Some.ensures.steps c.loop-range.invariant.way)
 
 pub returns-in_err-clone-2 : goal.returns-in_err-clone-2
 returns-in_err-clone-2 g c =

@@ -1,4 +1,4 @@
-use Rattle.range_map.proofs.Common.{◌≡◌, ℕ, refl, ap, subst, map, Result, Ok, Err, false≢true, item_of, IsFirstFault}
+use Rattle.range_map.proofs.Common.{◌≡◌, ℕ, refl, ap, subst, map, Result, Ok, Err, item_of, IsFirstFault}
 use Rattle.range_map.specs.declared.map.from_sorted.NotSorted.{NotSorted}
 use Rattle.range_map.specs.declared.map.from_sorted.NotSorted.TheVariants.{Memory, OutOfOrder as FaultAt}
 use Rattle.range_map.proofs.SortedLists.{one_fault, sorted_has_none}
@@ -22,21 +22,14 @@ memory_is_no_fault r is e = cc
 map_is_no_fault : {A : Type 0} {new : A} {n : ℕ} → Ok new ≡ Err (FaultAt n) → ⊥
 map_is_no_fault e = cc
 
-pub returns-in-Err : goal.returns-in-Err
-returns-in-Err g c =
+pub returns-in-Err-clause-out_of_order : goal.returns-in-Err-clause-out_of_order
+returns-in-Err-clause-out_of_order g c =
     let items = map (item_of g.R.AsRange.range) c.args.pairs.items in
     let sorted = rw c.as_slice.ensures.value at (c.in-None.ensures.sorted refl) in
-    record {
-      out_of_order = λ n. (
-        λ e. absurd (memory_is_no_fault _ refl e),
-        λ fault. absurd (sorted_has_none g.K.MaybeBounded.order items n sorted fault),
-      );
-      bound = tt;
-      form = tt;
-      coarse = λ complete. tt;
-      only = λ complete. tt;
-      empty = λ none. absurd (false≢true (c.in-Err.ensures.none_needed none));
-    }
+    λ n. (
+      λ e. absurd (memory_is_no_fault _ refl e),
+      λ fault. absurd (sorted_has_none g.K.MaybeBounded.order items n sorted fault),
+    )
 
 pub returns-in-Ok : goal.returns-in-Ok
 returns-in-Ok g c =

@@ -1,4 +1,4 @@
-use Rattle.range_map.proofs.Common.{refl, rules, arith, false≢true, common_steps, error_has_no_value, on_error, not_both, le_sum}
+use Rattle.range_map.proofs.Common.{refl, arith, false≢true, common_steps, error_has_no_value, on_error, not_both}
 use Rattle.range_map.proofs.StoredLists.{stored_coarse, stored_only}
 use Rattle.range_map.proofs.map.RangeMap.insert_counted.Goals as goal
 
@@ -24,25 +24,13 @@ returns g c =
       empty_uncounted = λ e. absurd (not_both c.if-is_empty.false (empty_is.1 e));
     }
 
-pub returns-then-is_empty : goal.returns-then-is_empty
-returns-then-is_empty g c =
-    let empty_is = rw c.into_range-range.ensures at c.is_empty.ensures.by_position in
-    record {
-      succeeds = λ keys values enough. refl;
-      bound = grind (arith, common_steps);
-      form = c.in_form.ensures;
-      coarse = stored_coarse g.met.K.PartialEnum.lawful _ c.in_form.ensures;
-      only = stored_only g.met.K.PartialEnum.lawful g.met.V.Eq.laws _ c.in_form.ensures;
-      frame = λ full. absurd (full (empty_is.0 c.if-is_empty.true));
-      meets = λ full. absurd (full (empty_is.0 c.if-is_empty.true));
-      few = le_sum _ 2;
-      refused = tt;
-      empty = λ _. refl;
-      empty_unchanged = λ _. refl;
-      most = search rules;
-      least = λ full. absurd (full (empty_is.0 c.if-is_empty.true));
-      empty_uncounted = λ _. refl;
-    }
+pub returns-then-is_empty-clause-coarse : goal.returns-then-is_empty-clause-coarse
+returns-then-is_empty-clause-coarse g c =
+    stored_coarse g.met.K.PartialEnum.lawful _ c.in_form.ensures
+
+pub returns-then-is_empty-clause-only : goal.returns-then-is_empty-clause-only
+returns-then-is_empty-clause-only g c =
+    stored_only g.met.K.PartialEnum.lawful g.met.V.Eq.laws _ c.in_form.ensures
 
 pub returns-in_err-bind : goal.returns-in_err-bind
 returns-in_err-bind g c =
@@ -67,13 +55,4 @@ returns-in_err-bind g c =
       most = error_has_no_value _ c.from_residual.result c.from_residual.ensures.0;
       least = λ _. rw (← c.self.view_is) c.bind.ensures.least;
       empty_uncounted = λ e. absurd (not_both c.if-is_empty.false (empty_is.1 e));
-    }
-
-pub bind-requires : goal.bind-requires
-bind-requires g c =
-    record {
-      keys = c.requires.keys;
-      values = c.requires.values;
-      stored = rw c.self.view_is c.in_form.ensures;
-      nonempty = λ e. not_both c.if-is_empty.false (c.is_empty.ensures.by_position.1 e);
     }

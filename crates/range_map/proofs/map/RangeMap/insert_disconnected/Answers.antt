@@ -1,4 +1,4 @@
-use Rattle.range_map.proofs.Common.{OnOk, OnErr, Ok, Err, Result, List, ◌≡◌, ◌+◌, ◌≤◌, length, refl, ap, arith, subst, common_steps, length-insert, IsBoundAfter, IsEmptyRange, IsPutInto, MeetAlso, not_both, on_ok}
+use Rattle.range_map.proofs.Common.{OnOk, OnErr, Ok, Err, Result, List, ◌≡◌, ◌+◌, ◌≤◌, length, ap, arith, subst, common_steps, length-insert, IsBoundAfter, IsEmptyRange, IsPutInto, MeetAlso, not_both, on_ok}
 use Rattle.range_edit.specs.Changes.{IsInserted}
 use Rattle.range_edit.proofs.Freeing.{form_after}
 use Rattle.range_map.proofs.StoredLists.{stored_coarse, stored_only}
@@ -13,10 +13,7 @@ put_few (Ok a) before after x put same = let long = ap length put.2 in let more 
 put_few (Err e) before after x put same = let long = ap length same in omega arith
 
 pub invariant_of-self : goal.invariant_of-self
-invariant_of-self g c =
-    form_after g.K.MaybeBounded.order g.V.PartialEq.eq c.bind_apart.result _ _
-    c.into_range-range.result c.args.value c.bind_apart.ensures.ok c.bind_apart.ensures.refused
-    c.self.invariant
+invariant_of-self g c = grind (arith, common_steps, form_after)
 
 pub returns : goal.returns
 returns g c =
@@ -52,27 +49,10 @@ returns g c =
       empty_unchanged = λ e. absurd (not_both c.if-is_empty.false (empty_is.1 e));
     }
 
-pub returns-then-is_empty : goal.returns-then-is_empty
-returns-then-is_empty g c =
-    let empty_is = rw c.into_range-range.ensures at c.is_empty.ensures.by_position in
-    record {
-      connected = grind (arith, common_steps);
-      given = tt;
-      put = λ full. absurd (full (empty_is.0 c.if-is_empty.true));
-      bound = grind (arith, common_steps);
-      meets = λ full. absurd (full (empty_is.0 c.if-is_empty.true));
-      form = c.in_form.ensures;
-      coarse = stored_coarse g.met.K.PartialEnum.lawful _ c.in_form.ensures;
-      only = stored_only g.met.K.PartialEnum.lawful g.met.V.Eq.laws _ c.in_form.ensures;
-      few = grind (arith, common_steps);
-      refused = tt;
-      empty = λ _. refl;
-      empty_unchanged = λ _. refl;
-    }
+pub returns-then-is_empty-clause-coarse : goal.returns-then-is_empty-clause-coarse
+returns-then-is_empty-clause-coarse g c =
+    stored_coarse g.met.K.PartialEnum.lawful _ c.in_form.ensures
 
-pub bind_apart-requires : goal.bind_apart-requires
-bind_apart-requires g c =
-    record {
-      stored = rw c.self.view_is c.in_form.ensures;
-      nonempty = λ e. not_both c.if-is_empty.false (c.is_empty.ensures.by_position.1 e);
-    }
+pub returns-then-is_empty-clause-only : goal.returns-then-is_empty-clause-only
+returns-then-is_empty-clause-only g c =
+    stored_only g.met.K.PartialEnum.lawful g.met.V.Eq.laws _ c.in_form.ensures

@@ -20,9 +20,6 @@ returns g c =
     (rw last.1 at c.in_form.ensures) (rw first.1 at c.in_form-2.ensures) in
     rw (last.1, first.1) (λ h. all.0 (ends.0 h), λ h. ends.1 (all.1 h))
 
-pub returns-in_default : goal.returns-in_default
-returns-in_default g c = rw c.in_default.ensures.last (λ h. tt, λ h. refl)
-
 pub returns-in_default-first_range_value : goal.returns-in_default-first_range_value
 returns-in_default-first_range_value g c = (
   λ h. to_none (λ i j. LiesBefore g.K.MaybeBounded.order i.key j.key)

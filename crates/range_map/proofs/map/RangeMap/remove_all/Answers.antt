@@ -1,6 +1,6 @@
 use Rattle.range_map.proofs.Common.{AnyRange, Item, IsWithout, error_has_no_value, on_error}
 use Rattle.range_map.proofs.InPlace.{none_without, one_without}
-use Rattle.range_map.proofs.PartWay.{set_out, one_done, stopped, arrived}
+use Rattle.range_map.proofs.PartWay.{set_out, one_done, stopped}
 use Rattle.range_map.proofs.StoredLists.{stored_coarse, stored_only}
 use Rattle.range_map.proofs.map.RangeMap.remove_all.Goals as goal
 
@@ -38,24 +38,11 @@ loop-range-preserved g c =
       only = c.remove.ensures.only;
     }
 
-pub returns : goal.returns
-returns g c =
-    record {
-      bound = arrived c.in_default.ensures.steps.0 c.loop-range.invariant.way;
-      refused = tt;
-      form = c.loop-range.invariant.form;
-      coarse = c.loop-range.invariant.coarse;
-      only = c.loop-range.invariant.only;
-    }
+pub returns-in_err-remove-clause-bound : goal.returns-in_err-remove-clause-bound
+returns-in_err-remove-clause-bound g c =
+    error_has_no_value _ c.from_residual.result c.from_residual.ensures.0
 
-pub returns-in_err-remove : goal.returns-in_err-remove
-returns-in_err-remove g c =
-    record {
-      bound = error_has_no_value _ c.from_residual.result c.from_residual.ensures.0;
-      refused =
-          rw c.in_err-remove.ensures.refused (on_error _ c.from_residual.result
-          (stopped c.in-Some.ensures.steps c.loop-range.invariant.way));
-      form = c.remove.ensures.form;
-      coarse = c.remove.ensures.coarse;
-      only = c.remove.ensures.only;
-    }
+pub returns-in_err-remove-clause-refused : goal.returns-in_err-remove-clause-refused
+returns-in_err-remove-clause-refused g c =
+    rw c.in_err-remove.ensures.refused (on_error _ c.from_residual.result
+    (stopped c.in-Some.ensures.steps c.loop-range.invariant.way))

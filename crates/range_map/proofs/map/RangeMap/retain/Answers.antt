@@ -1,22 +1,10 @@
-use Rattle.range_map.proofs.Common.{◌≡◌, ◌∙◌, ◌+◌, ◌<◌, ap, arith, length, rules, length-remove, place_before, IsStored, place_at, CalledAtItem}
+use Rattle.range_map.proofs.Common.{common_steps, ◌≡◌, ◌∙◌, ◌+◌, ◌<◌, ap, arith, length, rules, length-remove, place_before, IsStored, place_at, CalledAtItem}
 use Rattle.range_map.proofs.KeptItems.{retaining_starts, kept_next, removed_next, retained, kept_stored, kept_as_before, fewer_kept}
 use Rattle.range_map.proofs.StoredLists.{stored_coarse, stored_only}
 use Rattle.range_map.proofs.map.RangeMap.retain.Goals as goal
 
 pub loop-at-init : goal.loop-at-init
-loop-at-init g c =
-    let storage = g.C.Storage in
-    let stored = c.self.inside.stored in
-    let items = storage.items stored in
-    let here : place_before (storage.rank stored) (length items) c.first-at.result ≡ 0 =
-    place_at (storage.is_good stored) (storage.rank stored) (length items) c.first-at.result 0
-    c.first-at.ensures in
-    record {
-      position = rw here c.first-at.ensures;
-      callable = c.requires;
-      told = rw here (retaining_starts (CalledAtItem g.F.FnMut) items c.args.f);
-      space = omega arith;
-    }
+loop-at-init g c = grind (arith, common_steps, place_at, retaining_starts)
 
 pub loop-at-preserved-then-keeps : goal.loop-at-preserved-then-keeps
 loop-at-preserved-then-keeps g c =
@@ -35,10 +23,7 @@ loop-at-preserved-then-keeps g c =
     record {
       position = rw next c.next-at.ensures;
       callable = c.keeps.ensures.callable;
-      told =
-          rw next (kept_next (CalledAtItem g.F.FnMut) (storage.items c.self.inside.stored) c.args.f
-          items c.loop-at.f c.keeps.new.f c.get.result.now _ was within c.get.ensures
-          (rw c.if-keeps.true at c.keeps.ensures.called));
+      told = grind (arith, common_steps, kept_next, c.get.ensures, c.keeps.ensures.called);
       space = c.loop-at.invariant.space;
     }
 
@@ -65,14 +50,7 @@ loop-at-preserved g c =
           rw next (removed_next (CalledAtItem g.F.FnMut) (storage.items c.self.inside.stored)
           c.args.f items _ c.loop-at.f c.keeps.new.f c.get.result.now _ was within c.get.ensures
           (rw c.if-keeps.false at c.keeps.ensures.called) removed.list);
-      space =
-          omega (
-            arith,
-            c.loop-at.invariant.space,
-            removed.space,
-            ap length removed.list,
-            length-remove items (storage.rank stored p) within,
-          );
+      space = grind (arith, common_steps, c.loop-at.invariant.space, length-remove);
     }
 
 pub loop-at-smaller : goal.loop-at-smaller
@@ -99,12 +77,7 @@ loop-at-smaller g c =
 
 pub invariant_of-self : goal.invariant_of-self
 invariant_of-self g c =
-    let stored = c.loop-at.self-inside.stored in
-    let count = length (g.C.Storage.items stored) in
-    let done =
-    retained (CalledAtItem g.F.FnMut) _ _ c.loop-at.invariant.told
-    (ap (place_before (g.C.Storage.rank stored) count) c.in_default.is) in
-    rw done.4 (kept_stored g.met.K.PartialEnum.lawful g.met.V.Eq.laws done.0 _ c.self.invariant)
+    grind (arith, common_steps, retained, kept_stored, g.met.K.PartialEnum.lawful, g.met.V.Eq.laws)
 
 pub returns : goal.returns
 returns g c =

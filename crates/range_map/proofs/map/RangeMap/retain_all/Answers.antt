@@ -44,34 +44,20 @@ loop-gap-preserved g c =
       only = c.remove.ensures.only;
     }
 
-pub returns : goal.returns
-returns g c =
+pub returns-clause-bound : goal.returns-clause-bound
+returns-clause-bound g c =
     let same = g.V.PartialEq.eq in
     let first = g.C.Storage.items c.args.self.now in
     let now = g.C.Storage.items c.loop-gap.self in
-    record {
-      bound =
-          all_kept g.K.MaybeBounded.order same first now _ c.gaps-gaps.result
-          c.gaps-gaps.ensures.once
-          (arrived c.in_default.ensures.steps.0 c.loop-gap.invariant.way);
-      refused = tt;
-      form = c.loop-gap.invariant.form;
-      coarse = c.loop-gap.invariant.coarse;
-      only = c.loop-gap.invariant.only;
-    }
+    all_kept g.K.MaybeBounded.order same first now _ c.gaps-gaps.result
+    c.gaps-gaps.ensures.once
+    (arrived c.in_default.ensures.steps.0 c.loop-gap.invariant.way)
 
-pub returns-in_err-cloned : goal.returns-in_err-cloned
-returns-in_err-cloned g c =
+pub returns-in_err-cloned-clause-refused : goal.returns-in_err-cloned-clause-refused
+returns-in_err-cloned-clause-refused g c =
     let left = c.from_residual in
-    record {
-      bound = error_has_no_value _ left.result left.ensures.0;
-      refused =
-          on_error _ left.result (stopped_at_gap c.gaps-gaps.ensures.gaps c.in-Some.ensures.steps
-          c.loop-gap.invariant.way);
-      form = c.loop-gap.invariant.form;
-      coarse = c.loop-gap.invariant.coarse;
-      only = c.loop-gap.invariant.only;
-    }
+    on_error _ left.result (stopped_at_gap c.gaps-gaps.ensures.gaps c.in-Some.ensures.steps
+    c.loop-gap.invariant.way)
 
 pub returns-in_err-remove : goal.returns-in_err-remove
 returns-in_err-remove g c =

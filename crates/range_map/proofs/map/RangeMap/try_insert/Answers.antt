@@ -1,21 +1,8 @@
-use Rattle.range_map.proofs.Common.{OnOk, refl, arith, subst, common_steps, IsEmptyRange, IsBoundAfter, MeetAlso, not_both, IsInsertionFrame, on_ok}
+use Rattle.range_map.proofs.Common.{OnOk, arith, subst, common_steps, IsEmptyRange, IsBoundAfter, MeetAlso, not_both, IsInsertionFrame, on_ok}
 use Rattle.range_edit.specs.Changes.{IsInserted}
 use Rattle.range_edit.proofs.Freeing.{form_after}
 use Rattle.range_map.proofs.StoredLists.{stored_coarse, stored_only}
 use Rattle.range_map.proofs.map.RangeMap.try_insert.Goals as goal
-
-pub bind_where_free-requires : goal.bind_where_free-requires
-bind_where_free-requires g c =
-    record {
-      stored = rw c.self.view_is c.in_form.ensures;
-      nonempty = λ e. not_both c.if-is_empty.false (c.is_empty.ensures.by_position.1 e);
-    }
-
-pub invariant_of-self : goal.invariant_of-self
-invariant_of-self g c =
-    form_after g.K.MaybeBounded.order g.V.PartialEq.eq c.bind_where_free.result _ _
-    c.into_range-range.result c.args.value c.bind_where_free.ensures.ok
-    c.bind_where_free.ensures.refused c.self.invariant
 
 pub returns : goal.returns
 returns g c =
@@ -59,20 +46,10 @@ returns g c =
       empty_unchanged = λ e. absurd (not_both c.if-is_empty.false (empty_is.1 e));
     }
 
-pub returns-then-is_empty : goal.returns-then-is_empty
-returns-then-is_empty g c =
-    let empty_is = rw c.into_range-range.ensures at c.is_empty.ensures.by_position in
-    record {
-      occupied = grind (arith, common_steps);
-      given = tt;
-      succeeds = λ enough unmet. refl;
-      bound = grind (arith, common_steps);
-      frame = λ full. absurd (full (empty_is.0 c.if-is_empty.true));
-      meets = λ full. absurd (full (empty_is.0 c.if-is_empty.true));
-      form = c.in_form.ensures;
-      coarse = stored_coarse g.met.K.PartialEnum.lawful _ c.in_form.ensures;
-      only = stored_only g.met.K.PartialEnum.lawful g.met.V.Eq.laws _ c.in_form.ensures;
-      refused = tt;
-      empty = λ _. refl;
-      empty_unchanged = λ _. refl;
-    }
+pub returns-then-is_empty-clause-coarse : goal.returns-then-is_empty-clause-coarse
+returns-then-is_empty-clause-coarse g c =
+    stored_coarse g.met.K.PartialEnum.lawful _ c.in_form.ensures
+
+pub returns-then-is_empty-clause-only : goal.returns-then-is_empty-clause-only
+returns-then-is_empty-clause-only g c =
+    stored_only g.met.K.PartialEnum.lawful g.met.V.Eq.laws _ c.in_form.ensures

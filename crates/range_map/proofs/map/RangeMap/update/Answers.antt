@@ -8,23 +8,19 @@ use Rattle.range_map.proofs.StoredLists.{stored_coarse, stored_only}
 use Rattle.range_map.proofs.CloneLists.{clones_tied}
 use Rattle.range_map.proofs.map.RangeMap.update.Goals as goal
 
-pub update_pieces-requires : goal.update_pieces-requires
-update_pieces-requires g c =
+pub update_pieces-requires-clause-nonempty : goal.update_pieces-requires-clause-nonempty
+update_pieces-requires-clause-nonempty g c =
     let alike =
     bound_clone g.K.MaybeBounded.order g.met.K.PartialEnum.lawful g.K.Clone.is_clone
     (clones_tied g.met.K.MaybeBounded.order_is_cmp g.met.K.Ord.matches_eq c.requires.keys) in
-    record {
-      keys = c.requires.keys;
-      values = c.requires.values;
-      stored = rw c.self.view_is c.in_form.ensures;
-      nonempty = λ empty.
-          not_both c.if-is_empty.false (c.is_empty.ensures.by_position.1
-          (clone_empty g.met.K.PartialEnum.lawful (g.R.AsRange.range c.args.range)
-          c.in_ok-range.range (alike _ _ c.in_ok-range.ensures.start)
-          (alike _ _ c.in_ok-range.ensures.end) empty));
-      free = c.requires.free;
-      bound = rw c.self.view_is c.requires.bound;
-    }
+    λ empty.
+    not_both c.if-is_empty.false (c.is_empty.ensures.by_position.1
+    (clone_empty g.met.K.PartialEnum.lawful (g.R.AsRange.range c.args.range)
+    c.in_ok-range.range (alike _ _ c.in_ok-range.ensures.start)
+    (alike _ _ c.in_ok-range.ensures.end) empty))
+
+pub update_pieces-requires-clause-bound : goal.update_pieces-requires-clause-bound
+update_pieces-requires-clause-bound g c = rw c.self.view_is c.requires.bound
 
 pub returns : goal.returns
 returns g c =
@@ -71,26 +67,20 @@ returns g c =
           λ e. absurd (not_both c.if-is_empty.false (c.is_empty.ensures.by_position.1 e));
     }
 
-pub returns-then-is_empty : goal.returns-then-is_empty
-returns-then-is_empty g c =
-    let empty = c.if-is_empty.true in
-    record {
-      updated = λ full. absurd (full (c.is_empty.ensures.by_position.0 empty));
-      rebound = record {
-        held = λ k key held. absurd (c.is_empty.ensures.keyless empty k key held);
-        others = λ k key free b. (λ h. h, λ h. h);
-      };
-      kept = unchanged_stands g.K.MaybeBounded.order g.V.PartialEq.eq _ _;
-      spelled = list_keeps_spelling g.met.K.PartialEnum.lawful g.met.V.Eq.laws c.in_form.ensures;
-      form = c.in_form.ensures;
-      coarse = stored_coarse g.met.K.PartialEnum.lawful _ c.in_form.ensures;
-      only = stored_only g.met.K.PartialEnum.lawful g.met.V.Eq.laws _ c.in_form.ensures;
-      closure = λ e failed. absurd (cc);
-      memory = λ never failed. absurd (cc);
-      refused = tt;
-      empty = λ _. refl;
-      empty_unchanged = λ _. refl;
-    }
+pub returns-then-is_empty-clause-kept : goal.returns-then-is_empty-clause-kept
+returns-then-is_empty-clause-kept g c = unchanged_stands g.K.MaybeBounded.order g.V.PartialEq.eq _ _
+
+pub returns-then-is_empty-clause-spelled : goal.returns-then-is_empty-clause-spelled
+returns-then-is_empty-clause-spelled g c =
+    list_keeps_spelling g.met.K.PartialEnum.lawful g.met.V.Eq.laws c.in_form.ensures
+
+pub returns-then-is_empty-clause-coarse : goal.returns-then-is_empty-clause-coarse
+returns-then-is_empty-clause-coarse g c =
+    stored_coarse g.met.K.PartialEnum.lawful _ c.in_form.ensures
+
+pub returns-then-is_empty-clause-only : goal.returns-then-is_empty-clause-only
+returns-then-is_empty-clause-only g c =
+    stored_only g.met.K.PartialEnum.lawful g.met.V.Eq.laws _ c.in_form.ensures
 
 pub returns-in_err-range : goal.returns-in_err-range
 returns-in_err-range g c =

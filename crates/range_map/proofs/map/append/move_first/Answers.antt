@@ -1,4 +1,4 @@
-use Rattle.range_map.proofs.Common.{◌≡◌, ◌∙◌, sym, ◌++◌, ◌∷◌, [], append_assoc, append-nil, insert_end, as_one}
+use Rattle.range_map.proofs.Common.{arith, common_steps, ◌∙◌, sym, append_assoc, append-nil, insert_end, as_one}
 use Rattle.range_map.proofs.AppendedLists.{appended_last, appended_none}
 use Rattle.range_map.proofs.map.append.move_first.Goals as goal
 
@@ -15,12 +15,4 @@ returns-in-Some-pop_first-clause-list g c =
     ∙ sym (appended_last order same front last first rest))
 
 pub returns-in-None-clause-list : goal.returns-in-None-clause-list
-returns-in-None-clause-list g c =
-    let order = g.K.MaybeBounded.order in
-    let same = g.V.PartialEq.eq in
-    let front = g.C.Storage.items c.pop_last.new.self in
-    let last = c.in-Some.last in
-    let whole : g.C.Storage.items c.insert_at-position.new.self ≡ front ++ last ∷ [] =
-    c.insert_at-position.ensures.list ∙ insert_end front last in
-    rw (c.in-Some.ensures.list, c.in-None.ensures.list.0, c.in-None.ensures.list.1, whole)
-    (append-nil (front ++ last ∷ []) ∙ sym (appended_none order same (front ++ last ∷ [])))
+returns-in-None-clause-list g c = grind (arith, common_steps, insert_end, append-nil, appended_none)

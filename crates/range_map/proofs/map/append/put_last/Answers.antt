@@ -4,10 +4,3 @@ use Rattle.range_map.proofs.map.append.put_last.Goals as goal
 pub returns-then-are_one : goal.returns-then-are_one
 returns-then-are_one g c =
     record { list = grind (arith, common_steps); room = omega (arith, c.insert_at-position.ensures.space) }
-
-pub returns-else-are_one : goal.returns-else-are_one
-returns-else-are_one g c =
-    record {
-      list = grind (arith, common_steps);
-      room = omega (arith, c.insert_at-first.ensures.space, c.insert_at-second.ensures.space);
-    }

@@ -1,5 +1,5 @@
 use Rattle.std.proofs.Common.{◌≡◌, ◌+◌, ◌<◌, ◌++◌, [], None, length}
-use Rattle.range_map.proofs.Common.{IsEquivalence, option_map, IsLawful, MayAnswerBoth}
+use Rattle.range_map.proofs.Common.{Bound, IsBoundClone, SameBound, IsEquivalence, option_map, IsLawful, MayAnswerBoth}
 use Rattle.range_merge.specs.Combining.{MayGiveValueOnBoth}
 use Rattle.range_merge.specs.Merged.{part_item}
 use Rattle.range_runs.specs.Window.{option_items}
@@ -12,8 +12,10 @@ invariant-loop-answers g l = record {
       → IsCombinedUpTo lawful equal (MayAnswerBoth g.F.Fn l.f) (g.C.Storage.items l.map)
       (g.D.Storage.items l.other) (option_items (option_map part_item l.left) ++ l.items)
       (option_items (option_map part_item l.right) ++ l.others) l.answers.items;
-  first : l.left ≡ None → l.items ≡ [];
-  second : l.right ≡ None → l.others ≡ [];
+  clones : IsLawful g.K.MaybeBounded.order → (a b : Bound g.row.K.Denot)
+      → IsBoundClone g.K.Clone.is_clone a b → SameBound g.K.MaybeBounded.order a b;
+  first : option_map part_item l.left ≡ None → l.items ≡ [];
+  second : option_map part_item l.right ≡ None → l.others ≡ [];
   some : 0 < length l.answers.items
       → MayGiveValueOnBoth g.K.MaybeBounded.order (MayAnswerBoth g.F.Fn l.f)
       (g.C.Storage.items l.map) (g.D.Storage.items l.other);

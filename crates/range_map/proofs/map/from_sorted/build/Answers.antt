@@ -1,6 +1,6 @@
 use Rattle.std.proofs.Common.{◌≡◌, ◌∙◌, sym, ap, ◌∷◌, ◌++◌, [], length, map, subst, arith, append_assoc}
 use Rattle.range_map.proofs.AppendedLists.{appended_length}
-use Rattle.range_map.proofs.Common.{false≢true, error_has_no_value, length-append, map-append, lower, BindAlike, item_upper, item_of, full_range, le_refl}
+use Rattle.range_map.proofs.Common.{common_steps, false≢true, error_has_no_value, length-append, map-append, lower, BindAlike, item_upper, item_of, full_range, le_refl}
 use Rattle.std.proofs.lemmas.Result.{IfOk-weaker}
 use Rattle.range_edit.proofs.OuterBounds.{prefix_is_all}
 use Rattle.range_map.proofs.JoinedItems.{built_more, built_none}
@@ -57,9 +57,6 @@ loop-range-preserved g c =
           );
     }
 
-pub map_of-requires : goal.map_of-requires
-map_of-requires g c = c.loop-range.invariant.built.1.stored
-
 pub returns-clause-bound : goal.returns-clause-bound
 returns-clause-bound g c =
     let was = c.loop-range.invariant in
@@ -74,15 +71,7 @@ returns-clause-bound g c =
     c.map_of.ensures.items
 
 pub returns-in_err-items : goal.returns-in_err-items
-returns-in_err-items g c =
-    let left = c.from_residual in
-    record {
-      bound = error_has_no_value _ left.result left.ensures.0;
-      form = error_has_no_value _ left.result left.ensures.0;
-      none_needed = λ none.
-          absurd (false≢true (c.in_err-items.ensures.succeeds
-          (omega (arith, none, c.len.ensures, c.args.pairs.ok.0))));
-    }
+returns-in_err-items g c = grind (arith, common_steps, error_has_no_value, false≢true)
 
 pub returns-in_err-push : goal.returns-in_err-push
 returns-in_err-push g c =
@@ -99,13 +88,3 @@ returns-in_err-push g c =
             length-append c.loop-range.yielded c.loop-range.range-iterator.rest.items,
           ));
     }
-
-pub returns-clause-none_needed : goal.returns-clause-none_needed
-returns-clause-none_needed g c none =
-    c.map_of.ensures.none_needed (omega (
-      arith,
-      none,
-      c.loop-range.invariant.few,
-      ap length c.loop-range.invariant.parted,
-      length-append c.loop-range.yielded c.loop-range.range-iterator.rest.items,
-    ))

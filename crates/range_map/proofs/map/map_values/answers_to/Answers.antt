@@ -54,9 +54,6 @@ loop-part-preserved g c =
       );
     }
 
-pub map_of-requires : goal.map_of-requires
-map_of-requires g c = c.loop-part.invariant.mapped.form.stored
-
 pub returns-in_err-item : goal.returns-in_err-item
 returns-in_err-item g c =
     let left = c.from_residual in

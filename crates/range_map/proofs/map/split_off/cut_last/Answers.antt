@@ -3,22 +3,16 @@ use Rattle.range_runs.specs.Edits.{with_start}
 use Rattle.range_map.proofs.SplitLists.{parted, last_parted, last_cut}
 use Rattle.range_map.proofs.map.split_off.cut_last.Goals as goal
 
-pub returns-in_default : goal.returns-in_default
-returns-in_default g c =
+pub returns-in_default-clause-divided : goal.returns-in_default-clause-divided
+returns-in_default-clause-divided g c =
     let rest = g.C.Storage.items c.args.others.now in
     let none = c.in_default.ensures.list in
-    record {
-      divided =
-          rw (none.0, none.1) (parted g.met.K.PartialEnum.lawful
-          g.met.V.Eq.laws c.args.key c.requires.key [] rest (rw none.0 at c.requires.stored) tt
-          c.requires.from);
-      list = tt;
-      room = tt;
-      succeeds = λ ends. refl;
-    }
+    rw (none.0, none.1) (parted g.met.K.PartialEnum.lawful
+    g.met.V.Eq.laws c.args.key c.requires.key [] rest (rw none.0 at c.requires.stored) tt
+    c.requires.from)
 
-pub returns-then-not-holds : goal.returns-then-not-holds
-returns-then-not-holds g c =
+pub returns-then-not-holds-clause-divided : goal.returns-then-not-holds-clause-divided
+returns-then-not-holds-clause-divided g c =
     let items = g.C.Storage.items in
     let front = items c.pop_last.new.self in
     let rest = items c.args.others.now in
@@ -26,20 +20,14 @@ returns-then-not-holds g c =
     let list = c.in-Some.ensures.list in
     let whole : items c.insert_at-position.new.self ≡ front ++ last ∷ [] =
     c.insert_at-position.ensures.list ∙ insert_end front last in
-    record {
-      divided =
-          rw (list, whole) (last_parted g.met.K.PartialEnum.lawful g.met.V.Eq.laws c.args.key
-          c.requires.key front rest last
-          (rw list at c.requires.stored) (c.requires.below front last list) c.requires.from
-          (λ held. let told = c.holds.ensures.held.1 held in let not =
-          c.if-not-holds.true in absurd (cc)));
-      list = tt;
-      room = tt;
-      succeeds = λ ends. refl;
-    }
+    rw (list, whole) (last_parted g.met.K.PartialEnum.lawful g.met.V.Eq.laws c.args.key
+    c.requires.key front rest last
+    (rw list at c.requires.stored) (c.requires.below front last list) c.requires.from
+    (λ held. let told = c.holds.ensures.held.1 held in let not =
+    c.if-not-holds.true in absurd (cc)))
 
-pub returns-in-Ok : goal.returns-in-Ok
-returns-in-Ok g c =
+pub returns-in-Ok-clause-divided : goal.returns-in-Ok-clause-divided
+returns-in-Ok-clause-divided g c =
     let storage = g.C.Storage in
     let items = storage.items in
     let front = items c.pop_last.new.self in
@@ -60,17 +48,11 @@ returns-in-Ok g c =
     rw start at c.insert_at-back.ensures.list in
     let moved : items c.insert_at-back.new.self ≡ with_start last (Included c.args.key) ∷ rest =
     listed ∙ rw (c.parts-front.ensures.back, c.prepare.ensures.list) refl in
-    record {
-      divided =
-          rw (list, whole, moved) (last_cut g.met.K.PartialEnum.lawful g.met.V.Eq.laws c.args.key
-          c.requires.key front rest last
-          (rw list at c.requires.stored) (c.requires.below front last list) c.requires.from
-          c.in-Ok.end c.in-Ok.value c.in-Ok.ensures.end.0 c.in-Ok.ensures.end.1
-          c.in-Ok.ensures.value (c.holds.ensures.held.0 (let not = c.if-not-holds.false in cc)));
-      list = tt;
-      room = tt;
-      succeeds = λ ends. refl;
-    }
+    rw (list, whole, moved) (last_cut g.met.K.PartialEnum.lawful g.met.V.Eq.laws c.args.key
+    c.requires.key front rest last
+    (rw list at c.requires.stored) (c.requires.below front last list) c.requires.from
+    c.in-Ok.end c.in-Ok.value c.in-Ok.ensures.end.0 c.in-Ok.ensures.end.1
+    c.in-Ok.ensures.value (c.holds.ensures.held.0 (let not = c.if-not-holds.false in cc)))
 
 pub returns-in-Err : goal.returns-in-Err
 returns-in-Err g c =

@@ -1,5 +1,5 @@
 use Rattle.std.proofs.lemmas.List.{same_from_push}
-use Rattle.range_map.proofs.Common.{rules, ◌≡◌, ◌∙◌, ℕ, ◌+◌, ◌≤◌, refl, sym, ap, subst, List, length, ◌++◌, ◌∷◌, [], arith, insert, Included, append_assoc, append-nil, length-append, insert_end, start_position, Le, Lt, Every, every_left, every_right, place_before, item_lower, places, not_lt, place_at}
+use Rattle.range_map.proofs.Common.{common_steps, ◌≡◌, ◌∙◌, ℕ, ◌+◌, ◌≤◌, sym, ap, subst, List, length, ◌++◌, ◌∷◌, [], arith, insert, Included, append_assoc, append-nil, insert_end, start_position, Le, Every, every_left, every_right, place_before, item_lower, places, not_lt, place_at}
 use Rattle.range_map.proofs.map.split_off.move_back.Goals as goal
 
 -- the last item is put back
@@ -32,53 +32,22 @@ first_such : {X : Type 0} (P : X → Type 0) {rest others new : List X} {last : 
     → new ≡ last ∷ others → P last → Every P rest → Every P new
 first_such P same put such all = rw (put, same) (such, all)
 
-pub returns-then-starts_before : goal.returns-then-starts_before
-returns-then-starts_before g c =
-    record {
-      list =
-          put_back (g.C.Storage.items c.pop_last.new.self) c.in-Some.last c.in-Some.ensures.list
-          c.insert_at-position.ensures.list refl c.loop-last.invariant.list;
-      room = omega (
-        arith,
-        c.loop-last.invariant.room,
-        c.in-Some.ensures.space,
-        c.insert_at-position.ensures.space,
-      );
-      from = c.loop-last.invariant.from;
-      below =
-          let order = g.K.MaybeBounded.order in
-          λ rest x ends. last_such (λ i. Lt (places order g.met.K.PartialEnum.lawful)
-          (item_lower order i) (start_position order (Included c.args.key.now))) _ _ rest
-          c.in-Some.last x c.insert_at-position.ensures.list
-          (c.starts_before.ensures.0 c.if-starts_before.true) ends;
-      succeeds = λ _. refl;
-    }
+pub returns-then-is_err-clause-from : goal.returns-then-is_err-clause-from
+returns-then-is_err-clause-from g c = rw c.reserve.ensures.list c.loop-last.invariant.from
 
-pub returns-then-is_err : goal.returns-then-is_err
-returns-then-is_err g c =
-    record {
-      below = search rules;
-      list =
-          put_back (g.C.Storage.items c.pop_last.new.self) c.in-Some.last c.in-Some.ensures.list
-          c.insert_at-position-then-is_err.ensures.list c.reserve.ensures.list
-          c.loop-last.invariant.list;
-      room =
-          let space = c.insert_at-position-then-is_err.ensures.space in
-          rw c.reserve.ensures.list
-          (omega (arith, c.loop-last.invariant.room, c.in-Some.ensures.space, space));
-      from = rw c.reserve.ensures.list c.loop-last.invariant.from;
-      succeeds = λ all.
-          let items = g.C.Storage.items in
-          let left =
-          every_left _ (items c.loop-last.stored) (items c.loop-last.others)
-          (rw (← c.loop-last.invariant.list) at all) in
-          let own =
-          every_right _ (items c.pop_last.new.self) (c.in-Some.last ∷ [])
-          (rw c.in-Some.ensures.list at left) in
-          let told = c.starts_before.ensures.1 own.0 in
-          let not = c.if-starts_before.false in
-          absurd (cc);
-    }
+pub returns-then-is_err-clause-succeeds : goal.returns-then-is_err-clause-succeeds
+returns-then-is_err-clause-succeeds g c =
+    λ all.
+    let items = g.C.Storage.items in
+    let left =
+    every_left _ (items c.loop-last.stored) (items c.loop-last.others)
+    (rw (← c.loop-last.invariant.list) at all) in
+    let own =
+    every_right _ (items c.pop_last.new.self) (c.in-Some.last ∷ [])
+    (rw c.in-Some.ensures.list at left) in
+    let told = c.starts_before.ensures.1 own.0 in
+    let not = c.if-starts_before.false in
+    absurd (cc)
 
 pub loop-last-preserved : goal.loop-last-preserved
 loop-last-preserved g c =
@@ -97,9 +66,7 @@ loop-last-preserved g c =
     let put : items c.insert_at-position-in-Some.new.self ≡ last ∷ items others =
     rw start at c.insert_at-position-in-Some.ensures.list in
     record {
-      list =
-          moved (items c.pop_last.new.self) last c.in-Some.ensures.list same put
-          c.loop-last.invariant.list;
+      list = grind (arith, common_steps, moved, c.in-Some.ensures.list, c.loop-last.invariant.list);
       room =
           room_moved (storage.room c.loop-last.stored) (storage.room c.pop_last.new.self) same put
           c.loop-last.invariant.room c.in-Some.ensures.space;
@@ -109,37 +76,4 @@ loop-last-preserved g c =
     }
 
 pub loop-last-init : goal.loop-last-init
-loop-last-init g c = record {
-  list = rw c.requires (append-nil (g.C.Storage.items c.args.stored.now));
-  room = rw c.requires (omega arith);
-  from = rw c.requires tt;
-}
-
-pub loop-last-smaller : goal.loop-last-smaller
-loop-last-smaller g c =
-    rw c.in-Some.ensures.list
-    (omega (arith, length-append (g.C.Storage.items c.pop_last.new.self) (c.in-Some.last ∷ [])))
-
-pub insert_at-position-requires-clause-has_room : goal.insert_at-position-requires-clause-has_room
-insert_at-position-requires-clause-has_room g c = omega (arith, c.in-Some.ensures.space)
-
-pub insert_at-position-requires-then-is_err-clause-has_room :
-    goal.insert_at-position-requires-then-is_err-clause-has_room
-insert_at-position-requires-then-is_err-clause-has_room g c = omega (arith, c.in-Some.ensures.space)
-
-pub returns : goal.returns
-returns g c =
-    record {
-      list =
-          rw c.in_default.ensures.list.1
-          (rw c.in_default.ensures.list.0 at c.loop-last.invariant.list);
-      room = omega (arith, c.loop-last.invariant.room, c.in_default.ensures.space);
-      from = c.loop-last.invariant.from;
-      below =
-          λ front last ends. absurd (omega (
-            arith,
-            ap length (rw c.in_default.ensures.list.1 at ends),
-            length-append front (last ∷ []),
-          ));
-      succeeds = λ _. refl;
-    }
+loop-last-init g c = grind (arith, common_steps, append-nil)

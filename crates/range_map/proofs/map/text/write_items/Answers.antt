@@ -1,11 +1,9 @@
-use Rattle.range_map.proofs.Common.{subst, rules, ◌≡◌, ◌∷◌, IsOk, AnyRange, Item}
+use Rattle.range_map.proofs.Common.{arith, common_steps, subst, rules, ◌≡◌, ◌∷◌, IsOk, AnyRange, Item}
 use Rattle.range_map.proofs.WrittenItems.{HasShown, shown_none, shown_more}
 use Rattle.range_map.proofs.map.text.write_items.Goals as goal
 
 pub loop-range-init : goal.loop-range-init
-loop-range-init g c =
-    rw c.new-items.ensures (shown_none g.K.Debug.debug_output g.V.Debug.debug_output
-    g.W.Write.write_str_gives _ c.args.f.now)
+loop-range-init g c = grind (arith, common_steps, shown_none)
 
 pub loop-range-preserved : goal.loop-range-preserved
 loop-range-preserved g c =
