@@ -15,9 +15,9 @@ use Rattle.range_algebra.proofs.Completeness.{nonempty_holds}
 use Rattle.range_algebra.proofs.Meeting.{held_or_not as holds_or_not}
 use Rattle.range_algebra.specs.declared.any.AnyRange.{AnyRange}
 use Rattle.range_store.specs.declared.storage.Item.{Item}
-use Rattle.range_change.specs.Bindings.{IsBound, IsCoarse}
-use Rattle.range_change.specs.Neighbours.{EachNext}
-use Rattle.range_change.proofs.Overlaps.{binding_meets}
+use Rattle.range_runs.specs.Bindings.{IsBound, IsCoarse}
+use Rattle.range_runs.specs.Neighbours.{EachNext}
+use Rattle.range_runs.proofs.Overlaps.{binding_meets}
 use Rattle.range_merge.specs.Combining.{IsConstantOn, IsSharedPart}
 use Rattle.range_merge.proofs.HeldInside.{lies_in_holds}
 use Rattle.range_reads.specs.FreeRanges.{item_ranges}

@@ -32,37 +32,37 @@ pub use Rattle.range_store.specs.Counting
 pub use Rattle.range_store.specs.Depth
 pub use Rattle.range_store.specs.Holding
 pub use Rattle.range_store.specs.ListPlaces
-pub use Rattle.range_change.specs.Answers
+pub use Rattle.range_runs.specs.Answers
 pub use Rattle.range_map.specs.Appending
 pub use Rattle.range_map.specs.Askable
-pub use Rattle.range_change.specs.Bindings
-pub use Rattle.range_change.specs.Clones as InfallibleClones
+pub use Rattle.range_runs.specs.Bindings
+pub use Rattle.range_edit.specs.Clones as InfallibleClones
 pub use Rattle.range_merge.specs.Combining
-pub use Rattle.range_change.specs.Costs
+pub use Rattle.range_edit.specs.Costs
 pub use Rattle.range_map.specs.Extending as MapExtending
-pub use Rattle.range_change.specs.Frames
+pub use Rattle.range_runs.specs.Frames
 pub use Rattle.range_reads.specs.FreeRanges
 pub use Rattle.range_map.specs.Freeing
-pub use Rattle.range_change.specs.Apart
+pub use Rattle.range_edit.specs.Apart
 pub use Rattle.range_reads.specs.Iteration
 pub use Rattle.range_reads.specs.ListOrder
-pub use Rattle.range_change.specs.Lookups
+pub use Rattle.range_runs.specs.Lookups
 pub use Rattle.range_map.specs.MappedValues
-pub use Rattle.range_change.specs.Neighbours
+pub use Rattle.range_runs.specs.Neighbours
 pub use Rattle.range_map.specs.Overlapping
 pub use Rattle.range_map.specs.Overlays
 pub use Rattle.range_map.specs.PartWay
 pub use Rattle.range_reads.specs.PieceLists
-pub use Rattle.range_change.specs.Pieces
+pub use Rattle.range_runs.specs.Pieces
 pub use Rattle.range_map.specs.Rebinding
-pub use Rattle.range_change.specs.Replaced
+pub use Rattle.range_edit.specs.Replaced
 pub use Rattle.range_map.specs.Retaining
-pub use Rattle.range_change.specs.Searches
+pub use Rattle.range_runs.specs.Searches
 pub use Rattle.range_map.specs.SimpleUpdates
-pub use Rattle.range_change.specs.Spelling
+pub use Rattle.range_runs.specs.Spelling
 pub use Rattle.range_map.specs.Sorting
 pub use Rattle.range_map.specs.Splitting
-pub use Rattle.range_change.specs.Stored
+pub use Rattle.range_runs.specs.Stored
 pub use Rattle.range_map.specs.Texts as MapTexts
 pub use Rattle.range_map.specs.Together
 pub use Rattle.range_sets.specs.Adding
@@ -104,10 +104,10 @@ pub use Rattle.range_algebra.specs.declared.range.parts.Product
 pub use Rattle.range_algebra.specs.declared.range.parts.ProductArg
 pub use Rattle.range_store.specs.declared.btree.BoxStorage
 pub use Rattle.range_store.specs.declared.storage.Item
-pub use Rattle.range_change.specs.declared.error.MapError
-pub use Rattle.range_change.specs.declared.error.NotAppended
-pub use Rattle.range_change.specs.declared.error.NotInserted
-pub use Rattle.range_change.specs.declared.error.UpdateError
+pub use Rattle.range_edit.specs.declared.error.MapError
+pub use Rattle.range_edit.specs.declared.error.NotAppended
+pub use Rattle.range_edit.specs.declared.error.NotInserted
+pub use Rattle.range_runs.specs.declared.error.UpdateError
 pub use Rattle.range_map.specs.declared.map.try_insert.NotFree
 pub use Rattle.range_sets.specs.declared.set.try_insert.NotAdded
 pub use Rattle.range_commands.specs.declared.command.Command

@@ -11,7 +11,7 @@ use Rattle.range_store.specs.declared.btree.BoxStorage.{BoxStorage}
 use Rattle.range_store.specs.declared.btree.nodes.TheConstants.{CAPACITY}
 use Rattle.range_store.specs.declared.btree.searching.TheConstants.{MAX_ASKS}
 use Rattle.range_store.specs.declared.storage.Item.{Item}
-use Rattle.range_change.specs.Costs.{TakesAtLeast, TakesAsChange, IsGreatestLevel}
+use Rattle.range_edit.specs.Costs.{TakesAtLeast, TakesAsChange, IsGreatestLevel}
 use Rattle.range_commands.specs.CountedRuns.{least_if, HasNoMemory, IsDone, ChangeTakes, LookupTakes, TakesFor, IsDue, IsRunOfDue, IsCountedRun}
 use Rattle.range_commands.specs.Runs.{IsStep, IsRun, HasNoUpdate}
 use Rattle.range_commands.specs.declared.command.Command.{Command}

@@ -5,7 +5,7 @@ use Rattle.range_algebra.specs.declared.any.AnyRange.{AnyRange}
 use Rattle.range_algebra.specs.Range.{IsEmptyRange}
 use Rattle.range_store.specs.Counting.{AddsSteps}
 use Rattle.range_store.specs.declared.storage.Item.{Item}
-use Rattle.range_change.specs.Costs.{TakesAtLeast, TakesAsChange}
+use Rattle.range_edit.specs.Costs.{TakesAtLeast, TakesAsChange}
 use Rattle.range_commands.specs.Runs.{IsStep}
 use Rattle.range_commands.specs.declared.command.Command.{Command}
 use Rattle.range_commands.specs.declared.command.Command.TheVariants.{Insert, Remove, Get, Contains, Intersects}

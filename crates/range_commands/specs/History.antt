@@ -2,8 +2,8 @@
 use Rattle.std.specs.Prelude.{◌≡◌, Bool, List, ◌∷◌, Option, None, Result, Ok, ⊤}
 use Rattle.range_keys.specs.Order.{KeyOrder}
 use Rattle.range_algebra.specs.Range.{Holds}
-use Rattle.range_change.specs.Answers.{IsAsAnswered}
-use Rattle.range_change.specs.Bindings.{IsSomeOf}
+use Rattle.range_runs.specs.Answers.{IsAsAnswered}
+use Rattle.range_runs.specs.Bindings.{IsSomeOf}
 use Rattle.range_commands.specs.declared.command.Command.{Command}
 use Rattle.range_commands.specs.declared.command.Command.TheVariants.{Insert, InsertDisconnected, Remove, Update}
 use Rattle.range_commands.specs.declared.command.Reply.{Reply}

@@ -6,7 +6,7 @@ use Rattle.std.specs.Cmp.{IsEquivalence}
 use Rattle.range_keys.specs.Order.{KeyOrder, IsLawful}
 use Rattle.range_algebra.specs.declared.any.AnyRange.{AnyRange}
 use Rattle.range_store.specs.declared.storage.Item.{Item}
-use Rattle.range_change.specs.Bindings.{Binds}
+use Rattle.range_runs.specs.Bindings.{Binds}
 use Rattle.range_commands.specs.Runs.{IsStep, IsRun, IsUpdate}
 use Rattle.range_commands.specs.History.{IsRefusal, IsOn, BindAfter, BindOver}
 use Rattle.range_commands.specs.declared.command.Command.{Command}

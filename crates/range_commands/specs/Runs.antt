@@ -4,11 +4,11 @@ use Rattle.range_keys.specs.Order.{KeyOrder}
 use Rattle.range_algebra.specs.declared.any.AnyRange.{AnyRange}
 use Rattle.range_store.specs.declared.storage.Item.{Item}
 use Rattle.range_algebra.specs.Range.{IsEmptyRange}
-use Rattle.range_change.specs.Answers.{IsAnswered, MayFail}
+use Rattle.range_runs.specs.Answers.{IsAnswered, MayFail}
 use Rattle.range_map.specs.Rebinding.{AreRebound}
-use Rattle.range_change.specs.Stored.{IsStored}
-use Rattle.range_change.specs.Bindings.{Binds, IsBound, IsBoundAfter, IsUnboundAfter}
-use Rattle.range_change.specs.Lookups.{MeetsSome, IsConnectedToSome}
+use Rattle.range_runs.specs.Stored.{IsStored}
+use Rattle.range_runs.specs.Bindings.{Binds, IsBound, IsBoundAfter, IsUnboundAfter}
+use Rattle.range_runs.specs.Lookups.{MeetsSome, IsConnectedToSome}
 use Rattle.range_commands.specs.declared.command.Command.{Command}
 use Rattle.range_commands.specs.declared.command.Command.TheVariants.{Insert, InsertDisconnected, Remove, Update, Get, Contains, Intersects, Count}
 use Rattle.range_commands.specs.declared.command.Reply.{Reply}

@@ -2,10 +2,10 @@
 ghost use Rattle.std.specs.Prelude.{◌≡◌, ℕ, ◌+◌, ◌*◌, ◌≤◌, length, IsOk, OnOk, OnErr, IfOk, Option, Some};
 ghost use Rattle.std.specs.Option.{option_copied};
 ghost use Rattle.range_algebra.specs.Range.{ClonesAreEqual, IsEmptyRange};
-ghost use Rattle.range_change.specs.Bindings.{Binds, IsBound};
+ghost use Rattle.range_runs.specs.Bindings.{Binds, IsBound};
 ghost use Rattle.range_store.specs.Holding.{box_items};
 ghost use Rattle.range_store.specs.declared.btree.searching.TheConstants.{MAX_ASKS};
-ghost use Rattle.range_change.specs.Costs.{TakesAtLeast, greatest_level};
+ghost use Rattle.range_edit.specs.Costs.{TakesAtLeast, greatest_level};
 ghost use Rattle.range_commands.specs.CountedRuns.{ChangeTakes, LookupTakes, TakesFor, least_if, IsCountedRun, IsRunOfDue, HasNoMemory};
 ghost use Rattle.range_commands.specs.Runs.{IsInsertion, IsStep, IsRun, HasNoUpdate};
 ghost use Rattle.range_commands.specs.History.{BindOver};

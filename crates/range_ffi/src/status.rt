@@ -1,6 +1,6 @@
 //! What a call answers.
 ghost use Rattle.std.specs.Prelude.{◌≡◌, ◌≢◌, ◌↔◌, ◌⊎◌, IsTrue};
-ghost use Rattle.range_change.specs.Apart.{IsConnectedError};
+ghost use Rattle.range_edit.specs.Apart.{IsConnectedError};
 ghost use Rattle.range_map.specs.Appending.{IsOutOfOrder};
 ghost use Rattle.range_map.specs.Freeing.{IsOccupied};
 

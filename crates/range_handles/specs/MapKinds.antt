@@ -32,13 +32,13 @@ IsOverlayOf (Some (Signed items)) (Some (Signed others)) (Some (Signed new)) =
     IsOverlaid i64_order nat_eq items others new
 IsOverlayOf _ _ _ = ⊥
 
--- the third list is that part of the first, by the keys that the second has
+-- the third list binds as the first the keys that the second has, or all others
 abbrev pub IsPart : {K W : Type 0} → Part → KeyOrder K → List (Item (AnyRange K) ℕ)
     → List (Item (AnyRange K) W) → List (Item (AnyRange K) ℕ) → Type 0
 IsPart Shared order items others new = IsRestricted order nat_eq items others new
 IsPart Rest order items others new = IsWithout order nat_eq items others new
 
--- the third is a map of that part of the first, by the keys that the second has
+-- so it is with the lists of three collections, of which the first and the third are maps
 abbrev pub IsPartOf : Part → Option Collection → Option Collection → Option Collection → Type 0
 IsPartOf part (Some (Unsigned items)) (Some (Unsigned others)) (Some (Unsigned new)) =
     IsPart part u64_order items others new

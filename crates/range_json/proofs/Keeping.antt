@@ -10,18 +10,18 @@ use Rattle.range_keys.specs.Position.{start_position, end_position}
 use Rattle.range_keys.proofs.Orderings.{eq_is_equal}
 use Rattle.range_algebra.specs.declared.any.AnyRange.{AnyRange}
 use Rattle.range_algebra.proofs.Lists.{every_left, every_right}
-use Rattle.range_change.specs.Chains.{line_of, Leads}
-use Rattle.range_change.proofs.Chains.{chain_before, chain_left, chain_right}
+use Rattle.range_runs.specs.Chains.{line_of, Leads}
+use Rattle.range_runs.proofs.Chains.{chain_before, chain_left, chain_right}
 use Rattle.range_algebra.specs.Compared.{starts_at_end}
 use Rattle.range_algebra.specs.Cuts.{past, lower, upper}
 use Rattle.range_algebra.specs.Intervals.{Le, Lt}
-use Rattle.range_change.proofs.PlaceOrder.{eq_le, le_trans, lt_le, lt_not_le}
+use Rattle.range_runs.proofs.PlaceOrder.{eq_le, le_trans, lt_le, lt_not_le}
 use Rattle.range_algebra.specs.Range.{IsKnownRange}
 use Rattle.range_algebra.proofs.Places.{flipped_bound_is_past}
 use Rattle.range_store.specs.declared.storage.Item.{Item}
-use Rattle.range_change.specs.Frames.{IsInsertionFrame, JoinsOrMeets}
-use Rattle.range_change.specs.Stored.{item_lower, item_upper, IsStored}
-use Rattle.range_change.proofs.Forms.{places, before_is, touches_is, Chained, Known, stored_chain, stored_known, chain_stored}
+use Rattle.range_runs.specs.Frames.{IsInsertionFrame, JoinsOrMeets}
+use Rattle.range_runs.specs.Stored.{item_lower, item_upper, IsStored}
+use Rattle.range_runs.proofs.Forms.{places, before_is, touches_is, Chained, Known, stored_chain, stored_known, chain_stored}
 
 no_item : {X : Type 0} (P : X → Type 0) (xs ys zs : List X) → Every (λ x. ¬ P x) (xs ++ ys ++ zs)
     → Every P ys → ys ≡ []

@@ -13,7 +13,7 @@ use Rattle.range_keys.specs.declared.inner.position.Position.{Position}
 use Rattle.range_algebra.specs.Compared.{starts_past_end}
 use Rattle.range_algebra.specs.declared.any.AnyRange.{AnyRange}
 use Rattle.range_algebra.specs.RangeOrder.{range_cmp}
-use Rattle.range_change.specs.Lookups.{Overlap}
+use Rattle.range_runs.specs.Lookups.{Overlap}
 use Rattle.range_json.specs.Faults.{IsRangeRead}
 use Rattle.range_json.specs.MapFaults.{HasOneReading, MeetNonempty}
 use Rattle.range_json.specs.Meetings.{AlwaysMeet, IsRangeOf, NeverMeet}

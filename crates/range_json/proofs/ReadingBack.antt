@@ -16,7 +16,7 @@ use Rattle.range_algebra.specs.Range.{IsKnownRange}
 use Rattle.range_algebra.specs.RangeOrder.{range_cmp}
 use Rattle.range_store.specs.declared.storage.Item.{Item}
 use Rattle.range_reads.specs.ListOrder.{same_list}
-use Rattle.range_change.specs.Stored.{IsStored}
+use Rattle.range_runs.specs.Stored.{IsStored}
 use Rattle.range_map.proofs.CloneLists.{equal_items_are_copy, copy_stored, item_clone}
 use Rattle.range_json.specs.Shapes.{bound_shape, range_shape, pair_shape, map_shape}
 use Rattle.range_json.specs.Faults.{key_fault, bound_fault, range_fault, IsBoundRead, IsRangeRead}
@@ -25,7 +25,7 @@ use Rattle.range_json.specs.MapFaults.{element_fault, IsElementRead, IsMapRead, 
 use Rattle.range_json.specs.Values.{IsBoundValue, IsRangeValue, AreItemValues}
 use Rattle.range_json.proofs.Keeping.{apart_from_last, stored_front}
 use Rattle.range_algebra.proofs.Lists.{any_none, every_more}
-use Rattle.range_change.specs.Frames.{JoinsOrMeets}
+use Rattle.range_runs.specs.Frames.{JoinsOrMeets}
 use Rattle.range_json.specs.SetReadBack.{list_back}
 
 zip_last : {X : Type 0} (R : X → X → Type 0) (xs ys : List X) (x y : X) → AllZip R xs ys → R x y

@@ -7,7 +7,7 @@ use Rattle.range_algebra.specs.declared.any.AnyRange.{AnyRange}
 use Rattle.range_algebra.specs.RangeOrder.{range_cmp}
 use Rattle.range_store.specs.declared.storage.Item.{Item}
 use Rattle.range_reads.specs.ListOrder.{same_list}
-use Rattle.range_change.specs.Stored.{IsStored}
+use Rattle.range_runs.specs.Stored.{IsStored}
 use Rattle.range_json.specs.Shapes.{range_shape, map_shape}
 use Rattle.range_json.specs.Faults.{range_fault, IsRangeRead}
 use Rattle.range_json.specs.MapFaults.{IsMapFault, IsMapRead}

@@ -10,9 +10,9 @@ use Rattle.range_algebra.specs.declared.any.AnyRange.{AnyRange}
 use Rattle.range_algebra.specs.Intervals.{Any}
 use Rattle.range_algebra.specs.Range.{IsEmptyRange, IsKnownRange}
 use Rattle.range_store.specs.declared.storage.Item.{Item}
-use Rattle.range_change.specs.Bindings.{BindAlike}
-use Rattle.range_change.specs.Lookups.{Overlap}
-use Rattle.range_change.specs.Stored.{IsStored}
+use Rattle.range_runs.specs.Bindings.{BindAlike}
+use Rattle.range_runs.specs.Lookups.{Overlap}
+use Rattle.range_runs.specs.Stored.{IsStored}
 use Rattle.range_json.specs.declared.error.JsonError.{JsonError}
 use Rattle.range_json.specs.Faults.{before, range_fault, first_fault, IsRangeRead}
 use Rattle.range_json.specs.Shapes.{pair_of, elements_of, list_of}

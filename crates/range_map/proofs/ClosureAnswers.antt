@@ -1,8 +1,8 @@
 -- What the closure of an update may answer, told by what its calls may.
 use Rattle.range_map.proofs.Common.{◌≡◌, Bool, List, [], ◌∷◌, Option, Result, Ok, Err, Bor, Shared, KeyOrder, Every, every_weaker, AnyRange, Item, MayAnswer, IsAnswered, IsUpdated, MayFail, FailsAt, AreRebound}
 use Rattle.std.specs.Result.{IsErrAnd}
-use Rattle.range_change.specs.declared.error.UpdateError.{UpdateError}
-use Rattle.range_change.specs.declared.error.UpdateError.TheVariants.{Closure as ClosureError, Memory as MemoryError}
+use Rattle.range_runs.specs.declared.error.UpdateError.{UpdateError}
+use Rattle.range_runs.specs.declared.error.UpdateError.TheVariants.{Closure as ClosureError, Memory as MemoryError}
 
 -- an error that is of memory is no error of a closure
 pub memory_is_no_closure : {A E : Type 0} (r : Result A (UpdateError E)) (e : E)

@@ -40,27 +40,27 @@ pub use Rattle.range_algebra.specs.declared.any.AnyRange.{AnyRange}
 pub use Rattle.range_store.proofs.ListPlaces.{place_at}
 pub use Rattle.range_store.specs.ListPlaces.{IsAt, place_before}
 pub use Rattle.range_store.specs.declared.storage.Item.{Item}
-pub use Rattle.range_change.proofs.Chains.{chain_above, chain_before, chain_left, chain_right, follows_like, same_is_symmetric, strictly_leads}
-pub use Rattle.range_change.proofs.CoveredPlaces.{on_ok}
-pub use Rattle.range_change.proofs.Forms.{Chained, Hold, Known, before_is, bound_hold, chain_stored, nonempty_good, places, same_binds, stored_chain, stored_known, touches_is}
-pub use Rattle.range_change.proofs.Found.{bound_at, every_nonempty}
-pub use Rattle.range_change.proofs.Lengths.{le_sum}
-pub use Rattle.range_change.proofs.Listed.{IsListed, stored_by, stored_list_is_listed}
-pub use Rattle.range_change.proofs.Overlaps.{binding_meets, binds_bound, holding_is, meeting_binds}
-pub use Rattle.range_change.proofs.RangePieces.{PLe, any_over, any_use, any_with, earlier_under, either_choice_holds, every_with, later_over, lies_in}
-pub use Rattle.range_change.proofs.Results.{error_has_no_value, on_error}
-pub use Rattle.range_change.proofs.Tests.{not_both}
-pub use Rattle.range_change.proofs.UpdatedLists.{updated_stands}
-pub use Rattle.range_change.specs.Answers.{Answered, FailsAt, IsAnswered, IsAsAnswered, IsUpdated, MayAnswer, MayFail, piece_of}
-pub use Rattle.range_change.specs.Bindings.{AreAlike, AreDisjoint, BindAlike, Binds, BindsTo, IsBound, IsBoundAfter, IsCoarse, IsLeastCount, IsOnlyCoarse, IsSomeOf, IsUnboundAfter}
-pub use Rattle.range_change.specs.Chains.{Follows, IsChain, IsLeft, IsRight, Leads, Line, Respects, line_of}
-pub use Rattle.range_change.specs.Frames.{IsInsertionFrame, IsMergedInto}
-pub use Rattle.range_change.specs.Lookups.{BindsAllOf, IsPutInto, MeetAlso, MeetsSome, Overlap}
-pub use Rattle.range_change.specs.Pieces.{ArePieces, IsCommonPart, IsFreePart, IsPiece, LiesIn, earlier, later}
-pub use Rattle.range_change.specs.PieceLists.{between, free_piece, pieces_from, pieces_of}
-pub use Rattle.range_change.specs.Runs.{AreOverlapping, shown_item}
-pub use Rattle.range_change.specs.Stored.{IsStored, item_lower, item_upper}
-pub use Rattle.range_change.proofs.PlaceOrder.{both, cases, eq_ge, eq_le, le_lt_trans, le_refl, le_trans, lt_le, lt_le_trans, lt_not_le, lt_trans, not_le, not_lt}
+pub use Rattle.range_runs.proofs.Chains.{chain_above, chain_before, chain_left, chain_right, follows_like, same_is_symmetric, strictly_leads}
+pub use Rattle.range_runs.proofs.CoveredPlaces.{on_ok}
+pub use Rattle.range_runs.proofs.Forms.{Chained, Hold, Known, before_is, bound_hold, chain_stored, nonempty_good, places, same_binds, stored_chain, stored_known, touches_is}
+pub use Rattle.range_runs.proofs.Found.{bound_at, every_nonempty}
+pub use Rattle.range_edit.proofs.Lengths.{le_sum}
+pub use Rattle.range_runs.proofs.Listed.{IsListed, stored_by, stored_list_is_listed}
+pub use Rattle.range_runs.proofs.Overlaps.{binding_meets, binds_bound, holding_is, meeting_binds}
+pub use Rattle.range_runs.proofs.RangePieces.{PLe, any_over, any_use, any_with, earlier_under, either_choice_holds, every_with, later_over, lies_in}
+pub use Rattle.range_edit.proofs.Results.{error_has_no_value, on_error}
+pub use Rattle.range_runs.proofs.Tests.{not_both}
+pub use Rattle.range_edit.proofs.UpdatedLists.{updated_stands}
+pub use Rattle.range_runs.specs.Answers.{Answered, FailsAt, IsAnswered, IsAsAnswered, IsUpdated, MayAnswer, MayFail, piece_of}
+pub use Rattle.range_runs.specs.Bindings.{AreAlike, AreDisjoint, BindAlike, Binds, BindsTo, IsBound, IsBoundAfter, IsCoarse, IsLeastCount, IsOnlyCoarse, IsSomeOf, IsUnboundAfter}
+pub use Rattle.range_runs.specs.Chains.{Follows, IsChain, IsLeft, IsRight, Leads, Line, Respects, line_of}
+pub use Rattle.range_runs.specs.Frames.{IsInsertionFrame, IsMergedInto}
+pub use Rattle.range_runs.specs.Lookups.{BindsAllOf, IsPutInto, MeetAlso, MeetsSome, Overlap}
+pub use Rattle.range_runs.specs.Pieces.{ArePieces, IsCommonPart, IsFreePart, IsPiece, LiesIn, earlier, later}
+pub use Rattle.range_runs.specs.PieceLists.{between, free_piece, pieces_from, pieces_of}
+pub use Rattle.range_runs.specs.Runs.{AreOverlapping, shown_item}
+pub use Rattle.range_runs.specs.Stored.{IsStored, item_lower, item_upper}
+pub use Rattle.range_runs.proofs.PlaceOrder.{both, cases, eq_ge, eq_le, le_lt_trans, le_refl, le_trans, lt_le, lt_le_trans, lt_not_le, lt_trans, not_le, not_lt}
 pub use Rattle.range_map.specs.Appending.{IsApartFromLast, LieBefore, appended, are_one, as_one, joined}
 pub use Rattle.range_merge.specs.Combining.{AreCombined, IsCombinedAt, MayAnswerBoth}
 pub use Rattle.range_map.specs.Extending.{AreBoundAfter, item_of}

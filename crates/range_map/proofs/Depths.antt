@@ -3,7 +3,7 @@ use Rattle.range_map.proofs.Common.{◌≡◌, ℕ, zero, suc, ◌+◌, ◌-◌,
 use Rattle.std.proofs.lemmas.Bool.Decides.{leb_tells}
 use Rattle.range_store.specs.declared.btree.nodes.TheConstants.{MIN_LEN}
 use Rattle.range_store.proofs.Levels.{pow_more}
-use Rattle.range_change.specs.Costs.{IsGreatestLevel, greatest_level, greatest_level_to}
+use Rattle.range_edit.specs.Costs.{IsGreatestLevel, greatest_level, greatest_level_to}
 
 -- the level may be reached
 abbrev IsReached : ℕ → ℕ → Type 0

@@ -1,8 +1,8 @@
 -- The free pieces of a range alone.
 use Rattle.std.proofs.Common.{◌≡◌, refl, List, [], ◌∷◌, ◌++◌, inl, inr, Option, Some, None, Bool}
 use Rattle.range_map.proofs.Common.{IsEquivalence, Equal, KeyOrder, IsLawful, start_position, end_position, position_cmp, AnyRange, Any, Every, IsKnownRange, IsEmptyRange, range_cmp, LiesBefore, any_left, any_right, every_append, every_weaker, Item, range_if_free, free_ranges, AreGapsWithin, IsPiece, IsFreePart, ArePieces, IsStored, greater_or_not, any_over, AreOverlapping, pieces_of}
-use Rattle.range_change.specs.Neighbours.{BeforeFirst, EachNext}
-use Rattle.range_change.proofs.PieceLists.{IsOver, pieces_are, free_shows}
+use Rattle.range_runs.specs.Neighbours.{BeforeFirst, EachNext}
+use Rattle.range_runs.proofs.PieceLists.{IsOver, pieces_are, free_shows}
 use Rattle.range_map.proofs.BindingAll.{no_pieces, no_free_part}
 use Rattle.range_map.proofs.Together.{IsAscending, ascends}
 

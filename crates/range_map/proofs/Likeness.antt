@@ -1,8 +1,8 @@
 -- A clone of a range in the place of the range.
 use Rattle.range_map.proofs.Common.{◌≡◌, refl, ◌∙◌, Option, Some, None, Bool, false, IsTrue, List, ◌⊎◌, inl, inr, Result, Shared, Bor, Bound, Included, Excluded, Unbounded, Ordering, Equal, Greater, is_gt, is_eq, tied_back, tied_itself, KeyOrder, IsLawful, start_position, end_position, position_cmp, position_total, Position, AnyRange, SameBound, same_start, same_end, starts_at_end, Holds, IsEmptyRange, every_weaker, Item, IsUpdated, later, earlier, IsCommonPart, LiesIn, IsFreePart, IsPiece, ArePieces, Overlap, eq_is_equal, not_both_greater_and_not, PLe, any_over, later_over, earlier_under, either_choice_holds, eq_le, eq_ge, le_trans, lt_le_trans, le_lt_trans, both, IsMergedInto}
-use Rattle.range_change.specs.Answers.{AnswersPiece}
+use Rattle.range_runs.specs.Answers.{AnswersPiece}
 use Rattle.range_merge.proofs.HeldInside.{lies_in_holds}
-use Rattle.range_change.proofs.MergedItems.{way_follows}
+use Rattle.range_edit.proofs.MergedItems.{way_follows}
 
 not_false_is_greater : (o : Ordering) → (is_gt o ≡ false → ⊥) → o ≡ Greater
 not_false_is_greater Greater h = refl

@@ -1,7 +1,7 @@
 -- Answers to the values of a list, put one after the other.
 use Rattle.std.proofs.Common.{◌≡◌, refl, sym, ◌∙◌, ◌↔◌, inl, inr, Bool, Option, Some, None, Result, Ok, List, [], ◌∷◌, ◌++◌, append_assoc}
 use Rattle.range_map.proofs.Common.{Shared, FnReturnsAt, AllZip, IsEquivalence, Equal, Bor, KeyOrder, IsLawful, position_cmp, Position, IsRangeClone, bound_clone, range_clone, same_start, Any, Every, Holds, HoldSame, IsKnownRange, AnyRange, Item, Binds, IsBound, IsSomeOf, IsStored, item_lower, item_upper, equal_is_same, nonempty_good, binds_bound, appended, eq_le, eq_ge, le_trans, lt_le_trans, le_lt_trans}
-use Rattle.range_change.proofs.CutParts.{same_past}
+use Rattle.range_runs.proofs.CutParts.{same_past}
 use Rattle.range_map.specs.MappedValues.{AnswersItem, AreAnswered, AreMapped, IsAnsweredEach, IsMappedAt}
 use Rattle.range_map.proofs.JoinedItems.{IsBuilt, RisesFrom, built_more, first_alone, stored_rises}
 

@@ -1,11 +1,11 @@
 -- A stored list cut in two at a key.
 use Rattle.range_keys.proofs.Orderings.{any_then_equal}
 use Rattle.range_map.proofs.Common.{◌≡◌, sym, ◌∙◌, ◌+◌, ◌≤◌, Bool, true, IsTrue, List, [], ◌∷◌, ◌++◌, length, arith, subst, Equal, inl, inr, Bound, Included, Excluded, Unbounded, IsEquivalence, append_assoc, length-append, KeyOrder, IsLawful, Below, NotAbove, start_position, Position, Beside, At, SameBound, Le, Lt, Every, Holds, IsKnownBound, AnyRange, MeetsSome, Overlap, before_is, unbounded_end, lt_le_trans, lt_not_le, every_append, every_left, every_right, every_weaker, Item, line_of, IsLeft, IsRight, IsStored, item_lower, item_upper, held_between, same_is_symmetric, chain_before, places, Known, bound_hold, chain_stored, same_binds, stored_chain, stored_known, le_refl, lt_le, le_trans, not_lt, both}
-use Rattle.range_change.specs.Edits.{with_start}
+use Rattle.range_runs.specs.Edits.{with_start}
 use Rattle.range_map.specs.Splitting.{IsDivided}
-use Rattle.range_change.proofs.ChainSides.{left_whole, left_cut, right_whole, right_cut, none_above, none_below}
-use Rattle.range_change.proofs.CutParts.{cut_end}
-use Rattle.range_change.proofs.RangePieces.{IsFull, all_full}
+use Rattle.range_runs.proofs.ChainSides.{left_whole, left_cut, right_whole, right_cut, none_above, none_below}
+use Rattle.range_runs.proofs.CutParts.{cut_end}
+use Rattle.range_runs.proofs.RangePieces.{IsFull, all_full}
 
 module _ {K : Type 0} {order : KeyOrder K} (lawful : IsLawful order) {V : Type 0}
     {same : V → V → Bool} (equal : IsEquivalence same) (key : K) (key_known : order.is_key key)

@@ -1,7 +1,7 @@
 -- Two lists of ranges in one pass over both: what the first ranges say of all.
 use Rattle.range_map.proofs.Common.{◌≡◌, sym, ◌∙◌, ◌<◌, ◌↔◌, inl, inr, Bool, Option, Some, None, List, [], ◌∷◌, ◌++◌, length, arith, MatchOption, option_map, Bor, KeyOrder, IsLawful, start_position, end_position, position_cmp, Le, Any, Every, IsEmptyRange, LiesBefore, AnyRange, any_none, every_weaker, Item, shown_item, MeetsSome, LiesIn, IsStored, not_greater, MeetNowhere, LieInside, IsListed, stored_list_is_listed, le_trans, lt_le, lt_not_le, lt_le_trans}
-use Rattle.range_change.specs.Neighbours.{EachNext}
-use Rattle.range_change.specs.Window.{option_items}
+use Rattle.range_runs.specs.Neighbours.{EachNext}
+use Rattle.range_runs.specs.Window.{option_items}
 
 -- an iterator and what it gave next, as the list of both
 abbrev pub ahead : {K V : Type 0} → Option (Bor (AnyRange K) × Bor V) → List (Item (AnyRange K) V)

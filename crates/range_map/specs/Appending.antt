@@ -1,8 +1,8 @@
 -- One stored list after another, and the last range of the one joined with the first of the other.
 use Rattle.std.specs.Prelude.{◌≡◌, ◌-◌, ◌<◌, Bool, true, false, ◌&&◌, List, [], ◌∷◌, ◌++◌, length, slice_index_or, ⊤, if◌then◌else◌}
 use Rattle.range_map.specs.Common.{KeyOrder, start_position, starts_at_end, Every, LiesBefore, AnyRange, Item}
-use Rattle.range_change.specs.declared.error.NotAppended.{NotAppended}
-use Rattle.range_change.specs.declared.error.NotAppended.TheVariants.{OutOfOrder, Memory}
+use Rattle.range_edit.specs.declared.error.NotAppended.{NotAppended}
+use Rattle.range_edit.specs.declared.error.NotAppended.TheVariants.{OutOfOrder, Memory}
 
 -- refused since some range of the one does not lie before all of the other
 abbrev pub IsOutOfOrder : NotAppended → Type 0

@@ -10,9 +10,9 @@ pub use Rattle.range_algebra.specs.Range.{HoldSame, Holds, IsEmptyRange}
 pub use Rattle.range_algebra.specs.Relations.{LiesBefore}
 pub use Rattle.range_algebra.specs.declared.any.AnyRange.{AnyRange}
 pub use Rattle.range_store.specs.declared.storage.Item.{Item}
-pub use Rattle.range_change.specs.Answers.{IsAsAnswered, MayBeAsked}
-pub use Rattle.range_change.specs.Bindings.{BindAlike, Binds, IsBound, IsBoundAfter, IsSomeOf, IsStoredFor, IsUnboundAfter}
-pub use Rattle.range_change.specs.Lookups.{MeetsSome}
-pub use Rattle.range_change.specs.Neighbours.{EachNext}
-pub use Rattle.range_change.specs.Pieces.{LiesIn}
-pub use Rattle.range_change.specs.Stored.{IsStored}
+pub use Rattle.range_runs.specs.Answers.{IsAsAnswered, MayBeAsked}
+pub use Rattle.range_runs.specs.Bindings.{BindAlike, Binds, IsBound, IsBoundAfter, IsSomeOf, IsStoredFor, IsUnboundAfter}
+pub use Rattle.range_runs.specs.Lookups.{MeetsSome}
+pub use Rattle.range_runs.specs.Neighbours.{EachNext}
+pub use Rattle.range_runs.specs.Pieces.{LiesIn}
+pub use Rattle.range_runs.specs.Stored.{IsStored}

@@ -1,7 +1,7 @@
 -- The items that a range meets, and the range that all items span.
 use Rattle.std.specs.Prelude.{◌≡◌, List, [], ◌∷◌, ◌++◌}
 use Rattle.range_map.specs.Common.{AnyRange, Item}
-pub use Rattle.range_change.specs.Runs.{AreOverlapping}
+pub use Rattle.range_runs.specs.Runs.{AreOverlapping}
 
 -- the range from the start of the first item to the end of the last
 pub record IsSpan {K V : Type 0} (items : List (Item (AnyRange K) V))

@@ -5,9 +5,9 @@ ghost use Rattle.range_keys.specs.Order.{IsComplete};
 ghost use Rattle.range_algebra.specs.Range.{IsKnownRange};
 ghost use Rattle.range_algebra.specs.declared.any.AnyRange.{AnyRange};
 ghost use Rattle.range_store.specs.declared.storage.Item.{Item};
-ghost use Rattle.range_change.specs.Bindings.{BindsTo, IsCoarse, BindAlike, AreAlike, AreDisjoint};
+ghost use Rattle.range_runs.specs.Bindings.{BindsTo, IsCoarse, BindAlike, AreAlike, AreDisjoint};
 ghost use Rattle.range_reads.specs.ListOrder.{same_list};
-ghost use Rattle.range_change.specs.Stored.{IsStored};
+ghost use Rattle.range_runs.specs.Stored.{IsStored};
 
 use range_keys::traits::PartialEnum;
 

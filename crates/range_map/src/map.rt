@@ -1,10 +1,10 @@
 //! A map from ranges of keys to values.
 ghost use Rattle.std.specs.Prelude.{◌≡◌, ◌+◌, [], length, IfSome};
 ghost use Rattle.std.specs.Option.{option_copied, option_map};
-ghost use Rattle.range_change.specs.Stored.{IsStored};
+ghost use Rattle.range_runs.specs.Stored.{IsStored};
 ghost use Rattle.range_keys.specs.Order.{IsComplete};
 ghost use Rattle.range_store.specs.Counting.{AddsSteps};
-ghost use Rattle.range_change.specs.Bindings.{Binds, IsCoarse, IsItemFor, IsStoredFor, IsOnlyCoarse, IsLeastCount};
+ghost use Rattle.range_runs.specs.Bindings.{Binds, IsCoarse, IsItemFor, IsStoredFor, IsOnlyCoarse, IsLeastCount};
 ghost use Rattle.range_reads.specs.Iteration.{shown_item};
 
 mod append;
@@ -50,10 +50,11 @@ pub use levels::one_level_is_greatest;
 pub use overlapping::Overlapping;
 pub use pieces::Pieces;
 use range_algebra::any::AnyRange;
-pub use range_change::error::{MapError, NotAppended, NotInserted, UpdateError};
+pub use range_edit::error::{MapError, NotAppended, NotInserted};
 use range_keys::traits::PartialEnum;
 pub use range_reads::iter::Iter;
 use range_reads::lookup::stored_for;
+pub use range_runs::error::UpdateError;
 use range_store::storage::{Item, Steps, Storage};
 use std::alloc::Global;
 use std::marker::{Model, PhantomData};
@@ -79,7 +80,7 @@ pub struct RangeMap<K: PartialEnum, V: Eq, C: Storage<Item<AnyRange<K>, V>>> {
 }
 
 impl<K: PartialEnum, V: Eq, C: Storage<Item<AnyRange<K>, V>>> Model for RangeMap<K, V, C> {
-    ghost use Rattle.range_change.specs.Stored.{IsStored};
+    ghost use Rattle.range_runs.specs.Stored.{IsStored};
 
     ghost Value = { C };
 

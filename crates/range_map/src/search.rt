@@ -2,9 +2,9 @@
 ghost use Rattle.std.specs.Prelude.{All, MatchOption};
 ghost use Rattle.std.specs.List.{AllByRecursion};
 ghost use Rattle.range_algebra.specs.Range.{IsEmptyRange};
-ghost use Rattle.range_change.specs.Neighbours.{EachNext};
+ghost use Rattle.range_runs.specs.Neighbours.{EachNext};
 ghost use Rattle.range_algebra.specs.Relations.{LiesBefore};
-ghost use Rattle.range_change.specs.Searches.{ElementIsBefore, IsLastNotAfter};
+ghost use Rattle.range_runs.specs.Searches.{ElementIsBefore, IsLastNotAfter};
 
 use range_algebra::any::AnyRange;
 use range_algebra::inner::{self, compare_ranges};

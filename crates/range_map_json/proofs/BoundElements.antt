@@ -7,10 +7,10 @@ use Rattle.range_algebra.proofs.Lists.{any_left, any_right, any_split}
 use Rattle.range_algebra.proofs.Pieces.{empty_or_not}
 use Rattle.range_algebra.proofs.Meeting.{held_or_not}
 use Rattle.range_store.specs.declared.storage.Item.{Item}
-use Rattle.range_change.specs.Bindings.{BindsTo, Binds, BindAlike, IsBoundAfter}
-use Rattle.range_change.specs.Frames.{IsInsertionFrame}
-use Rattle.range_change.specs.Lookups.{MeetsSome, MeetAlso}
-use Rattle.range_change.proofs.Overlaps.{binding_meets, binds_bound}
+use Rattle.range_runs.specs.Bindings.{BindsTo, Binds, BindAlike, IsBoundAfter}
+use Rattle.range_runs.specs.Frames.{IsInsertionFrame}
+use Rattle.range_runs.specs.Lookups.{MeetsSome, MeetAlso}
+use Rattle.range_runs.proofs.Overlaps.{binding_meets, binds_bound}
 use Rattle.range_map.proofs.BoundKeys.{bound_split, binds_split}
 use Rattle.range_json.specs.MapFaults.{MeetNonempty, MeetsOne, AreApart}
 

@@ -11,8 +11,8 @@ use Rattle.range_algebra.specs.declared.any.AnyRange.{AnyRange}
 use Rattle.range_algebra.specs.Range.{IsEmptyRange, IsKnownRange}
 use Rattle.range_algebra.proofs.Lists.{every_more, parts_at}
 use Rattle.range_store.specs.declared.storage.Item.{Item}
-use Rattle.range_change.specs.Frames.{IsInsertionFrame}
-use Rattle.range_change.specs.Stored.{IsStored}
+use Rattle.range_runs.specs.Frames.{IsInsertionFrame}
+use Rattle.range_runs.specs.Stored.{IsStored}
 use Rattle.range_json.specs.Faults.{first_fault}
 use Rattle.range_json.specs.declared.error.JsonError.{JsonError}
 use Rattle.range_json.proofs.Keeping.{of_last, stored_before, stands_last}

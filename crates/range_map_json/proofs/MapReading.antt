@@ -8,7 +8,7 @@ use Rattle.range_keys.specs.Order.{KeyOrder}
 use Rattle.range_algebra.specs.declared.any.AnyRange.{AnyRange}
 use Rattle.range_algebra.specs.Range.{IsEmptyRange, IsKnownRange}
 use Rattle.range_store.specs.declared.storage.Item.{Item}
-use Rattle.range_change.specs.Lookups.{MeetsSome}
+use Rattle.range_runs.specs.Lookups.{MeetsSome}
 use Rattle.range_json.specs.declared.error.JsonError.{JsonError}
 use Rattle.range_json.specs.declared.error.JsonError.TheVariants.{Memory, Meets}
 use Rattle.range_json.specs.MapFaults.{element_fault, map_elements, AreRead, IsElementRead, IsFaultOf, IsMapFault, MeetsEarlier}

@@ -6,7 +6,7 @@ use Rattle.range_keys.specs.Order.{KeyOrder}
 use Rattle.range_algebra.specs.declared.any.AnyRange.{AnyRange}
 use Rattle.range_algebra.specs.Range.{IsKnownRange}
 use Rattle.range_store.specs.declared.storage.Item.{Item}
-use Rattle.range_change.specs.Stored.{IsStored}
+use Rattle.range_runs.specs.Stored.{IsStored}
 use Rattle.range_map.specs.Extending.{AreBoundAfter}
 use Rattle.range_json.specs.Faults.{first_fault}
 use Rattle.range_json.specs.declared.error.JsonError.{JsonError}

@@ -2,10 +2,10 @@
 ghost use Rattle.std.specs.Prelude.{◌≡◌, ◌⊎◌, IfOk, OnOk, IfErr};
 ghost use Rattle.serde_json.specs.View.{view};
 ghost use Rattle.range_algebra.specs.Range.{IsEmptyRange, IsKnownRange};
-ghost use Rattle.range_change.specs.Bindings.{IsBoundAfter};
-ghost use Rattle.range_change.specs.Frames.{IsInsertionFrame};
-ghost use Rattle.range_change.specs.Lookups.{MeetsSome, MeetAlso};
-ghost use Rattle.range_change.specs.Stored.{IsStored};
+ghost use Rattle.range_runs.specs.Bindings.{IsBoundAfter};
+ghost use Rattle.range_runs.specs.Frames.{IsInsertionFrame};
+ghost use Rattle.range_runs.specs.Lookups.{MeetsSome, MeetAlso};
+ghost use Rattle.range_runs.specs.Stored.{IsStored};
 ghost use Rattle.range_json.specs.Shapes.{map_shape};
 ghost use Rattle.range_json.specs.MapFaults.{IsMapRead, IsMapFault};
 ghost use Rattle.range_json.specs.Values.{AreItemValues};

@@ -2,9 +2,9 @@
 ghost use Rattle.std.specs.Prelude.{◌≡◌, ◌⊎◌, Some, None, IfOk, OnOk, IfErr};
 ghost use Rattle.serde_json.specs.View.{view};
 ghost use Rattle.range_algebra.specs.Range.{ClonesAreEqual, IsEmptyRange, IsKnownRange};
-ghost use Rattle.range_change.specs.Bindings.{IsBoundAfter};
-ghost use Rattle.range_change.specs.Frames.{IsInsertionFrame};
-ghost use Rattle.range_change.specs.Stored.{IsStored};
+ghost use Rattle.range_runs.specs.Bindings.{IsBoundAfter};
+ghost use Rattle.range_runs.specs.Frames.{IsInsertionFrame};
+ghost use Rattle.range_runs.specs.Stored.{IsStored};
 ghost use Rattle.range_map_json.specs.Overwriting.{overwriting_fault, IsMapOverwritten};
 ghost use Rattle.range_json.specs.declared.error.JsonError.TheVariants.{Memory};
 

@@ -2,9 +2,9 @@
 use Rattle.std.proofs.Common.{◌≡◌, refl, sym, inl, inr, arith, ◌+◌, ◌<◌, ◌⊎◌, length, Bool, List, [], ◌++◌, Result, Ok, Option, Some, None}
 use Rattle.range_merge.proofs.Common.{IsEquivalence, IsLawful, Position, position_cmp, Equal, Bound, IsBoundClone, SameBound, lower, Every, Shared, Bor, KeyOrder, AnyRange, Item, option_copied, option_map}
 use Rattle.range_merge.specs.Combining.{IsValueOf, MayBeAskedBoth, MayBeAskedOfBoth, MayAnswerOnBoth, MayGiveValueOnBoth}
-use Rattle.range_change.specs.Put.{IsPut}
-use Rattle.range_change.specs.Window.{option_items}
-use Rattle.range_change.proofs.RangePieces.{any_over, any_use}
+use Rattle.range_runs.specs.Put.{IsPut}
+use Rattle.range_runs.specs.Window.{option_items}
+use Rattle.range_runs.proofs.RangePieces.{any_over, any_use}
 use Rattle.range_merge.proofs.Combination.{IsCombinedUpTo, combined_more, answered_piece}
 use Rattle.range_merge.proofs.Combining.{IsSideUpTo, unmapped, fewer_ranges, no_longer}
 use Rattle.range_merge.specs.AskedPieces.{IsFirstAskable, IsNextPiece, AreFirstAsked, MayAnswerOnFirst}

@@ -2,20 +2,20 @@
 use Rattle.std.proofs.Common.{◌≡◌, refl, sym, ◌∙◌, ◌↔◌, ◌⊎◌, inl, inr, arith, Bool, true, Option, Some, None, Result, Ok, List, [], ◌∷◌, ◌++◌}
 use Rattle.range_merge.proofs.Common.{IsEquivalence, Bound, Equal, KeyOrder, IsLawful, Position, position_cmp, Beside, At, IsBoundClone, SameBound, lower, upper, Lt, Any, Every, Holds, LiesBefore, AnyRange, any_left, any_none, any_split, every_append, every_weaker, Item, Answered, IsAsAnswered, IsBound, Binds, BindsTo, LiesIn, IsStored}
 use Rattle.range_merge.specs.Combining.{Combined, IsConstantOn, IsSharedPiece, AreCombined, IsCombination, MayAnswerOnBoth}
-use Rattle.range_change.proofs.PlaceOrder.{le_refl, lt_le, le_trans, lt_le_trans, lt_not_le, lt_trans}
+use Rattle.range_runs.proofs.PlaceOrder.{le_refl, lt_le, le_trans, lt_le_trans, lt_not_le, lt_trans}
 use Rattle.range_algebra.specs.RangeOrder.{range_cmp}
 use Rattle.range_algebra.proofs.Places.{held_between, unbounded_start, unbounded_end}
-use Rattle.range_change.specs.Put.{IsPut}
+use Rattle.range_runs.specs.Put.{IsPut}
 use Rattle.range_merge.specs.Merged.{IsFirstPiece}
-use Rattle.range_change.specs.Neighbours.{EachNext}
-use Rattle.range_change.specs.Window.{option_items}
+use Rattle.range_runs.specs.Neighbours.{EachNext}
+use Rattle.range_runs.specs.Window.{option_items}
 use Rattle.range_merge.proofs.Combining.{full_range, PLe, HoldsAt, SomeHoldsAt, IsSideUpTo, IsTaken, taken, not_left, side_none, side_more, side_all, constant_on, some_of}
 use Rattle.range_merge.proofs.WidestPieces.{IsEnd, LiesBetweenEnds, LieBetweenEnds, constant_held, same_piece, widest, rest_between, piece_between, items_between, others_between}
-use Rattle.range_change.proofs.RangePieces.{any_end, any_over, any_use, any_with, every_with, next_last}
-use Rattle.range_change.proofs.AnswerLists.{IsFilledUpTo, filled_none, fill_more, Alike, Gives}
-use Rattle.range_change.proofs.Forms.{Known, Hold, before_is, nonempty_good, chain_stored, binds_hold, bound_hold, respects_any}
-use Rattle.range_change.proofs.Overlaps.{binding_meets}
-use Rattle.range_change.proofs.Windows.{every_both}
+use Rattle.range_runs.proofs.RangePieces.{any_end, any_over, any_use, any_with, every_with, next_last}
+use Rattle.range_runs.proofs.AnswerLists.{IsFilledUpTo, filled_none, fill_more, Alike, Gives}
+use Rattle.range_runs.proofs.Forms.{Known, Hold, before_is, nonempty_good, chain_stored, binds_hold, bound_hold, respects_any}
+use Rattle.range_runs.proofs.Overlaps.{binding_meets}
+use Rattle.range_runs.proofs.Windows.{every_both}
 use Rattle.range_merge.proofs.HeldInside.{inside_holds, lies_in_holds}
 
 any_last : {X : Type 0} (P : X → Type 0) (xs : List X) (x : X)

@@ -3,14 +3,14 @@ use Rattle.std.proofs.Common.{◌≡◌, refl, ◌⊎◌, inl, inr, ◌+◌, ◌
 use Rattle.std.specs.declared.ops.Bound.TheVariants.{Unbounded}
 use Rattle.range_merge.proofs.Common.{option_map, IsEquivalence, KeyOrder, IsLawful, IsKnownRange, position_cmp, Position, Beside, At, lower, upper, Le, Lt, Any, Every, AnyRange, every_weaker, Item, IsBound, IsStored, line_of}
 use Rattle.range_merge.specs.Combining.{IsConstantOn}
-use Rattle.range_change.proofs.PlaceOrder.{le_refl, lt_le, eq_le, eq_ge, le_trans, lt_not_le, cases, lt_le_trans}
+use Rattle.range_runs.proofs.PlaceOrder.{le_refl, lt_le, eq_le, eq_ge, le_trans, lt_not_le, cases, lt_le_trans}
 use Rattle.range_merge.specs.Merged.{IsPlaced, IsCutFrom, IsUsedUp, StartAlike, IsFirstPiece}
 use Rattle.range_algebra.proofs.Places.{unbounded_start}
-use Rattle.range_change.specs.Window.{option_items}
-use Rattle.range_change.proofs.Chains.{chain_tail, follows_above}
-use Rattle.range_change.proofs.CoveredPlaces.{met_range_is_covered, chained_items_have_places}
-use Rattle.range_change.proofs.RangePieces.{any_with, any_over, every_with, lies_in}
-use Rattle.range_change.proofs.Forms.{Known, Chained, bound_hold, stored_chain, stored_known}
+use Rattle.range_runs.specs.Window.{option_items}
+use Rattle.range_runs.proofs.Chains.{chain_tail, follows_above}
+use Rattle.range_runs.proofs.CoveredPlaces.{met_range_is_covered, chained_items_have_places}
+use Rattle.range_runs.proofs.RangePieces.{any_with, any_over, every_with, lies_in}
+use Rattle.range_runs.proofs.Forms.{Known, Chained, bound_hold, stored_chain, stored_known}
 
 abbrev pub full_range : {K : Type 0} → AnyRange K
 full_range = record { start = Unbounded; end = Unbounded }

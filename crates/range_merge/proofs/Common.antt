@@ -20,9 +20,9 @@ pub use Rattle.range_algebra.specs.References.{range_of}
 pub use Rattle.range_algebra.specs.Relations.{LiesBefore}
 pub use Rattle.range_algebra.specs.declared.any.AnyRange.{AnyRange}
 pub use Rattle.range_store.specs.declared.storage.Item.{Item}
-pub use Rattle.range_change.specs.Answers.{Answered, IsAsAnswered}
-pub use Rattle.range_change.specs.Bindings.{Binds, BindsTo, IsBound}
-pub use Rattle.range_change.specs.Chains.{line_of}
-pub use Rattle.range_change.specs.Pieces.{LiesIn}
-pub use Rattle.range_change.specs.Stored.{IsStored}
+pub use Rattle.range_runs.specs.Answers.{Answered, IsAsAnswered}
+pub use Rattle.range_runs.specs.Bindings.{Binds, BindsTo, IsBound}
+pub use Rattle.range_runs.specs.Chains.{line_of}
+pub use Rattle.range_runs.specs.Pieces.{LiesIn}
+pub use Rattle.range_runs.specs.Stored.{IsStored}
 pub use denote.Ref.{Bor}

@@ -9,8 +9,8 @@ use Rattle.range_algebra.specs.Compared.{flipped, starts_past_end}
 use Rattle.range_algebra.specs.Cuts.{past}
 use Rattle.range_algebra.specs.Range.{IsKnownBound}
 use Rattle.range_algebra.proofs.Places.{reaching_is_before_past, flipped_bound_is_past, flipped_back, flipped_known, unbounded_start, unbounded_end}
-use Rattle.range_change.proofs.Extents.{past_le, end_le}
-use Rattle.range_change.proofs.PlaceOrder.{eq_le, eq_ge, lt_not_le, lt_le_trans, le_lt_trans, not_le, not_lt, both}
+use Rattle.range_runs.proofs.Extents.{past_le, end_le}
+use Rattle.range_runs.proofs.PlaceOrder.{eq_le, eq_ge, lt_not_le, lt_le_trans, le_lt_trans, not_le, not_lt, both}
 use Rattle.range_merge.specs.Merged.{IsPlaced, IsPartPast, IsRestOf, StartAlike, IsFirstPiece}
 
 module _ {K : Type 0} {order : KeyOrder K} (lawful : IsLawful order) where

@@ -2,7 +2,7 @@
 use Rattle.std.proofs.Common.{inl, inr, List, [], ◌∷◌, rules}
 use Rattle.range_merge.proofs.Common.{KeyOrder, IsLawful, Any, Holds, AnyRange, Item, IsBound, LiesIn}
 use Rattle.range_algebra.proofs.Holding.{holds_by_position}
-use Rattle.range_change.proofs.PlaceOrder.{le_trans}
+use Rattle.range_runs.proofs.PlaceOrder.{le_trans}
 
 module _ {K : Type 0} {order : KeyOrder K} (lawful : IsLawful order) where
   pub lies_in_holds : (k : K) → order.is_key k → (r s : AnyRange K) → LiesIn order r s

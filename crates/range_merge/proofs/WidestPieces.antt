@@ -3,16 +3,16 @@ use Rattle.std.proofs.Common.{◌≡◌, refl, sym, ap, ◌∙◌, ◌⊎◌, in
 use Rattle.range_merge.proofs.Common.{every_weaker, KeyOrder, IsLawful, IsKnownRange, position_cmp, Position, Equal, lower, upper, Lt, Any, Every, AnyRange, Item, LiesIn}
 use Rattle.range_merge.specs.Combining.{IsConstantOn, IsSharedPart, IsSharedPiece}
 use Rattle.range_merge.specs.Merged.{IsPlaced, IsCutFrom, IsUsedUp, IsFirstPiece}
-use Rattle.range_change.specs.Window.{option_items}
-use Rattle.range_change.proofs.CoveredPlaces.{shared_place_is_overlap}
-use Rattle.range_change.proofs.Extents.{past_le}
-use Rattle.range_change.proofs.RangePieces.{any_over, any_use, any_with, lies_in}
-use Rattle.range_change.proofs.Windows.{every_both}
+use Rattle.range_runs.specs.Window.{option_items}
+use Rattle.range_runs.proofs.CoveredPlaces.{shared_place_is_overlap}
+use Rattle.range_runs.proofs.Extents.{past_le}
+use Rattle.range_runs.proofs.RangePieces.{any_over, any_use, any_with, lies_in}
+use Rattle.range_runs.proofs.Windows.{every_both}
 use Rattle.range_keys.proofs.Orderings.{equal_then_equal}
 use Rattle.range_algebra.specs.RangeOrder.{range_cmp}
 use Rattle.range_merge.proofs.FirstPieces.{itself}
 use Rattle.range_merge.proofs.Combining.{PLe, HoldsAt, SomeHoldsAt, IsLeftFrom, IsSideUpTo, not_left, some_of}
-use Rattle.range_change.proofs.PlaceOrder.{le_refl, lt_le, eq_le, eq_ge, le_trans, le_lt_trans, lt_le_trans, lt_not_le, not_lt, cases, both}
+use Rattle.range_runs.proofs.PlaceOrder.{le_refl, lt_le, eq_le, eq_ge, le_trans, le_lt_trans, lt_le_trans, lt_not_le, not_lt, cases, both}
 
 module _ {K : Type 0} (order : KeyOrder K) {V : Type 0} where
   -- the place is one where an item starts or ends

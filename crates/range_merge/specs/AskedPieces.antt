@@ -7,8 +7,8 @@ use Rattle.range_keys.specs.Order.{KeyOrder}
 use Rattle.range_algebra.specs.References.{range_of}
 use Rattle.range_algebra.specs.declared.any.AnyRange.{AnyRange}
 use Rattle.range_store.specs.declared.storage.Item.{Item}
-use Rattle.range_change.specs.Put.{IsPut}
-use Rattle.range_change.specs.Window.{option_items}
+use Rattle.range_runs.specs.Put.{IsPut}
+use Rattle.range_runs.specs.Window.{option_items}
 use Rattle.range_merge.specs.Combining.{MayBeAskedOfBoth}
 use Rattle.range_merge.specs.Merged.{IsPlacedIn, StartAlike, IsFirstPieceOf, part_item}
 use Rattle.range_merge.specs.declared.merged.Piece.{Piece}

@@ -12,11 +12,11 @@ use Rattle.range_algebra.specs.RangeOrder.{range_cmp}
 use Rattle.range_algebra.specs.Relations.{LiesBefore}
 use Rattle.range_algebra.specs.declared.any.AnyRange.{AnyRange}
 use Rattle.range_store.specs.declared.storage.Item.{Item}
-use Rattle.range_change.specs.Answers.{IsAsAnswered}
-use Rattle.range_change.specs.Bindings.{IsBound, Binds}
-use Rattle.range_change.specs.Lookups.{MeetsSome}
-use Rattle.range_change.specs.Neighbours.{EachNext}
-use Rattle.range_change.specs.Pieces.{LiesIn}
+use Rattle.range_runs.specs.Answers.{IsAsAnswered}
+use Rattle.range_runs.specs.Bindings.{IsBound, Binds}
+use Rattle.range_runs.specs.Lookups.{MeetsSome}
+use Rattle.range_runs.specs.Neighbours.{EachNext}
+use Rattle.range_runs.specs.Pieces.{LiesIn}
 
 -- the closure f may answer a where it is shown the two values, or none in place of either
 pub record MayAnswerBoth {F V W A : Type 0}

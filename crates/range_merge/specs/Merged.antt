@@ -9,7 +9,7 @@ use Rattle.range_algebra.specs.Range.{IsKnownRange}
 use Rattle.range_algebra.specs.References.{range_of}
 use Rattle.range_algebra.specs.declared.any.AnyRange.{AnyRange}
 use Rattle.range_store.specs.declared.storage.Item.{Item}
-use Rattle.range_change.specs.Stored.{item_lower, item_upper}
+use Rattle.range_runs.specs.Stored.{item_lower, item_upper}
 use Rattle.range_keys.specs.declared.inner.position.Position.{Position}
 use Rattle.range_algebra.specs.Cuts.{lower, upper}
 use Rattle.range_merge.specs.declared.merged.Part.{Part}

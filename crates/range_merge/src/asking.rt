@@ -2,9 +2,9 @@
 ghost use Rattle.std.specs.Prelude.{◌≡◌, ◌∷◌, [], IfOk, OnOk, MatchOption, Option, Some, None, Ok, Err};
 ghost use Rattle.std.specs.Option.{option_copied, option_map};
 ghost use Rattle.range_algebra.specs.References.{range_of};
-ghost use Rattle.range_change.specs.Put.{IsPut};
-ghost use Rattle.range_change.specs.Window.{option_items};
-ghost use Rattle.range_change.specs.declared.error.UpdateError.TheVariants.{Closure as ClosureError, Memory as MemoryError};
+ghost use Rattle.range_runs.specs.Put.{IsPut};
+ghost use Rattle.range_runs.specs.Window.{option_items};
+ghost use Rattle.range_runs.specs.declared.error.UpdateError.TheVariants.{Closure as ClosureError, Memory as MemoryError};
 ghost use Rattle.range_merge.specs.AskedPieces.{IsFirstAskable, AreAsked, MayAnswerOnOne, AreFirstAsked, MayAnswerOnFirst};
 ghost use Rattle.range_merge.specs.Combining.{MayAnswerBoth, MayBeAskedBoth, MayBeAskedOfBoth, IsAnsweredByBoth};
 ghost use Rattle.range_merge.specs.Merged.{IsPlaced, IsPlacedIn, part_item};
@@ -14,10 +14,10 @@ use crate::merged::{
     whole_part,
 };
 use range_algebra::any::AnyRange;
-use range_change::answers::put;
-use range_change::error::UpdateError;
 use range_keys::bound::Directed;
 use range_keys::traits::PartialEnum;
+use range_runs::answers::put;
+use range_runs::error::UpdateError;
 use range_store::storage::Item;
 use std::cmp::Ordering;
 

@@ -12,9 +12,9 @@ ghost use Rattle.range_store.specs.declared.storage.Item.{Item};
 ghost use Rattle.range_merge.specs.Merged.{IsPlaced, IsPartPast, IsFirstPieceOf, part_item};
 
 use range_algebra::any::AnyRange;
-use range_change::cut::flip;
 use range_keys::bound::Directed;
 use range_keys::traits::PartialEnum;
+use range_runs::bounds::flip;
 use range_store::storage::Item;
 use std::cmp::Ordering;
 use std::ops::{Bound, RangeBounds};

@@ -2,7 +2,7 @@
 use Rattle.std.proofs.Common.{◌≡◌, sym, ◌∙◌, Bool, true, IsTrue, Option, Some, None, arith}
 use Rattle.std.specs.Prelude.{IfSome}
 use Rattle.std.specs.Cmp.{IsEquivalence}
-use Rattle.range_change.specs.Answers.{IsAsAnswered}
+use Rattle.range_runs.specs.Answers.{IsAsAnswered}
 use Rattle.range_multimaps.specs.Members.{HasNone, HaveSame, HasAlso, HasAllBut, among}
 
 module _ {S V : Type 0} (has : S → V → Bool) where

@@ -6,7 +6,7 @@ use Rattle.range_algebra.proofs.Lists.{any_none, every_append, every_left, every
 use Rattle.range_algebra.specs.Range.{IsEmptyRange}
 use Rattle.range_algebra.specs.declared.any.AnyRange.{AnyRange}
 use Rattle.range_store.specs.declared.storage.Item.{Item}
-use Rattle.range_change.specs.Frames.{IsSpliceFrame, IsInsertionFrame, IsNewItem}
+use Rattle.range_runs.specs.Frames.{IsSpliceFrame, IsInsertionFrame, IsNewItem}
 use Rattle.range_multimaps.specs.Pairs.{HasNoEmptySet}
 use Rattle.range_keys.proofs.Orderings.{greater_or_not}
 

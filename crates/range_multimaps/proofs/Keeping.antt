@@ -8,10 +8,10 @@ use Rattle.range_keys.specs.Order.{KeyOrder}
 use Rattle.range_algebra.specs.declared.any.AnyRange.{AnyRange}
 use Rattle.range_algebra.proofs.Lists.{every_weaker}
 use Rattle.range_store.specs.declared.storage.Item.{Item}
-use Rattle.range_change.specs.Answers.{Answered, IsAsAnswered, IsGivenBy, MayAnswer, IsUpdated}
-use Rattle.range_change.specs.Frames.{IsMergeFrame}
-use Rattle.range_change.proofs.RangePieces.{any_use}
-use Rattle.range_change.proofs.MergedItems.{way_follows}
+use Rattle.range_runs.specs.Answers.{Answered, IsAsAnswered, IsGivenBy, MayAnswer, IsUpdated}
+use Rattle.range_runs.specs.Frames.{IsMergeFrame}
+use Rattle.range_runs.proofs.RangePieces.{any_use}
+use Rattle.range_edit.proofs.MergedItems.{way_follows}
 use Rattle.range_multimaps.specs.Members.{HaveSame, HasAlso, HasAllBut}
 
 module _ {S V : Type 0} {same : S → S → Bool} {has : S → V → Bool}

@@ -12,10 +12,10 @@ use Rattle.range_keys.proofs.Orderings.{greater_or_not}
 use Rattle.range_algebra.specs.Range.{Holds, IsEmptyRange}
 use Rattle.range_algebra.specs.declared.any.AnyRange.{AnyRange}
 use Rattle.range_store.specs.declared.storage.Item.{Item}
-use Rattle.range_change.specs.Answers.{IsAsAnswered, MayAnswer, IsUpdated}
-use Rattle.range_change.specs.Bindings.{IsBound, IsItemFor, BindsTo, Binds}
+use Rattle.range_runs.specs.Answers.{IsAsAnswered, MayAnswer, IsUpdated}
+use Rattle.range_runs.specs.Bindings.{IsBound, IsItemFor, BindsTo, Binds}
 use Rattle.range_reads.specs.ListOrder.{IsCopyOf}
-use Rattle.range_change.specs.Frames.{HasValue}
+use Rattle.range_runs.specs.Frames.{HasValue}
 use Rattle.range_map.specs.Rebinding.{AreRebound}
 use Rattle.range_multimaps.specs.Members.{HasNone, HaveSame, HasAlso, HasAllBut, among}
 use Rattle.range_multimaps.specs.Pairs.{HasNoEmptySet, HasPair, IsUnpaired, AreValuesAt, HasPairsAlso, HasPairsWithout, StayBound}
@@ -23,8 +23,8 @@ use Rattle.range_multimaps.proofs.Filled.{each_after}
 use Rattle.range_multimaps.proofs.Keeping.{gave_way_to_such}
 use Rattle.range_algebra.proofs.Lists.{every_weaker}
 use Rattle.range_algebra.proofs.Meeting.{held_or_not}
-use Rattle.range_change.proofs.RangePieces.{any_use}
-use Rattle.range_change.proofs.Overlaps.{binds_bound}
+use Rattle.range_runs.proofs.RangePieces.{any_use}
+use Rattle.range_runs.proofs.Overlaps.{binds_bound}
 
 module _ {K : Type 0} (order : KeyOrder K) {S V : Type 0} {same : S → S → Bool}
     (equal : IsEquivalence same) {has : S → V → Bool}

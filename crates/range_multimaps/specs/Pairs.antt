@@ -6,7 +6,7 @@ use Rattle.range_algebra.specs.Intervals.{Any}
 use Rattle.range_algebra.specs.Range.{Holds}
 use Rattle.range_algebra.specs.declared.any.AnyRange.{AnyRange}
 use Rattle.range_store.specs.declared.storage.Item.{Item}
-use Rattle.range_change.specs.Bindings.{Binds}
+use Rattle.range_runs.specs.Bindings.{Binds}
 use Rattle.range_multimaps.specs.Members.{among}
 
 -- no stored set is empty

@@ -2,8 +2,8 @@
 ghost use Rattle.std.specs.Prelude.{◌≡◌, ◌↔◌, [], length, IsTrue, IsNone, IfSome};
 ghost use Rattle.std.specs.Option.{option_copied};
 ghost use Rattle.range_keys.specs.Order.{IsComplete};
-ghost use Rattle.range_change.specs.Bindings.{Binds, IsOnlyCoarse, IsLeastCount};
-ghost use Rattle.range_change.specs.Stored.{IsStored};
+ghost use Rattle.range_runs.specs.Bindings.{Binds, IsOnlyCoarse, IsLeastCount};
+ghost use Rattle.range_runs.specs.Stored.{IsStored};
 ghost use Rattle.range_multimaps.specs.Pairs.{HasNoEmptySet, HasPair, AreValuesAt, IsUnpaired};
 
 mod algebra;

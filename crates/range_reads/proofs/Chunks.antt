@@ -2,7 +2,7 @@
 use Rattle.std.proofs.Common.{◌≡◌, ℕ, suc, ◌+◌, ◌-◌, ◌<◌, ◌≤◌, List, [], ◌∷◌, ◌++◌, length, get_or, take, drop, Option, Some, None, refl, ap, subst, sym, ◌∙◌, arith}
 use Rattle.std.specs.Prelude.{MatchOption}
 use Rattle.std.specs.Option.{ForSome, is_some, unwrap_or}
-use Rattle.range_change.proofs.Windows.{last_of_run}
+use Rattle.range_runs.proofs.Windows.{last_of_run}
 use Rattle.range_reads.proofs.Common.{drop-drop, drop_more, false≢true}
 use Rattle.range_store.specs.ListPlaces.{IsAt}
 use Rattle.range_reads.specs.Iteration.{place_behind, IsIterator}

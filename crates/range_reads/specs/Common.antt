@@ -13,7 +13,7 @@ pub use Rattle.range_algebra.specs.RangeOrder.{range_cmp, range_input, range_res
 pub use Rattle.range_algebra.specs.Relations.{LiesBefore}
 pub use Rattle.range_algebra.specs.declared.any.AnyRange.{AnyRange}
 pub use Rattle.range_store.specs.declared.storage.Item.{Item}
-pub use Rattle.range_change.specs.Bindings.{BindAlike}
-pub use Rattle.range_change.specs.Neighbours.{EachNext}
-pub use Rattle.range_change.specs.Pieces.{IsPiece}
-pub use Rattle.range_change.specs.Stored.{IsStored}
+pub use Rattle.range_runs.specs.Bindings.{BindAlike}
+pub use Rattle.range_runs.specs.Neighbours.{EachNext}
+pub use Rattle.range_runs.specs.Pieces.{IsPiece}
+pub use Rattle.range_runs.specs.Stored.{IsStored}

@@ -2,7 +2,7 @@
 use Rattle.std.specs.Prelude.{◌≡◌, List, [], ◌∷◌, ◌++◌, ◌⊎◌, Option, Some, None}
 use Rattle.range_reads.specs.Common.{Bor, option_map, Equal, Bound, KeyOrder, bound_of, flipped, Any, Every, Holds, IsKnownRange, range_cmp, LiesBefore, AnyRange, Item, EachNext, IsPiece}
 use Rattle.std.specs.declared.ops.Bound.TheVariants.{Unbounded}
-pub use Rattle.range_change.specs.PieceLists.{between}
+pub use Rattle.range_runs.specs.PieceLists.{between}
 
 abbrev pub full_range : {K : Type 0} → AnyRange K
 full_range = record { start = Unbounded; end = Unbounded }

@@ -4,7 +4,7 @@ use Rattle.std.specs.Option.{ForSome}
 use Rattle.range_algebra.specs.declared.any.AnyRange.{AnyRange}
 use Rattle.range_store.specs.ListPlaces.{IsAt}
 use Rattle.range_store.specs.declared.storage.Item.{Item}
-pub use Rattle.range_change.specs.Runs.{shown_item}
+pub use Rattle.range_runs.specs.Runs.{shown_item}
 
 -- the item that a pair is made of
 abbrev pub pair_item : {K V : Type 0} → AnyRange K × V → Item (AnyRange K) V

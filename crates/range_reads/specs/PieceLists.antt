@@ -1,7 +1,7 @@
 -- The free pieces of a range as a list.
 use Rattle.std.specs.Prelude.{◌≡◌, List, [], ◌∷◌, ◌++◌, Option, Some, None}
 use Rattle.range_reads.specs.Common.{Equal, KeyOrder, Any, Every, IsKnownRange, range_cmp, LiesBefore, AnyRange, Item, EachNext, IsPiece}
-pub use Rattle.range_change.specs.PieceLists.{shown_piece}
+pub use Rattle.range_runs.specs.PieceLists.{shown_piece}
 
 -- the range, if no value is there
 abbrev pub range_if_free : {K V : Type 0} → AnyRange K → Option V → List (AnyRange K)

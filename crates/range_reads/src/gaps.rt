@@ -4,14 +4,14 @@ ghost use Rattle.std.specs.declared.ops.Bound.TheVariants.{Unbounded};
 ghost use Rattle.std.specs.Iterator.{YieldsFirstBy, item_count};
 ghost use Rattle.std.specs.Option.{option_map};
 ghost use Rattle.range_algebra.specs.References.{range_of};
-ghost use Rattle.range_change.specs.Window.{option_items};
+ghost use Rattle.range_runs.specs.Window.{option_items};
 ghost use Rattle.range_reads.specs.FreeRanges.{free_after, free_from};
 
 use crate::iter::Iter;
 use range_algebra::any::AnyRange;
-use range_change::cut::flip;
-use range_change::pieces::range_between;
 use range_keys::traits::PartialEnum;
+use range_runs::bounds::flip;
+use range_runs::pieces::range_between;
 use range_store::storage::{Item, Storage};
 use std::marker::Model;
 use std::ops::{Bound, RangeBounds};

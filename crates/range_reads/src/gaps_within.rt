@@ -3,12 +3,12 @@ ghost use Rattle.std.specs.Prelude.{◌≡◌, [], ◌++◌, None};
 ghost use Rattle.std.specs.Iterator.{YieldsFirstBy, YieldsLastBy, item_count};
 ghost use Rattle.std.specs.Option.{option_map};
 ghost use Rattle.range_algebra.specs.References.{range_of};
-ghost use Rattle.range_change.specs.Window.{option_items};
+ghost use Rattle.range_runs.specs.Window.{option_items};
 ghost use Rattle.range_reads.specs.PieceLists.{free_ranges};
 
 use range_algebra::any::AnyRange;
-use range_change::pieces::Pieces;
 use range_keys::traits::PartialEnum;
+use range_runs::pieces::Pieces;
 use range_store::storage::{Item, Storage};
 use std::marker::Model;
 

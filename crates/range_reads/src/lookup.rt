@@ -4,16 +4,16 @@ ghost use Rattle.std.specs.Option.{option_map};
 ghost use Rattle.range_keys.specs.Order.{IsComplete};
 ghost use Rattle.range_store.specs.Counting.{AddsSteps};
 ghost use Rattle.range_algebra.specs.Range.{IsEmptyRange};
-ghost use Rattle.range_change.specs.Bindings.{Binds, IsItemFor};
-ghost use Rattle.range_change.specs.Lookups.{MeetsSome, BindsKeyOf};
-ghost use Rattle.range_change.specs.Stored.{IsStored};
+ghost use Rattle.range_runs.specs.Bindings.{Binds, IsItemFor};
+ghost use Rattle.range_runs.specs.Lookups.{MeetsSome, BindsKeyOf};
+ghost use Rattle.range_runs.specs.Stored.{IsStored};
 
 use range_algebra::any::AnyRange;
 use range_algebra::inner;
 use range_algebra::range::AsRange;
-use range_change::window::{ends_before, find_last_started};
 use range_keys::bound::Directed;
 use range_keys::traits::{Measure, PartialEnum};
+use range_runs::window::{ends_before, find_last_started};
 use range_store::storage::{Item, Steps, Storage};
 use std::ops::Bound;
 

@@ -5,10 +5,10 @@ use Rattle.range_algebra.specs.Range.{Holds}
 use Rattle.range_algebra.specs.declared.any.AnyRange.{AnyRange}
 use Rattle.range_algebra.proofs.Meeting.{held_or_not}
 use Rattle.range_store.specs.declared.storage.Item.{Item}
-use Rattle.range_change.specs.Bindings.{IsBound, BindsTo, IsBoundAfter, IsUnboundAfter}
+use Rattle.range_runs.specs.Bindings.{IsBound, BindsTo, IsBoundAfter, IsUnboundAfter}
 use Rattle.range_map.specs.Retaining.{BindOnlyAsBefore}
 use Rattle.range_map.specs.Together.{BindKeysOf}
-use Rattle.range_change.proofs.Overlaps.{binds_bound}
+use Rattle.range_runs.proofs.Overlaps.{binds_bound}
 use Rattle.range_set_extend.specs.KeySets.{HoldsKey, SomeHolds, HoldsAlso, HoldsWithout, HoldsAllAlso, HoldsAllOf}
 
 module _ {K : Type 0} (order : KeyOrder K) where

@@ -5,8 +5,8 @@ use Rattle.range_algebra.specs.Intervals.{Any}
 use Rattle.range_algebra.specs.Range.{Holds}
 use Rattle.range_algebra.specs.declared.any.AnyRange.{AnyRange}
 use Rattle.range_store.specs.declared.storage.Item.{Item}
-use Rattle.range_change.specs.Bindings.{IsBound}
-use Rattle.range_change.specs.Stored.{IsStored}
+use Rattle.range_runs.specs.Bindings.{IsBound}
+use Rattle.range_runs.specs.Stored.{IsStored}
 
 module _ {K : Type 0} (order : KeyOrder K) where
   -- the form of a map whose values are all equal: nonempty ranges, each before the next with a

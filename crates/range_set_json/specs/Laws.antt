@@ -8,7 +8,7 @@ use Rattle.range_keys.specs.Order.{KeyOrder}
 use Rattle.range_algebra.specs.declared.any.AnyRange.{AnyRange}
 use Rattle.range_store.specs.declared.storage.Item.{Item}
 use Rattle.range_reads.specs.ListOrder.{same_list}
-use Rattle.range_change.specs.Stored.{IsStored}
+use Rattle.range_runs.specs.Stored.{IsStored}
 use Rattle.range_sets.specs.KeySets.{IsStoredSet}
 use Rattle.range_multimaps.specs.Pairs.{HasNoEmptySet}
 use Rattle.range_sets.specs.SetOrder.{same_ranges}

@@ -9,8 +9,8 @@ use Rattle.range_keys.specs.Order.{KeyOrder, IsLawful}
 use Rattle.range_keys.proofs.Orderings.{not_both_greater_and_not, not_greater}
 use Rattle.range_algebra.specs.declared.any.AnyRange.{AnyRange}
 use Rattle.range_algebra.proofs.Lists.{every_weaker}
-use Rattle.range_change.proofs.RangePieces.{any_over, every_with}
-use Rattle.range_change.proofs.Windows.{every_both}
+use Rattle.range_runs.proofs.RangePieces.{any_over, every_with}
+use Rattle.range_runs.proofs.Windows.{every_both}
 use Rattle.range_algebra.specs.Intervals.{Any}
 use Rattle.range_algebra.specs.RangeOrder.{range_cmp, range_total}
 use Rattle.range_algebra.specs.Relations.{LiesBefore}
@@ -18,15 +18,15 @@ use Rattle.range_algebra.proofs.Places.{unbounded_start}
 use Rattle.range_store.specs.declared.storage.Item.{Item}
 use Rattle.range_reads.specs.FreeRanges.{full_range, AreGaps, free_from}
 use Rattle.range_reads.specs.ListOrder.{same_list}
-use Rattle.range_change.specs.Pieces.{LiesIn, IsFreePart, IsPiece}
-use Rattle.range_change.specs.Lookups.{Overlap}
+use Rattle.range_runs.specs.Pieces.{LiesIn, IsFreePart, IsPiece}
+use Rattle.range_runs.specs.Lookups.{Overlap}
 use Rattle.range_map.proofs.FreeParts.{gaps_are}
 use Rattle.range_map.proofs.FreePieces.{Pairs}
-use Rattle.range_change.proofs.Forms.{stored_known}
+use Rattle.range_runs.proofs.Forms.{stored_known}
 use Rattle.range_map.proofs.Together.{IsAscending, stored_ascends}
 use Rattle.range_sets.proofs.Filling.{all_equal}
 use Rattle.range_sets.proofs.FullRanges.{IsFull, all_full, ascending_pairs, ends_full}
-use Rattle.range_change.proofs.Listed.{stored_list_is_listed}
+use Rattle.range_runs.proofs.Listed.{stored_list_is_listed}
 use Rattle.range_sets.specs.Complements.{EqualGapsOf}
 use Rattle.range_set_extend.specs.KeySets.{IsStoredSet}
 use Rattle.range_sets.proofs.Enclosing.{missing_gaps_is_within_item}

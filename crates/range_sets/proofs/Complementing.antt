@@ -8,18 +8,18 @@ use Rattle.range_keys.specs.declared.inner.position.Position.{Position}
 use Rattle.range_keys.proofs.Orderings.{less_or_not, not_both_greater_and_not, not_greater}
 use Rattle.range_algebra.specs.Cuts.{upper}
 use Rattle.range_algebra.specs.Intervals.{Le}
-use Rattle.range_change.proofs.PlaceOrder.{le_refl, lt_le, le_trans, lt_not_le}
+use Rattle.range_runs.proofs.PlaceOrder.{le_refl, lt_le, le_trans, lt_not_le}
 use Rattle.range_algebra.specs.Range.{IsKnownRange, IsEmptyRange}
 use Rattle.range_algebra.specs.Relations.{LiesBefore, Touches}
 use Rattle.range_algebra.specs.declared.any.AnyRange.{AnyRange}
 use Rattle.range_store.specs.declared.storage.Item.{Item}
 use Rattle.range_reads.specs.FreeRanges.{full_range, AreGaps}
-use Rattle.range_change.specs.Neighbours.{EachNext}
-use Rattle.range_change.specs.Pieces.{IsFreePart, IsPiece}
-use Rattle.range_change.specs.Lookups.{Overlap}
-use Rattle.range_change.specs.Stored.{IsStored}
-use Rattle.range_change.proofs.Forms.{before_is, nonempty_good, touches_is}
-use Rattle.range_change.proofs.Listed.{IsListed, stored_list_is_listed, stored_by}
+use Rattle.range_runs.specs.Neighbours.{EachNext}
+use Rattle.range_runs.specs.Pieces.{IsFreePart, IsPiece}
+use Rattle.range_runs.specs.Lookups.{Overlap}
+use Rattle.range_runs.specs.Stored.{IsStored}
+use Rattle.range_runs.proofs.Forms.{before_is, nonempty_good, touches_is}
+use Rattle.range_runs.proofs.Listed.{IsListed, stored_list_is_listed, stored_by}
 use Rattle.range_set_extend.specs.KeySets.{IsStoredSet}
 
 -- the ranges as the items of a set

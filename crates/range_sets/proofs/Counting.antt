@@ -6,7 +6,7 @@ use Rattle.range_keys.proofs.Orderings.{greater_or_not}
 use Rattle.range_algebra.specs.Range.{IsEmptyRange}
 use Rattle.range_algebra.specs.declared.any.AnyRange.{AnyRange}
 use Rattle.range_store.specs.declared.storage.Item.{Item}
-use Rattle.range_change.specs.Frames.{IsInsertionFrame}
+use Rattle.range_runs.specs.Frames.{IsInsertionFrame}
 use Rattle.range_reads.specs.FreeRanges.{item_ranges}
 
 pub ranges_length : {K V : Type 0} (items : List (Item (AnyRange K) V))

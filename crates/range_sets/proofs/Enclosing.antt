@@ -11,16 +11,16 @@ use Rattle.range_algebra.proofs.Lists.{every_left, every_right}
 use Rattle.range_algebra.specs.Compared.{flipped}
 use Rattle.range_algebra.specs.Cuts.{past}
 use Rattle.range_algebra.specs.Intervals.{Le, Lt, Any}
-use Rattle.range_change.proofs.PlaceOrder.{eq_ge, le_trans, lt_not_le, not_le, not_lt, cases, lt_le_trans, le_lt_trans}
+use Rattle.range_runs.proofs.PlaceOrder.{eq_ge, le_trans, lt_not_le, not_le, not_lt, cases, lt_le_trans, le_lt_trans}
 use Rattle.range_algebra.specs.Range.{IsKnownBound, IsKnownRange, IsEmptyRange}
 use Rattle.range_algebra.proofs.Places.{reaching_is_before_past, flipped_bound_is_past, flipped_back, flipped_known, unbounded_start}
 use Rattle.range_store.specs.declared.storage.Item.{Item}
 use Rattle.range_reads.specs.FreeRanges.{between, free_from}
-use Rattle.range_change.specs.Pieces.{LiesIn}
-use Rattle.range_change.specs.Lookups.{Overlap}
-use Rattle.range_change.proofs.Forms.{before_is, nonempty_good, touches_is}
+use Rattle.range_runs.specs.Pieces.{LiesIn}
+use Rattle.range_runs.specs.Lookups.{Overlap}
+use Rattle.range_runs.proofs.Forms.{before_is, nonempty_good, touches_is}
 use Rattle.range_sets.proofs.FullRanges.{From, IsFull, between_is, ends_before, ends_full}
-use Rattle.range_change.proofs.Listed.{IsListed}
+use Rattle.range_runs.proofs.Listed.{IsListed}
 
 module _ {K : Type 0} (order : KeyOrder K) (lawful : IsLawful order) where
   abbrev PLe : Position K → Position K → Type 0

@@ -17,9 +17,9 @@ use Rattle.range_algebra.specs.RangeOrder.{range_cmp}
 use Rattle.range_algebra.specs.Relations.{LiesBefore}
 use Rattle.range_algebra.specs.declared.any.AnyRange.{AnyRange}
 use Rattle.range_store.specs.declared.storage.Item.{Item}
-use Rattle.range_change.specs.Pieces.{LiesIn}
-use Rattle.range_change.proofs.Extents.{end_le}
-use Rattle.range_change.proofs.Forms.{before_is}
+use Rattle.range_runs.specs.Pieces.{LiesIn}
+use Rattle.range_runs.proofs.Extents.{end_le}
+use Rattle.range_runs.proofs.Forms.{before_is}
 use Rattle.range_reads.specs.FreeRanges.{between}
 use Rattle.range_map.proofs.FreePieces.{Pairs}
 use Rattle.range_map.proofs.Together.{IsAscending}

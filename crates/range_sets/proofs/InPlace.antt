@@ -3,8 +3,8 @@ use Rattle.std.proofs.Common.{◌↔◌, inl, inr, Bool, IsTrue, List, Option, S
 use Rattle.range_keys.specs.Order.{KeyOrder, IsLawful}
 use Rattle.range_algebra.specs.declared.any.AnyRange.{AnyRange}
 use Rattle.range_store.specs.declared.storage.Item.{Item}
-use Rattle.range_change.specs.Bindings.{Binds}
-use Rattle.range_change.proofs.Overlaps.{binds_bound}
+use Rattle.range_runs.specs.Bindings.{Binds}
+use Rattle.range_runs.proofs.Overlaps.{binds_bound}
 use Rattle.range_map.specs.Overlays.{IsOverlaid, IsRestricted, IsWithout}
 use Rattle.range_map.specs.PartWay.{AreUnboundAfter, BeforeOne, BeforeOneGap}
 use Rattle.range_map.proofs.BoundKeys.{bound_or_not}

@@ -8,10 +8,10 @@ use Rattle.range_keys.specs.Order.{KeyOrder, IsLawful}
 use Rattle.range_algebra.specs.declared.any.AnyRange.{AnyRange}
 use Rattle.range_algebra.proofs.Meeting.{held_or_not}
 use Rattle.range_store.specs.declared.storage.Item.{Item}
-use Rattle.range_change.specs.Answers.{IsAsAnswered}
-use Rattle.range_change.specs.Bindings.{Binds}
+use Rattle.range_runs.specs.Answers.{IsAsAnswered}
+use Rattle.range_runs.specs.Bindings.{Binds}
 use Rattle.range_merge.specs.Combining.{AreCombined}
-use Rattle.range_change.proofs.Overlaps.{binds_bound}
+use Rattle.range_runs.proofs.Overlaps.{binds_bound}
 use Rattle.range_set_extend.specs.KeySets.{HoldsKey}
 use Rattle.range_sets.specs.TwoSets.{HoldsBoth, HoldsFirstAlone, HoldsJustOne, AreKept}
 

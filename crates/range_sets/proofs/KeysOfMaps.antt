@@ -5,7 +5,7 @@ use Rattle.std.specs.Fn.{Shared}
 use Rattle.range_keys.specs.Order.{KeyOrder, IsLawful}
 use Rattle.range_algebra.specs.declared.any.AnyRange.{AnyRange}
 use Rattle.range_store.specs.declared.storage.Item.{Item}
-use Rattle.range_change.proofs.Overlaps.{binds_bound}
+use Rattle.range_runs.proofs.Overlaps.{binds_bound}
 use Rattle.range_map.specs.MappedValues.{AreMapped}
 use Rattle.range_map.proofs.BoundKeys.{bound_or_not}
 use Rattle.range_set_extend.specs.KeySets.{HoldsKeysOf}

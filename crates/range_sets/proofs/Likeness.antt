@@ -9,7 +9,7 @@ use Rattle.range_keys.proofs.Orderings.{any_then_equal}
 use Rattle.range_algebra.specs.RangeOrder.{range_cmp, range_input}
 use Rattle.range_algebra.specs.declared.any.AnyRange.{AnyRange}
 use Rattle.range_store.specs.declared.storage.Item.{Item}
-use Rattle.range_change.specs.Bindings.{BindAlike}
+use Rattle.range_runs.specs.Bindings.{BindAlike}
 use Rattle.range_reads.specs.FreeRanges.{item_ranges}
 use Rattle.range_reads.specs.ListOrder.{same_list, list_cmp, list_input, item_input}
 use Rattle.range_map.proofs.StoredLists.{same_keys}

@@ -10,12 +10,12 @@ use Rattle.range_keys.proofs.Orderings.{both_equal}
 use Rattle.range_algebra.specs.declared.any.AnyRange.{AnyRange}
 use Rattle.range_algebra.proofs.Lists.{every_weaker}
 use Rattle.range_algebra.specs.Intervals.{Any}
-use Rattle.range_change.proofs.PlaceOrder.{eq_le, eq_ge, lt_le, le_trans, lt_not_le, lt_le_trans, le_lt_trans, lt_trans}
+use Rattle.range_runs.proofs.PlaceOrder.{eq_le, eq_ge, lt_le, le_trans, lt_not_le, lt_le_trans, le_lt_trans, lt_trans}
 use Rattle.range_algebra.specs.RangeOrder.{range_cmp}
 use Rattle.range_algebra.specs.Relations.{LiesBefore}
-use Rattle.range_change.specs.Neighbours.{EachNext}
-use Rattle.range_change.specs.Pieces.{LiesIn}
-use Rattle.range_change.specs.Lookups.{Overlap}
+use Rattle.range_runs.specs.Neighbours.{EachNext}
+use Rattle.range_runs.specs.Pieces.{LiesIn}
+use Rattle.range_runs.specs.Lookups.{Overlap}
 use Rattle.range_map.proofs.FreePieces.{Pairs}
 use Rattle.range_sets.proofs.FullRanges.{IsFull, same_range}
 

@@ -23,17 +23,17 @@ use Rattle.range_algebra.specs.declared.any.AnyRange.{AnyRange}
 use Rattle.range_algebra.proofs.Lists.{every_append, every_weaker}
 use Rattle.range_algebra.proofs.Places.{flipped_bound_is_past, held_between, unbounded_start, unbounded_end}
 use Rattle.range_store.specs.declared.storage.Item.{Item}
-use Rattle.range_change.specs.Bindings.{IsBound}
-use Rattle.range_change.specs.Chains.{Follows, line_of}
-use Rattle.range_change.specs.Stored.{item_lower, item_upper}
-use Rattle.range_change.specs.Window.{option_items}
-use Rattle.range_change.proofs.Chains.{chains_join, strictly_leads}
-use Rattle.range_change.proofs.Extents.{past_le}
-use Rattle.range_change.proofs.Forms.{Known, Chained, chain_stored, stored_chain, stored_known}
+use Rattle.range_runs.specs.Bindings.{IsBound}
+use Rattle.range_runs.specs.Chains.{Follows, line_of}
+use Rattle.range_runs.specs.Stored.{item_lower, item_upper}
+use Rattle.range_runs.specs.Window.{option_items}
+use Rattle.range_runs.proofs.Chains.{chains_join, strictly_leads}
+use Rattle.range_runs.proofs.Extents.{past_le}
+use Rattle.range_runs.proofs.Forms.{Known, Chained, chain_stored, stored_chain, stored_known}
 use Rattle.range_reads.specs.FreeRanges.{full_range, item_ranges}
 use Rattle.range_merge.specs.Merged.{IsPlaced}
 use Rattle.range_merge.proofs.FirstPieces.{past_same}
-use Rattle.range_change.proofs.PlaceOrder.{le_refl, lt_le, eq_le, eq_ge, le_trans, lt_le_trans, le_lt_trans, not_le, cases}
+use Rattle.range_runs.proofs.PlaceOrder.{le_refl, lt_le, eq_le, eq_ge, le_trans, lt_le_trans, le_lt_trans, not_le, cases}
 use Rattle.range_set_extend.specs.KeySets.{HoldsKey, IsStoredSet, SomeHolds}
 use Rattle.range_sets.specs.TwoSets.{HoldsEither}
 use Rattle.range_sets.specs.Uniting.{StartsFirst, IsFirstOf, Reaches, IsLaterEnd, IsPushed, IsAdded}

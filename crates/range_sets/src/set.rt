@@ -4,8 +4,8 @@ ghost use Rattle.range_keys.specs.Order.{IsComplete};
 ghost use Rattle.range_algebra.specs.Range.{IsEmptyRange};
 ghost use Rattle.range_reads.specs.FreeRanges.{AreGaps, IsHeldOnce, item_ranges};
 ghost use Rattle.range_store.specs.Counting.{AddsSteps};
-ghost use Rattle.range_change.specs.Bindings.{IsCoarse, IsOnlyCoarse};
-ghost use Rattle.range_change.specs.Lookups.{MeetsSome, BindsKeyOf};
+ghost use Rattle.range_runs.specs.Bindings.{IsCoarse, IsOnlyCoarse};
+ghost use Rattle.range_runs.specs.Lookups.{MeetsSome, BindsKeyOf};
 ghost use Rattle.range_set_extend.specs.KeySets.{HoldsKey, IsLeastCount, IsStoredSet};
 
 mod algebra;

@@ -24,9 +24,9 @@
 //! - the tree as its container sees it: `src/btree/tree.rt`, `specs/Holding.antt`
 //! - a tree in which one item was written: `specs/Written.antt`
 //! - what a step is, and who counts it: `specs/Counting.antt`; a search by its probe, a
-//!   comparison in `range_change/src/{window,reach,borders}.rt`
+//!   comparison in `{range_runs/src/window,range_edit/src/{reach,borders}}.rt`
 //! - how many levels so many items may have: `specs/Depth.antt`, the greatest such number in
-//!   `range_change/specs/Costs.antt`
+//!   `range_edit/specs/Costs.antt`
 #![tactic(auto)]
 
 pub mod btree;

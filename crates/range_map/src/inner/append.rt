@@ -1,6 +1,6 @@
 //! Ranges that are known to come after all others of a map.
 ghost use Rattle.std.specs.Prelude.{◌≡◌, ◌+◌, ◌≤◌, ◌++◌, ◌∷◌, [], OnOk};
-ghost use Rattle.range_change.specs.Stored.{IsStored};
+ghost use Rattle.range_runs.specs.Stored.{IsStored};
 
 use crate::map::RangeMap;
 use range_algebra::any::AnyRange;

@@ -1,7 +1,7 @@
 //! How the ranges of two maps lie to one another, found in one pass over both.
 ghost use Rattle.std.specs.Prelude.{◌↔◌, IsTrue};
 ghost use Rattle.range_algebra.specs.Relations.{LiesBefore};
-ghost use Rattle.range_change.specs.Pieces.{LiesIn};
+ghost use Rattle.range_runs.specs.Pieces.{LiesIn};
 ghost use Rattle.range_map.specs.Together.{MeetNowhere, LieInside};
 
 use crate::map::RangeMap;

@@ -1,6 +1,6 @@
 //! A key looked up in a list of items, one after the other.
 ghost use Rattle.std.specs.Option.{option_map};
-ghost use Rattle.range_change.specs.Bindings.{Binds};
+ghost use Rattle.range_runs.specs.Bindings.{Binds};
 
 use range_algebra::any::AnyRange;
 use range_algebra::inner;

@@ -3,16 +3,16 @@ ghost use Rattle.std.specs.Prelude.{◌≡◌, ◌↔◌, ◌+◌, ◌≤◌, �
 ghost use Rattle.range_algebra.specs.Relations.{LiesBefore};
 ghost use Rattle.range_keys.specs.Order.{IsComplete};
 ghost use Rattle.range_map.specs.Appending.{IsApartFromLast, IsOneWithLast, IsOutOfOrder, LieBefore, appended, are_one, as_one, joined};
-ghost use Rattle.range_change.specs.Bindings.{BindAlike, IsCoarse, IsOnlyCoarse};
-ghost use Rattle.range_change.specs.Stored.{IsStored};
+ghost use Rattle.range_runs.specs.Bindings.{BindAlike, IsCoarse, IsOnlyCoarse};
+ghost use Rattle.range_runs.specs.Stored.{IsStored};
 
 use crate::map::RangeMap;
 use range_algebra::any::AnyRange;
 use range_algebra::inner::starts_at_end;
-use range_change::answers::end_last_at;
-use range_change::error::NotAppended;
+use range_edit::error::NotAppended;
 use range_keys::bound::Directed;
 use range_keys::traits::PartialEnum;
+use range_runs::answers::end_last_at;
 use range_store::storage::{Item, Storage};
 use std::alloc::AllocError;
 use std::ops::RangeBounds;

@@ -1,7 +1,7 @@
 //! Copies of a map, and an empty one.
 ghost use Rattle.std.specs.Prelude.{◌≡◌, [], IfOk, All};
 ghost use Rattle.range_algebra.specs.Range.{ClonesAreEqual, IsKnownRange};
-ghost use Rattle.range_change.specs.Stored.{IsStored};
+ghost use Rattle.range_runs.specs.Stored.{IsStored};
 ghost use Rattle.range_reads.specs.ListOrder.{IsCopyOf};
 
 use crate::map::RangeMap;

@@ -2,18 +2,18 @@
 ghost use Rattle.std.specs.Prelude.{◌≡◌, ◌<◌, length, IfOk, Err};
 ghost use Rattle.range_keys.specs.Order.{IsComplete};
 ghost use Rattle.range_algebra.specs.Range.{ClonesAreEqual};
-ghost use Rattle.range_change.specs.Bindings.{IsCoarse, IsOnlyCoarse};
-ghost use Rattle.range_change.specs.Stored.{IsStored};
-ghost use Rattle.range_change.specs.declared.error.UpdateError.TheVariants.{Closure as ClosureError, Memory as MemoryError};
+ghost use Rattle.range_runs.specs.Bindings.{IsCoarse, IsOnlyCoarse};
+ghost use Rattle.range_runs.specs.Stored.{IsStored};
+ghost use Rattle.range_runs.specs.declared.error.UpdateError.TheVariants.{Closure as ClosureError, Memory as MemoryError};
 ghost use Rattle.range_merge.specs.Combining.{MayAnswerBoth, MayBeAskedOfBoth, AreCombined, IsCombination, MayFailOnBoth, MayGiveValueOnBoth};
 
 use crate::inner::build::map_of;
 use crate::map::RangeMap;
 use crate::map::parts::{next_part, refilled};
 use range_algebra::any::AnyRange;
-use range_change::error::UpdateError;
 use range_keys::traits::PartialEnum;
 use range_merge::asking::ask_first;
+use range_runs::error::UpdateError;
 use range_store::storage::{Item, Storage};
 
 /// What the closure returns for the pieces of two maps, in order, as one list.

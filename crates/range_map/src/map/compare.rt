@@ -6,7 +6,7 @@ ghost use Rattle.std.specs.Ordering.{as_partial_cmp, is_eq};
 ghost use Rattle.std.specs.declared.cmp.Ordering.TheVariants.{Equal};
 ghost use Rattle.std.proofs.Common.{refl, ap, ◌∙◌};
 ghost use Rattle.range_keys.specs.Order.{IsComplete};
-ghost use Rattle.range_change.specs.Bindings.{BindAlike};
+ghost use Rattle.range_runs.specs.Bindings.{BindAlike};
 ghost use Rattle.range_reads.specs.ListOrder.{same_list, list_cmp, CompareAlike, HashAlike, list_input, lists_equivalence, lists_order, lists_tied, lists_fed};
 
 use crate::map::RangeMap;

@@ -2,9 +2,9 @@
 ghost use Rattle.std.specs.Prelude.{◌≡◌, ◌↔◌, [], IsTrue};
 ghost use Rattle.range_keys.specs.Order.{IsComplete};
 ghost use Rattle.range_algebra.specs.declared.any.AnyRange.{AnyRange};
-ghost use Rattle.range_change.specs.Lookups.{BindsAllOf};
+ghost use Rattle.range_runs.specs.Lookups.{BindsAllOf};
 ghost use Rattle.range_reads.specs.PieceLists.{AreGapsWithin};
-ghost use Rattle.range_change.specs.Pieces.{IsFreePart};
+ghost use Rattle.range_runs.specs.Pieces.{IsFreePart};
 
 use crate::map::RangeMap;
 use range_algebra::any::AnyRange;

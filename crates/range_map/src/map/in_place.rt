@@ -2,14 +2,14 @@
 ghost use Rattle.std.specs.Prelude.{OnOk, OnErr};
 ghost use Rattle.range_keys.specs.Order.{IsComplete};
 ghost use Rattle.range_algebra.specs.Range.{ClonesAreEqual};
-ghost use Rattle.range_change.specs.Bindings.{IsCoarse, IsOnlyCoarse};
-ghost use Rattle.range_change.specs.Stored.{IsStored};
+ghost use Rattle.range_runs.specs.Bindings.{IsCoarse, IsOnlyCoarse};
+ghost use Rattle.range_runs.specs.Stored.{IsStored};
 ghost use Rattle.range_map.specs.Overlays.{IsOverlaid, IsRestricted, IsWithout};
 ghost use Rattle.range_map.specs.PartWay.{AreUnboundAfter, BeforeOne, BeforeOneGap};
 
 use crate::map::RangeMap;
 use range_algebra::any::AnyRange;
-use range_change::error::MapError;
+use range_edit::error::MapError;
 use range_keys::traits::Measure;
 use range_store::storage::{Item, Storage};
 

@@ -2,19 +2,19 @@
 ghost use Rattle.std.specs.Prelude.{◌≡◌, ◌+◌, ◌≤◌, length, OnOk, OnErr, IsOk};
 ghost use Rattle.range_keys.specs.Order.{IsComplete};
 ghost use Rattle.range_algebra.specs.Range.{ClonesAreEqual, IsEmptyRange};
-ghost use Rattle.range_change.specs.Clones.{ClonesNeverFail};
-ghost use Rattle.range_change.specs.Stored.{IsStored};
-ghost use Rattle.range_change.specs.Costs.{TakesAtLeast, TakesAsChange};
-ghost use Rattle.range_change.specs.Frames.{IsInsertionFrame};
-ghost use Rattle.range_change.specs.Bindings.{IsBoundAfter, IsCoarse, IsOnlyCoarse};
-ghost use Rattle.range_change.specs.Lookups.{MeetAlso};
+ghost use Rattle.range_edit.specs.Clones.{ClonesNeverFail};
+ghost use Rattle.range_runs.specs.Stored.{IsStored};
+ghost use Rattle.range_edit.specs.Costs.{TakesAtLeast, TakesAsChange};
+ghost use Rattle.range_runs.specs.Frames.{IsInsertionFrame};
+ghost use Rattle.range_runs.specs.Bindings.{IsBoundAfter, IsCoarse, IsOnlyCoarse};
+ghost use Rattle.range_runs.specs.Lookups.{MeetAlso};
 
 use crate::map::RangeMap;
 use range_algebra::any::AnyRange;
 use range_algebra::inner;
 use range_algebra::range::IntoRange;
-use range_change::bind::{bind, bind_in_order};
-use range_change::error::MapError;
+use range_edit::bind::{bind, bind_in_order};
+use range_edit::error::MapError;
 use range_keys::traits::Measure;
 use range_store::storage::{Item, Steps, Storage};
 

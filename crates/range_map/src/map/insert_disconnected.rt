@@ -2,17 +2,17 @@
 ghost use Rattle.std.specs.Prelude.{◌≡◌, ◌↔◌, ◌+◌, ◌≤◌, length, IsErrAnd, IfErr, OnOk, OnErr, IsOk};
 ghost use Rattle.range_keys.specs.Order.{IsComplete};
 ghost use Rattle.range_algebra.specs.Range.{IsEmptyRange};
-ghost use Rattle.range_change.specs.Stored.{IsStored};
-ghost use Rattle.range_change.specs.Bindings.{IsBoundAfter, IsCoarse, IsOnlyCoarse};
-ghost use Rattle.range_change.specs.Lookups.{IsConnectedToSome, IsPutInto, MeetAlso};
-ghost use Rattle.range_change.specs.Apart.{IsConnectedError, handed_back};
+ghost use Rattle.range_runs.specs.Stored.{IsStored};
+ghost use Rattle.range_runs.specs.Bindings.{IsBoundAfter, IsCoarse, IsOnlyCoarse};
+ghost use Rattle.range_runs.specs.Lookups.{IsConnectedToSome, IsPutInto, MeetAlso};
+ghost use Rattle.range_edit.specs.Apart.{IsConnectedError, handed_back};
 
 use crate::map::RangeMap;
 use range_algebra::any::AnyRange;
 use range_algebra::inner;
 use range_algebra::range::IntoRange;
-use range_change::apart::bind_apart;
-use range_change::error::NotInserted;
+use range_edit::apart::bind_apart;
+use range_edit::error::NotInserted;
 use range_keys::traits::{Measure, PartialEnum};
 use range_store::storage::{Item, Steps, Storage};
 

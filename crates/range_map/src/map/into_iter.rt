@@ -1,8 +1,8 @@
 //! A map taken apart: its ranges with their values, moved out from both ends.
 ghost use Rattle.std.specs.Prelude.{◌≡◌};
 ghost use Rattle.range_keys.specs.Order.{IsComplete};
-ghost use Rattle.range_change.specs.Bindings.{IsCoarse, IsOnlyCoarse};
-ghost use Rattle.range_change.specs.Stored.{IsStored};
+ghost use Rattle.range_runs.specs.Bindings.{IsCoarse, IsOnlyCoarse};
+ghost use Rattle.range_runs.specs.Stored.{IsStored};
 
 use crate::map::{Iter, RangeMap};
 use range_algebra::any::AnyRange;

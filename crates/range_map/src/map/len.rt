@@ -4,7 +4,7 @@ ghost use Rattle.range_keys.specs.Counted.{IsCountedMeasure};
 ghost use Rattle.range_algebra.specs.Intervals.{Any};
 ghost use Rattle.range_algebra.specs.Measures.{list_measure, AreInOrder, HasUntoldEnd};
 ghost use Rattle.range_algebra.specs.Numbers.{IsNumberOfKeys};
-ghost use Rattle.range_change.specs.Bindings.{IsBound};
+ghost use Rattle.range_runs.specs.Bindings.{IsBound};
 ghost use Rattle.range_reads.specs.FreeRanges.{item_ranges};
 
 use crate::map::{Iter, RangeMap};

@@ -1,7 +1,7 @@
 //! The levels of a map's tree.
 ghost use Rattle.std.specs.Prelude.{ℕ, ◌≡◌, ◌+◌, ◌-◌, ◌*◌, ◌^◌, ◌<◌, ◌≤◌, length};
 ghost use Rattle.range_store.specs.Holding.{box_items, level_count};
-ghost use Rattle.range_change.specs.Costs.{IsGreatestLevel, greatest_level};
+ghost use Rattle.range_edit.specs.Costs.{IsGreatestLevel, greatest_level};
 ghost use Rattle.range_store.specs.declared.btree.nodes.TheConstants.{MIN_LEN, CAPACITY};
 
 use crate::map::RangeMap;

@@ -3,8 +3,8 @@ ghost use Rattle.std.specs.Prelude.{◌≡◌, ◌↔◌, ◌+◌, [], IsTrue};
 ghost use Rattle.range_keys.specs.Order.{IsComplete};
 ghost use Rattle.range_store.specs.Counting.{AddsSteps};
 ghost use Rattle.range_algebra.specs.Range.{IsEmptyRange};
-ghost use Rattle.range_change.specs.Bindings.{IsBound};
-ghost use Rattle.range_change.specs.Lookups.{MeetsSome, BindsKeyOf};
+ghost use Rattle.range_runs.specs.Bindings.{IsBound};
+ghost use Rattle.range_runs.specs.Lookups.{MeetsSome, BindsKeyOf};
 
 use crate::map::RangeMap;
 use range_algebra::any::AnyRange;

@@ -4,11 +4,11 @@ ghost use Rattle.std.specs.Fn.{FnReturnsAt};
 ghost use Rattle.range_keys.specs.Order.{IsComplete};
 ghost use Rattle.range_algebra.specs.Clones.{IsRangeClone};
 ghost use Rattle.range_algebra.specs.Range.{ClonesAreEqual, IsKnownRange};
-ghost use Rattle.range_change.specs.Bindings.{IsCoarse, IsOnlyCoarse};
-ghost use Rattle.range_change.specs.Stored.{IsStored};
+ghost use Rattle.range_runs.specs.Bindings.{IsCoarse, IsOnlyCoarse};
+ghost use Rattle.range_runs.specs.Stored.{IsStored};
 ghost use Rattle.range_map.specs.MappedValues.{AnswersItem, AreFirstAnswered, AreMapped, IsAnsweredEach, MayBeAskedOfValues};
 ghost use Rattle.range_merge.specs.Merged.{part_item};
-ghost use Rattle.range_change.specs.declared.error.UpdateError.TheVariants.{Closure as ClosureError, Memory as MemoryError};
+ghost use Rattle.range_runs.specs.declared.error.UpdateError.TheVariants.{Closure as ClosureError, Memory as MemoryError};
 
 use crate::inner::build::map_of;
 use crate::map::RangeMap;
@@ -16,9 +16,9 @@ use crate::map::append::push;
 use crate::map::parts::next_part;
 use range_algebra::any::AnyRange;
 use range_algebra::inner;
-use range_change::error::UpdateError;
 use range_keys::traits::PartialEnum;
 use range_merge::merged::{Part, keys_of};
+use range_runs::error::UpdateError;
 use range_store::storage::{Item, Storage};
 
 /// A clone of the range, with what the closure returns for the value.

@@ -3,18 +3,18 @@ ghost use Rattle.std.specs.Prelude.{◌≡◌, []};
 ghost use Rattle.std.specs.declared.ops.Bound.TheVariants.{Included, Unbounded};
 ghost use Rattle.range_keys.specs.Order.{IsComplete};
 ghost use Rattle.range_algebra.specs.Range.{IsEmptyRange, with_bounds};
-ghost use Rattle.range_change.specs.Lookups.{BindsKeyOf};
-ghost use Rattle.range_change.specs.Runs.{AreOverlapping};
+ghost use Rattle.range_runs.specs.Lookups.{BindsKeyOf};
+ghost use Rattle.range_runs.specs.Runs.{AreOverlapping};
 
 use crate::map::RangeMap;
 use range_algebra::any::AnyRange;
 use range_algebra::inner;
 use range_algebra::range::AsRange;
-pub use range_change::runs::Overlapping;
-use range_change::runs::run_between;
-use range_change::window::{find, find_last_started};
 use range_keys::bound::Directed;
 use range_keys::traits::{Measure, PartialEnum};
+pub use range_runs::runs::Overlapping;
+use range_runs::runs::run_between;
+use range_runs::window::{find, find_last_started};
 use range_store::storage::{Item, Steps, Storage};
 use std::ops::Bound;
 

@@ -3,14 +3,14 @@ ghost use Rattle.std.specs.Prelude.{◌≡◌, IfOk, true, false};
 ghost use Rattle.std.specs.Option.{option_copied};
 ghost use Rattle.range_keys.specs.Order.{IsComplete};
 ghost use Rattle.range_algebra.specs.Range.{ClonesAreEqual};
-ghost use Rattle.range_change.specs.Bindings.{IsCoarse, IsOnlyCoarse};
-ghost use Rattle.range_change.specs.Stored.{IsStored};
+ghost use Rattle.range_runs.specs.Bindings.{IsCoarse, IsOnlyCoarse};
+ghost use Rattle.range_runs.specs.Stored.{IsStored};
 ghost use Rattle.range_merge.specs.Combining.{AreCombined};
 ghost use Rattle.range_map.specs.Overlays.{IsCopyOfValue, IsOverlaid, IsRestricted, IsSecondOrFirst, IsWithout, MayOverlay, first_where};
 
 use crate::map::RangeMap;
 use range_algebra::any::AnyRange;
-use range_change::error::MapError;
+use range_edit::error::MapError;
 use range_keys::traits::PartialEnum;
 use range_store::storage::{Item, Storage};
 use std::alloc::AllocError;

@@ -1,7 +1,7 @@
 //! Stored ranges with their values, one after another, for a pass over a map.
 ghost use Rattle.std.specs.Prelude.{◌≡◌, ◌++◌, [], None};
 ghost use Rattle.std.specs.Option.{option_map};
-ghost use Rattle.range_change.specs.Window.{option_items};
+ghost use Rattle.range_runs.specs.Window.{option_items};
 ghost use Rattle.range_merge.specs.Merged.{part_item};
 
 use crate::map::Iter;

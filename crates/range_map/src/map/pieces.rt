@@ -2,14 +2,14 @@
 ghost use Rattle.std.specs.Prelude.{◌≡◌, None};
 ghost use Rattle.range_algebra.specs.Intervals.{Any};
 ghost use Rattle.range_algebra.specs.declared.any.AnyRange.{AnyRange};
-ghost use Rattle.range_change.specs.Pieces.{ArePieces, IsFreePart};
+ghost use Rattle.range_runs.specs.Pieces.{ArePieces, IsFreePart};
 
 use crate::map::RangeMap;
 use range_algebra::any::AnyRange;
 use range_algebra::inner;
 use range_algebra::range::AsRange;
-pub use range_change::pieces::Pieces;
 use range_keys::traits::Measure;
+pub use range_runs::pieces::Pieces;
 use range_store::storage::{Item, Storage};
 
 impl<K: Measure, V: Eq + Drop, C: Storage<Item<AnyRange<K>, V>>> RangeMap<K, V, C> {

@@ -3,18 +3,18 @@ ghost use Rattle.std.specs.List.{AllByRecursion as Every};
 ghost use Rattle.std.specs.Prelude.{◌≡◌, ◌+◌, ◌≤◌, length, OnOk, OnErr, IsOk};
 ghost use Rattle.range_keys.specs.Order.{IsComplete};
 ghost use Rattle.range_algebra.specs.Range.{ClonesAreEqual, IsEmptyRange};
-ghost use Rattle.range_change.specs.Clones.{ClonesNeverFail};
-ghost use Rattle.range_change.specs.Stored.{IsStored};
-ghost use Rattle.range_change.specs.Lookups.{Overlap};
-ghost use Rattle.range_change.specs.Costs.{TakesAtLeast, TakesAsChange};
-ghost use Rattle.range_change.specs.Frames.{IsRemovalFrame};
-ghost use Rattle.range_change.specs.Bindings.{IsUnboundAfter, IsCoarse, IsOnlyCoarse};
+ghost use Rattle.range_edit.specs.Clones.{ClonesNeverFail};
+ghost use Rattle.range_runs.specs.Stored.{IsStored};
+ghost use Rattle.range_runs.specs.Lookups.{Overlap};
+ghost use Rattle.range_edit.specs.Costs.{TakesAtLeast, TakesAsChange};
+ghost use Rattle.range_runs.specs.Frames.{IsRemovalFrame};
+ghost use Rattle.range_runs.specs.Bindings.{IsUnboundAfter, IsCoarse, IsOnlyCoarse};
 
 use crate::map::RangeMap;
 use range_algebra::any::AnyRange;
 use range_algebra::range::AsRange;
-use range_change::error::MapError;
-use range_change::unbind::unbind_any;
+use range_edit::error::MapError;
+use range_edit::unbind::unbind_any;
 use range_keys::traits::Measure;
 use range_store::storage::{Item, Steps, Storage};
 

@@ -2,22 +2,22 @@
 ghost use Rattle.std.specs.Prelude.{◌≡◌, ◌↔◌, ◌≤◌, IsErrAnd, IfErr, OnOk, OnErr, IsOk};
 ghost use Rattle.range_keys.specs.Order.{IsComplete};
 ghost use Rattle.range_algebra.specs.Range.{IsEmptyRange};
-ghost use Rattle.range_change.specs.Bindings.{IsBoundAfter, IsCoarse, IsOnlyCoarse};
-ghost use Rattle.range_change.specs.Changes.{IsInserted};
-ghost use Rattle.range_change.specs.Frames.{IsInsertionFrame};
+ghost use Rattle.range_runs.specs.Bindings.{IsBoundAfter, IsCoarse, IsOnlyCoarse};
+ghost use Rattle.range_edit.specs.Changes.{IsInserted};
+ghost use Rattle.range_runs.specs.Frames.{IsInsertionFrame};
 ghost use Rattle.range_map.specs.Freeing.{IsOccupied, given_back};
-ghost use Rattle.range_change.specs.Lookups.{MeetsSome, MeetAlso};
-ghost use Rattle.range_change.specs.Stored.{IsStored};
+ghost use Rattle.range_runs.specs.Lookups.{MeetsSome, MeetAlso};
+ghost use Rattle.range_runs.specs.Stored.{IsStored};
 
 use crate::map::RangeMap;
 use range_algebra::any::AnyRange;
 use range_algebra::inner;
 use range_algebra::range::IntoRange;
-use range_change::append::{comes_last, put_apart};
-use range_change::free::bind_free;
-use range_change::reach::Reach;
-use range_change::window::find_window;
+use range_edit::append::{comes_last, put_apart};
+use range_edit::free::bind_free;
+use range_edit::reach::Reach;
 use range_keys::traits::Measure;
+use range_runs::window::find_window;
 use range_store::storage::{Item, Steps, Storage};
 
 /// Why a range was not inserted, with the range and the value that were given.

@@ -3,23 +3,23 @@ ghost use Rattle.std.specs.Prelude.{◌≡◌, ◌+◌, IfOk, OnOk, OnErr, IsOk,
 ghost use Rattle.range_keys.specs.Order.{IsComplete};
 ghost use Rattle.range_algebra.specs.Clones.{IsBoundClone};
 ghost use Rattle.range_algebra.specs.Range.{ClonesAreEqual, IsEmptyRange};
-ghost use Rattle.range_change.specs.Answers.{MayAnswer, MayBeAsked, FailsAt, SucceedsAtFirst, IsUpdated};
+ghost use Rattle.range_runs.specs.Answers.{MayAnswer, MayBeAsked, FailsAt, SucceedsAtFirst, IsUpdated};
 ghost use Rattle.range_map.specs.Askable.{MayBeAskedOfEach};
-ghost use Rattle.range_change.specs.Clones.{ClonesNeverFail};
-ghost use Rattle.range_change.specs.Bindings.{IsCoarse, IsOnlyCoarse};
-ghost use Rattle.range_change.specs.Frames.{IsUpdateFrame};
+ghost use Rattle.range_edit.specs.Clones.{ClonesNeverFail};
+ghost use Rattle.range_runs.specs.Bindings.{IsCoarse, IsOnlyCoarse};
+ghost use Rattle.range_runs.specs.Frames.{IsUpdateFrame};
 ghost use Rattle.range_map.specs.Rebinding.{AreRebound};
-ghost use Rattle.range_change.specs.Spelling.{KeepsSpelling};
-ghost use Rattle.range_change.specs.Stored.{IsStored};
-ghost use Rattle.range_change.specs.declared.error.UpdateError.TheVariants.{Closure as ClosureError, Memory as MemoryError};
+ghost use Rattle.range_runs.specs.Spelling.{KeepsSpelling};
+ghost use Rattle.range_runs.specs.Stored.{IsStored};
+ghost use Rattle.range_runs.specs.declared.error.UpdateError.TheVariants.{Closure as ClosureError, Memory as MemoryError};
 
 use crate::map::RangeMap;
 use range_algebra::any::AnyRange;
 use range_algebra::inner::{self, clone_of};
 use range_algebra::range::AsRange;
-use range_change::error::UpdateError;
-use range_change::update::update_pieces;
+use range_edit::update::update_pieces;
 use range_keys::traits::Measure;
+use range_runs::error::UpdateError;
 use range_store::storage::{Item, Storage};
 use std::alloc::AllocError;
 

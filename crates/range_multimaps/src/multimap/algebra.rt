@@ -3,8 +3,8 @@ ghost use Rattle.std.specs.Prelude.{IfOk, OnOk, IfSome};
 ghost use Rattle.std.specs.Option.{option_copied};
 ghost use Rattle.range_keys.specs.Order.{IsComplete};
 ghost use Rattle.range_algebra.specs.Range.{ClonesAreEqual};
-ghost use Rattle.range_change.specs.Bindings.{IsOnlyCoarse};
-ghost use Rattle.range_change.specs.Stored.{IsStored};
+ghost use Rattle.range_runs.specs.Bindings.{IsOnlyCoarse};
+ghost use Rattle.range_runs.specs.Stored.{IsStored};
 ghost use Rattle.range_multimaps.specs.Members.{HasAllAlso, HasAllWithout};
 ghost use Rattle.range_multimaps.specs.Pairs.{HasNoEmptySet, HasAllPairsAlso, HasAllPairsWithout, HasPairsOfEither, HasPairsOfFirstAlone};
 

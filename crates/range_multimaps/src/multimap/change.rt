@@ -3,11 +3,11 @@ ghost use Rattle.std.specs.Prelude.{◌≡◌, IsTrue, IsOk, IfOk, OnOk, OnErr, 
 ghost use Rattle.std.specs.Option.{option_copied};
 ghost use Rattle.range_keys.specs.Order.{IsComplete};
 ghost use Rattle.range_algebra.specs.Range.{ClonesAreEqual, Holds, IsEmptyRange};
-ghost use Rattle.range_change.specs.Answers.{IsAsAnswered};
-ghost use Rattle.range_change.specs.Bindings.{IsCoarse, IsOnlyCoarse};
-ghost use Rattle.range_change.specs.Frames.{IsMergeFrame};
-ghost use Rattle.range_change.specs.Spelling.{KeepsSpelling};
-ghost use Rattle.range_change.specs.Stored.{IsStored};
+ghost use Rattle.range_runs.specs.Answers.{IsAsAnswered};
+ghost use Rattle.range_runs.specs.Bindings.{IsCoarse, IsOnlyCoarse};
+ghost use Rattle.range_runs.specs.Frames.{IsMergeFrame};
+ghost use Rattle.range_runs.specs.Spelling.{KeepsSpelling};
+ghost use Rattle.range_runs.specs.Stored.{IsStored};
 ghost use Rattle.range_multimaps.specs.Members.{HasAlso, HasAllBut, among};
 ghost use Rattle.range_multimaps.specs.Pairs.{HasNoEmptySet, HasPair, HasPairsAlso, HasPairsWithout, StayBound};
 

@@ -2,7 +2,7 @@
 ghost use Rattle.std.specs.Prelude.{◌≡◌, ◌↔◌, IsTrue};
 ghost use Rattle.std.specs.Cmp.{partial_equiv_from_equiv, on_equiv};
 ghost use Rattle.range_keys.specs.Order.{IsComplete};
-ghost use Rattle.range_change.specs.Bindings.{BindAlike};
+ghost use Rattle.range_runs.specs.Bindings.{BindAlike};
 ghost use Rattle.range_reads.specs.ListOrder.{same_list, lists_equivalence};
 
 use super::RangeMultiMap;

@@ -1,10 +1,10 @@
 //! Sets that are bound only where their range intersects no stored one.
 ghost use Rattle.std.specs.Prelude.{◌≡◌, ◌↔◌, IsErrAnd, IsOk, OnOk, OnErr};
 ghost use Rattle.range_algebra.specs.Range.{IsEmptyRange};
-ghost use Rattle.range_change.specs.Bindings.{IsBoundAfter};
-ghost use Rattle.range_change.specs.Frames.{IsInsertionFrame};
-ghost use Rattle.range_change.specs.Lookups.{MeetsSome, MeetAlso};
-ghost use Rattle.range_change.specs.Stored.{IsStored};
+ghost use Rattle.range_runs.specs.Bindings.{IsBoundAfter};
+ghost use Rattle.range_runs.specs.Frames.{IsInsertionFrame};
+ghost use Rattle.range_runs.specs.Lookups.{MeetsSome, MeetAlso};
+ghost use Rattle.range_runs.specs.Stored.{IsStored};
 ghost use Rattle.range_map.specs.Freeing.{IsOccupied};
 ghost use Rattle.range_multimaps.specs.Pairs.{HasNoEmptySet};
 

@@ -3,9 +3,9 @@ ghost use Rattle.std.specs.Prelude.{◌≡◌, length, IfSome, Some};
 ghost use Rattle.std.specs.Iterator.{UpTo, YieldsFirstBy, YieldsLastBy, at_most, item_count};
 ghost use Rattle.std.specs.Iterator.SizeHint.{IsWithinCount};
 ghost use Rattle.range_keys.specs.Order.{IsComplete};
-ghost use Rattle.range_change.specs.Bindings.{IsOnlyCoarse};
+ghost use Rattle.range_runs.specs.Bindings.{IsOnlyCoarse};
 ghost use Rattle.range_reads.specs.Iteration.{pair_item};
-ghost use Rattle.range_change.specs.Stored.{IsStored};
+ghost use Rattle.range_runs.specs.Stored.{IsStored};
 ghost use Rattle.range_multimaps.specs.Pairs.{HasNoEmptySet};
 
 use super::{Iter, RangeMultiMap};

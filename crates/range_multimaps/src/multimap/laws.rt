@@ -2,8 +2,8 @@
 ghost use Rattle.std.specs.Prelude.{List, [], Some};
 ghost use Rattle.range_algebra.specs.declared.any.AnyRange.{AnyRange};
 ghost use Rattle.range_store.specs.declared.storage.Item.{Item};
-ghost use Rattle.range_change.specs.Bindings.{IsItemFor};
-ghost use Rattle.range_change.specs.Stored.{IsStored};
+ghost use Rattle.range_runs.specs.Bindings.{IsItemFor};
+ghost use Rattle.range_runs.specs.Stored.{IsStored};
 ghost use Rattle.range_multimaps.specs.Calls.{Call, AreCallsBetween, HasJustInserted, HasInsertedOrKept};
 ghost use Rattle.range_multimaps.specs.Pairs.{AreValuesAt};
 

@@ -1,10 +1,10 @@
 //! Adding the keys of a range.
 ghost use Rattle.std.specs.Prelude.{◌≡◌, ◌+◌, ◌≤◌, true, length, IsOk, OnOk, OnErr};
 ghost use Rattle.range_algebra.specs.Range.{ClonesAreEqual, IsEmptyRange};
-ghost use Rattle.range_change.specs.Clones.{ClonesNeverFail};
-ghost use Rattle.range_change.specs.Costs.{TakesAtLeast, TakesAsChange};
-ghost use Rattle.range_change.specs.Frames.{IsInsertionFrame};
-ghost use Rattle.range_change.specs.Lookups.{MeetAlso};
+ghost use Rattle.range_edit.specs.Clones.{ClonesNeverFail};
+ghost use Rattle.range_edit.specs.Costs.{TakesAtLeast, TakesAsChange};
+ghost use Rattle.range_runs.specs.Frames.{IsInsertionFrame};
+ghost use Rattle.range_runs.specs.Lookups.{MeetAlso};
 ghost use Rattle.range_set_extend.specs.KeySets.{HoldsAlso, IsStoredSet};
 
 use super::RangeSet;

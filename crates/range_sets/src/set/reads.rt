@@ -7,10 +7,10 @@ ghost use Rattle.range_algebra.specs.Range.{IsEmptyRange, with_bounds};
 ghost use Rattle.range_algebra.specs.References.{range_of};
 ghost use Rattle.range_algebra.specs.declared.any.AnyRange.{AnyRange};
 ghost use Rattle.range_reads.specs.FreeRanges.{item_ranges};
-ghost use Rattle.range_change.specs.Lookups.{BindsAllOf, BindsKeyOf};
+ghost use Rattle.range_runs.specs.Lookups.{BindsAllOf, BindsKeyOf};
 ghost use Rattle.range_map.specs.Overlapping.{IsSpan};
 ghost use Rattle.range_reads.specs.PieceLists.{AreGapsWithin};
-ghost use Rattle.range_change.specs.Pieces.{IsFreePart};
+ghost use Rattle.range_runs.specs.Pieces.{IsFreePart};
 ghost use Rattle.range_sets.specs.Reads.{AreRangesThatMeet};
 
 use super::RangeSet;

@@ -2,10 +2,10 @@
 ghost use Rattle.std.specs.List.{AllByRecursion as Every};
 ghost use Rattle.std.specs.Prelude.{◌≡◌, ◌+◌, ◌≤◌, true, length, IsOk, OnOk, OnErr};
 ghost use Rattle.range_algebra.specs.Range.{ClonesAreEqual, IsEmptyRange};
-ghost use Rattle.range_change.specs.Clones.{ClonesNeverFail};
-ghost use Rattle.range_change.specs.Costs.{TakesAtLeast, TakesAsChange};
-ghost use Rattle.range_change.specs.Frames.{IsRemovalFrame};
-ghost use Rattle.range_change.specs.Lookups.{Overlap};
+ghost use Rattle.range_edit.specs.Clones.{ClonesNeverFail};
+ghost use Rattle.range_edit.specs.Costs.{TakesAtLeast, TakesAsChange};
+ghost use Rattle.range_runs.specs.Frames.{IsRemovalFrame};
+ghost use Rattle.range_runs.specs.Lookups.{Overlap};
 ghost use Rattle.range_set_extend.specs.KeySets.{HoldsWithout, IsStoredSet};
 
 use super::RangeSet;

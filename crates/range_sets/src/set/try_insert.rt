@@ -1,8 +1,8 @@
 //! Adding the keys of a range that meets no stored one.
 ghost use Rattle.std.specs.Prelude.{◌≡◌, ◌+◌, ◌≤◌, ◌↔◌, true, length, IsErrAnd, IfErr, IsOk, OnOk, OnErr};
 ghost use Rattle.range_algebra.specs.Range.{IsEmptyRange};
-ghost use Rattle.range_change.specs.Frames.{IsInsertionFrame};
-ghost use Rattle.range_change.specs.Lookups.{MeetsSome, MeetAlso};
+ghost use Rattle.range_runs.specs.Frames.{IsInsertionFrame};
+ghost use Rattle.range_runs.specs.Lookups.{MeetsSome, MeetAlso};
 ghost use Rattle.range_sets.specs.Adding.{IsOccupied, given_back};
 ghost use Rattle.range_set_extend.specs.KeySets.{HoldsAlso, IsStoredSet};
 

@@ -14,9 +14,9 @@ ghost use Rattle.range_sets.specs.Uniting.{IsAdded, IsFirstOf, IsLaterEnd, IsPus
 use super::RangeSet;
 use range_algebra::any::AnyRange;
 use range_algebra::inner;
-use range_change::cut::flip;
 use range_keys::bound::Directed;
 use range_keys::traits::PartialEnum;
+use range_runs::bounds::flip;
 use range_store::storage::{Item, Storage};
 use std::alloc::AllocError;
 use std::ops::{Bound, RangeBounds};

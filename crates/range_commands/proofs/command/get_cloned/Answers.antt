@@ -1,6 +1,6 @@
-use Rattle.range_change.specs.Bindings.{IsBound}
-use Rattle.range_change.proofs.Overlaps.{binds_bound}
-use Rattle.range_change.proofs.Results.{on_error}
+use Rattle.range_runs.specs.Bindings.{IsBound}
+use Rattle.range_runs.proofs.Overlaps.{binds_bound}
+use Rattle.range_edit.proofs.Results.{on_error}
 use Rattle.range_map.proofs.BoundKeys.{bound_to_equal}
 use Rattle.range_commands.proofs.command.get_cloned.Goals as goal
 

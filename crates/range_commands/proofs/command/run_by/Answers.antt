@@ -2,7 +2,7 @@ use Rattle.std.proofs.Common.{◌≡◌, ◌++◌, ◌∷◌, [], length, sym, a
 use Rattle.range_commands.specs.Tagged.{MayAnswerTo}
 use Rattle.range_commands.specs.CountedRuns.{least_if}
 use Rattle.range_commands.proofs.CountedRuns.{one_more_counted}
-use Rattle.range_change.proofs.OuterBounds.{prefix_is_all}
+use Rattle.range_edit.proofs.OuterBounds.{prefix_is_all}
 use Rattle.range_commands.proofs.command.run_by.Goals as goal
 
 pub loop-command-preserved : goal.loop-command-preserved

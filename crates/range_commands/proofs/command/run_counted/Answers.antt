@@ -1,6 +1,6 @@
 use Rattle.std.proofs.Common.{ℕ, ◌+◌, ◌*◌, ◌≤◌, length, arith}
 use Rattle.range_store.specs.Holding.{box_items}
-use Rattle.range_change.specs.Costs.{greatest_level}
+use Rattle.range_edit.specs.Costs.{greatest_level}
 use Rattle.range_commands.specs.LastCommands.{last_command_decides}
 use Rattle.range_commands.specs.Tagged.{MayAnswerTo}
 use Rattle.range_commands.proofs.CountedRuns.{if_ok_then, uncounted, few_after, run_most, run_least, few_asks, some_asks}

@@ -1,5 +1,5 @@
 use Rattle.range_map.proofs.Common.{◌+◌, ◌-◌, ◌/◌, ap, sym, ◌∙◌, arith, common_steps, is_before}
-use Rattle.range_change.proofs.Comparisons.{before_from}
+use Rattle.range_runs.proofs.Comparisons.{before_from}
 use Rattle.range_map.proofs.search.binary_search.Goals as goal
 
 pub loop-low-preserved : goal.loop-low-preserved

@@ -1,5 +1,5 @@
 use Rattle.range_map.proofs.Common.{◌-◌, ◌<◌, ◌≤◌, length, get_or, AllWithin, AnyRange, Item}
-use Rattle.range_change.specs.Searches.{ElementIsBefore}
+use Rattle.range_runs.specs.Searches.{ElementIsBefore}
 use Rattle.range_map.proofs.search.binary_search.Given as goal
 
 abbrev pub invariant-loop-low : goal.invariant-loop-low

@@ -1,7 +1,7 @@
 use Rattle.range_map.proofs.Common.{◌≡◌, ◌∙◌, Result, Ok, Err, ap, arith, refl, false≢true, rules, LieBefore, appended, error_has_no_value, on_error}
 use Rattle.std.specs.Result.{IsErrAnd}
-use Rattle.range_change.specs.declared.error.NotAppended.{NotAppended}
-use Rattle.range_change.specs.declared.error.NotAppended.TheVariants.{Memory}
+use Rattle.range_edit.specs.declared.error.NotAppended.{NotAppended}
+use Rattle.range_edit.specs.declared.error.NotAppended.TheVariants.{Memory}
 use Rattle.range_map.specs.Appending.{IsOutOfOrder}
 use Rattle.range_map.proofs.AppendedLists.{appended_binds, appended_length, appended_stored}
 use Rattle.range_map.proofs.StoredLists.{stored_coarse, stored_only}

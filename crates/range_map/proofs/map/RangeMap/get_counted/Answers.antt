@@ -1,4 +1,4 @@
-use Rattle.range_change.proofs.Found.{stored_value}
+use Rattle.range_runs.proofs.Found.{stored_value}
 use Rattle.range_map.proofs.map.RangeMap.get_counted.Goals as goal
 
 pub returns-in-Some-clause-stored : goal.returns-in-Some-clause-stored

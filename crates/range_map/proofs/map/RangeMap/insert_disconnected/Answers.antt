@@ -1,6 +1,6 @@
 use Rattle.range_map.proofs.Common.{OnOk, OnErr, Ok, Err, Result, List, ◌≡◌, ◌+◌, ◌≤◌, length, refl, ap, arith, subst, common_steps, length-insert, IsBoundAfter, IsEmptyRange, IsPutInto, MeetAlso, not_both, on_ok}
-use Rattle.range_change.specs.Changes.{IsInserted}
-use Rattle.range_change.proofs.Freeing.{form_after}
+use Rattle.range_edit.specs.Changes.{IsInserted}
+use Rattle.range_edit.proofs.Freeing.{form_after}
 use Rattle.range_map.proofs.StoredLists.{stored_coarse, stored_only}
 use Rattle.range_map.proofs.map.RangeMap.insert_disconnected.Goals as goal
 

@@ -1,4 +1,4 @@
-use Rattle.range_change.proofs.RunItems.{found_from}
+use Rattle.range_runs.proofs.RunItems.{found_from}
 use Rattle.range_map.proofs.map.RangeMap.iter_from.Goals as goal
 
 pub returns : goal.returns

@@ -1,5 +1,5 @@
 use Rattle.range_map.proofs.Common.{ap, start_position, end_position, IsEmptyRange, not_both, binding_meets, meeting_binds}
-use Rattle.range_change.proofs.RunItems.{overlapping_found, none_shown, all_shown}
+use Rattle.range_runs.proofs.RunItems.{overlapping_found, none_shown, all_shown}
 use Rattle.range_map.proofs.map.RangeMap.met_by.Goals as goal
 
 pub returns-clause-items : goal.returns-clause-items

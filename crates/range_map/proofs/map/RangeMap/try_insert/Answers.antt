@@ -1,6 +1,6 @@
 use Rattle.range_map.proofs.Common.{OnOk, refl, arith, subst, common_steps, IsEmptyRange, IsBoundAfter, MeetAlso, not_both, IsInsertionFrame, on_ok}
-use Rattle.range_change.specs.Changes.{IsInserted}
-use Rattle.range_change.proofs.Freeing.{form_after}
+use Rattle.range_edit.specs.Changes.{IsInserted}
+use Rattle.range_edit.proofs.Freeing.{form_after}
 use Rattle.range_map.proofs.StoredLists.{stored_coarse, stored_only}
 use Rattle.range_map.proofs.map.RangeMap.try_insert.Goals as goal
 

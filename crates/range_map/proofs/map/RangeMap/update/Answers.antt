@@ -1,8 +1,8 @@
 use Rattle.range_map.proofs.Common.{Ok, Err, refl, false≢true, bound_clone, IsUpdated, error_has_no_value, not_both, on_error, on_ok, updated_stands}
 use Rattle.range_map.proofs.ClosureAnswers.{memory_is_no_closure}
 use Rattle.range_map.proofs.Likeness.{clone_empty, updated_too, answers_too}
-use Rattle.range_change.proofs.MergedItems.{unchanged_stands}
-use Rattle.range_change.proofs.SpelledChanges.{list_keeps_spelling}
+use Rattle.range_edit.proofs.MergedItems.{unchanged_stands}
+use Rattle.range_edit.proofs.SpelledChanges.{list_keeps_spelling}
 use Rattle.range_map.proofs.ReboundKeys.{update_rebinds}
 use Rattle.range_map.proofs.StoredLists.{stored_coarse, stored_only}
 use Rattle.range_map.proofs.CloneLists.{clones_tied}

@@ -2,7 +2,7 @@ use Rattle.std.proofs.Common.{◌≡◌, ◌+◌, ◌<◌, ◌++◌, [], None, l
 use Rattle.range_map.proofs.Common.{IsEquivalence, option_map, IsLawful, MayAnswerBoth}
 use Rattle.range_merge.specs.Combining.{MayGiveValueOnBoth}
 use Rattle.range_merge.specs.Merged.{part_item}
-use Rattle.range_change.specs.Window.{option_items}
+use Rattle.range_runs.specs.Window.{option_items}
 use Rattle.range_merge.proofs.Combination.{IsCombinedUpTo}
 use Rattle.range_map.proofs.map.combine.gather_both.Given as goal
 

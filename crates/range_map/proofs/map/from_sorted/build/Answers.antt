@@ -2,7 +2,7 @@ use Rattle.std.proofs.Common.{◌≡◌, ◌∙◌, sym, ap, ◌∷◌, ◌++◌
 use Rattle.range_map.proofs.AppendedLists.{appended_length}
 use Rattle.range_map.proofs.Common.{false≢true, error_has_no_value, length-append, map-append, lower, BindAlike, item_upper, item_of, full_range, le_refl}
 use Rattle.std.proofs.lemmas.Result.{IfOk-weaker}
-use Rattle.range_change.proofs.OuterBounds.{prefix_is_all}
+use Rattle.range_edit.proofs.OuterBounds.{prefix_is_all}
 use Rattle.range_map.proofs.JoinedItems.{built_more, built_none}
 use Rattle.range_map.proofs.SortedLists.{sorted_rises}
 use Rattle.range_map.proofs.map.from_sorted.build.Goals as goal

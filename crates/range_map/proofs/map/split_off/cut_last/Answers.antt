@@ -1,5 +1,5 @@
 use Rattle.range_map.proofs.Common.{◌≡◌, ◌∙◌, refl, ap, arith, ◌++◌, ◌∷◌, [], length, Included, insert_end, AnyRange, every_right, Item, place_before, held_between, lt_not_le, place_at}
-use Rattle.range_change.specs.Edits.{with_start}
+use Rattle.range_runs.specs.Edits.{with_start}
 use Rattle.range_map.proofs.SplitLists.{parted, last_parted, last_cut}
 use Rattle.range_map.proofs.map.split_off.cut_last.Goals as goal
 

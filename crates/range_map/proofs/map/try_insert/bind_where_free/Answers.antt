@@ -1,7 +1,7 @@
 use Rattle.range_map.proofs.Common.{◌≡◌, refl, arith, inl, any_none, false≢true}
-use Rattle.range_change.proofs.InsertionFrames.{meets_some}
-use Rattle.range_change.proofs.RangePieces.{any_over}
-use Rattle.range_change.proofs.RangeSides.{none_meets}
+use Rattle.range_edit.proofs.InsertionFrames.{meets_some}
+use Rattle.range_runs.proofs.RangePieces.{any_over}
+use Rattle.range_edit.proofs.RangeSides.{none_meets}
 use Rattle.range_map.proofs.map.try_insert.bind_where_free.Goals as goal
 
 pub returns-in-Ok : goal.returns-in-Ok

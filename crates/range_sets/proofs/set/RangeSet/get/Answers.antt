@@ -1,5 +1,5 @@
 use Rattle.std.proofs.Common.{arith}
-use Rattle.range_change.proofs.RangePieces.{any_over}
+use Rattle.range_runs.proofs.RangePieces.{any_over}
 use Rattle.range_sets.proofs.set.RangeSet.get.Goals as goal
 
 pub returns-in-Some : goal.returns-in-Some

@@ -1,6 +1,6 @@
 use Rattle.std.proofs.Common.{refl, inr}
 use Rattle.range_algebra.specs.References.{range_of}
-use Rattle.range_change.proofs.Tests.{not_both}
+use Rattle.range_runs.proofs.Tests.{not_both}
 use Rattle.range_sets.proofs.Uniting.{apart_from}
 use Rattle.range_sets.proofs.set.union.add.Goals as goal
 

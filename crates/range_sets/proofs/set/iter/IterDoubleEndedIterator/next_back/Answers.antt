@@ -1,5 +1,5 @@
 use Rattle.std.proofs.Common.{arith}
-use Rattle.range_change.proofs.PieceSteps.{last_is_less}
+use Rattle.range_runs.proofs.PieceSteps.{last_is_less}
 use Rattle.range_sets.proofs.EndRanges.{item_ranges_append}
 use Rattle.range_sets.proofs.set.iter.IterDoubleEndedIterator.next_back.Goals as goal
 use Rattle.range_sets.proofs.set.iter.IterDoubleEndedIterator.next_back.Goals.{in-Some, in-None}

@@ -1,8 +1,0 @@
-use Rattle.range_change.proofs.Common.{arith, common_steps}
-use Rattle.range_change.proofs.answers.put.Goals as goal
-
-pub returns : goal.returns
-returns g c = grind (arith, common_steps)
-
-pub returns-then-joins_last : goal.returns-then-joins_last
-returns-then-joins_last g c = grind (arith, common_steps)

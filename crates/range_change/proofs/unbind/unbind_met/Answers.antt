@@ -1,8 +1,0 @@
-use Rattle.range_change.proofs.Common.{arith, common_steps}
-use Rattle.range_change.proofs.unbind.unbind_met.Goals as goal
-
-pub surrounding-requires : goal.surrounding-requires
-surrounding-requires g c = grind (arith, common_steps)
-
-pub unbind_inside-requires-clause-within : goal.unbind_inside-requires-clause-within
-unbind_inside-requires-clause-within g c = grind (arith, common_steps)

@@ -1,0 +1,10 @@
+pub mod Apart
+pub mod Borders
+pub mod Changes
+pub mod Clones
+pub mod Common
+pub mod Costs
+pub mod Plans
+pub mod Reach
+pub mod Replaced
+pub mod Seams

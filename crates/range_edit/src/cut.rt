@@ -1,0 +1,119 @@
+//! Where a range cuts a stored item, and the bound that the item then has.
+ghost use Rattle.std.specs.Prelude.{◌≡◌, ◌↔◌, ◌≤◌, IfOk, IsOk, OnOk, IsTrue, slice_index_or};
+ghost use Rattle.range_keys.specs.Position.{bound_of, position_cmp};
+ghost use Rattle.range_algebra.specs.Clones.{IsBoundClone, SameBound};
+ghost use Rattle.range_algebra.specs.Cuts.{lower, upper};
+ghost use Rattle.range_algebra.specs.Intervals.{Lt};
+ghost use Rattle.range_algebra.specs.Range.{ClonesAreEqual, IsKnownBound};
+ghost use Rattle.range_algebra.specs.declared.any.AnyRange.{AnyRange};
+ghost use Rattle.range_store.specs.declared.storage.Item.{Item};
+ghost use Rattle.range_edit.specs.Clones.{ClonesNeverFail};
+ghost use Rattle.range_runs.specs.Edits.{flipped_bound, KeepsPositions};
+
+use range_algebra::any::AnyRange;
+use range_algebra::inner;
+use range_algebra::range::AsRange;
+use range_keys::bound::Directed;
+use range_keys::traits::{Measure, PartialEnum};
+use range_runs::bounds::{flip, known_bound};
+use range_store::storage::{Item, Storage};
+use std::alloc::AllocError;
+use std::ops::{Bound, RangeBounds};
+
+/// A clone of the bound on the other side of the one that is referred to.
+fn flip_clone<K: Clone>(bound: Bound<&K>) -> Result<Bound<K>, AllocError>
+    ensures clone { IfOk result
+        (λ copy. IsBoundClone K.is_clone (flipped_bound (bound_of bound.entry)) copy) }
+    ensures succeeds { ClonesNeverFail K.is_infallible → IsOk result }
+{
+    Ok(match bound {
+        Bound::Included(key) => Bound::Excluded(key.clone()?),
+        Bound::Excluded(key) => Bound::Included(key.clone()?),
+        Bound::Unbounded => Bound::Unbounded,
+    })
+}
+
+/// The bound that an item has where it is cut at a bound: that one on its other side, with a clone
+/// of its value.
+pub fn cut_bound<K: PartialEnum + Clone>(bound: Bound<&K>) -> Result<Bound<K>, AllocError>
+    requires { ClonesAreEqual K.is_clone K.eq }
+    ensures known { IfOk result (λ cut. IsKnownBound K.order cut) }
+    ensures flipped { IfOk result
+        (λ cut. SameBound K.order (flipped_bound (bound_of bound.entry)) cut) }
+    ensures succeeds { ClonesNeverFail K.is_infallible → IsOk result }
+{
+    let cut = flip_clone(bound)?;
+    known_bound(&cut);
+    Ok(cut)
+}
+
+/// What the parts of an item need where a range is cut out of it.
+#[derive(Drop)]
+pub struct DividedItem<K, V> {
+    /// Where the part before the range ends.
+    pub end: Bound<K>,
+    /// Where the part after it starts.
+    pub start: Bound<K>,
+    /// The value of the part after it.
+    pub value: V,
+}
+
+/// Reserves capacity for more items, and clones what the parts of an item need where a range with
+/// these bounds is cut out of it.
+pub fn prepare_parts<K: PartialEnum + Clone, V: Eq + Clone, C: Storage<Item<AnyRange<K>, V>>>(
+    stored: &mut C,
+    p: C::Position,
+    start: Bound<&K>,
+    end: Bound<&K>,
+    room: usize,
+) -> Result<DividedItem<K, V>, AllocError>
+    requires keys { ClonesAreEqual K.is_clone K.eq }
+    requires values { ClonesAreEqual V.is_clone V.eq }
+    requires good { C.is_good stored.old p }
+    ensures end { IfOk result
+        (λ parts. IsKnownBound K.order parts.end
+        × SameBound K.order (flipped_bound (bound_of start.entry)) parts.end) }
+    ensures start { IfOk result
+        (λ parts. IsKnownBound K.order parts.start
+        × SameBound K.order (flipped_bound (bound_of end.entry)) parts.start) }
+    ensures value { IfOk result
+        (λ parts. (d : Item (AnyRange K) V)
+        → IsTrue (V.eq (slice_index_or (C.items stored.old) (C.rank stored.old p) d).value
+        parts.value)) }
+    ensures list { C.items stored.new ≡ C.items stored.old }
+    ensures space { OnOk result (room ≤ C.room stored.new) }
+    ensures no_less { C.room stored.old ≤ C.room stored.new }
+    ensures positions { KeepsPositions C.is_good C.rank stored.old stored.new }
+    ensures succeeds { ClonesNeverFail K.is_infallible → ClonesNeverFail V.is_infallible
+        → room ≤ C.room stored.old → IsOk result }
+{
+    stored.reserve(room)?;
+    Ok(DividedItem {
+        value: stored.get(p).value.clone()?,
+        end: cut_bound(start)?,
+        start: cut_bound(end)?,
+    })
+}
+
+/// Whether the first range starts before the second.
+pub fn starts_before<K: Measure, R: AsRange<Item = K>>(first: &AnyRange<K>, second: &R) -> bool
+    ensures { IsTrue result
+        ↔ Lt (position_cmp K.order.cmp) (lower K.order first.now)
+        (lower K.order (R.range second.now)) }
+{
+    Directed::Start(first.start_bound()) < Directed::Start(second.start())
+}
+
+/// Whether the first range ends after the second.
+pub fn ends_after<K: Measure, R: AsRange<Item = K>>(first: &AnyRange<K>, second: &R) -> bool
+    ensures { IsTrue result
+        ↔ Lt (position_cmp K.order.cmp) (upper K.order (R.range second.now))
+        (upper K.order first.now) }
+{
+    inner::known(first);
+    inner::known_range(second);
+    match flip(second.end()) {
+        None => false,
+        Some(start) => Directed::Start(start) <= Directed::End(first.end_bound()),
+    }
+}

@@ -1,0 +1,16 @@
+pub mod Answers
+pub mod Bindings
+pub mod Chains
+pub mod Common
+pub mod Edits
+pub mod Frames
+pub mod Lookups
+pub mod Neighbours
+pub mod PieceLists
+pub mod Pieces
+pub mod Put
+pub mod Runs
+pub mod Searches
+pub mod Spelling
+pub mod Stored
+pub mod Window
