@@ -12,11 +12,6 @@ use Rattle.range_runs.proofs.ItemPlaces.{element_at, element_at_is_read, listed_
 use Rattle.range_runs.proofs.RangePieces.{item_at}
 use Rattle.range_runs.proofs.Windows.{every_both}
 
-last_place : {X P : Type 0} (is_good : P → Type 0) (rank : P → ℕ) (items : List X) (last : Option P)
-    → MatchOption last (items ≡ []) (λ p. is_good p × (rank p + 1 ≡ length items))
-    → IsJustBefore is_good rank last (length items)
-last_place is_good rank items option at = grind (arith, common_steps)
-
 must_touch : (A : Type 0) (t : Bool) → A → (A × (IsTrue t → ⊥) → ⊥) → IsTrue t
 must_touch A t a h = true_from_ne_false t (λ e. h (a, λ is. not_both e is))
 
@@ -112,8 +107,7 @@ module _ {K : Type 0} (order : KeyOrder K) (lawful : IsLawful order) where
             → LiesApartAt order items r (length items)
         all_before last b at answer h = record {
           in_range = omega arith;
-          before =
-              clear_before last (length items) b (last_place is_good rank items last at) answer h;
+          before = clear_before last (length items) b (grind (arith, common_steps, at)) answer h;
           behind = rw (drop_all items (length items) refl) tt;
         }
 

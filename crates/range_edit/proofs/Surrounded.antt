@@ -63,9 +63,8 @@ module _ {K : Type 0} {order : KeyOrder K} (lawful : IsLawful order) {V : Type 0
       let right = right_side_joined lawful equal window stored inside left (Some p) [] own refl after
       place (sym next) within_list x here (tied_itself total (upper order r))
       (last_starts lawful equal window x here_end some) (within.ends x here) (equal.refl x.value) in
-      inserted lawful equal window v x.value left right values
-      (λ e. absurd (omega (arith, within.one, e))) items
-      (standing_item_splits_list items place (place + 1) x within_list here refl)
+      inserted lawful equal window left right items (standing_item_splits_list items place (place + 1) x
+      within_list here refl) v x.value refl values (λ e. absurd (omega (arith, within.one, e)))
 
   -- the range is cut out of it: what the copies are, and the list with the parts
   module _ (parts : DividedItem K V)
@@ -107,8 +106,8 @@ module _ {K : Type 0} {order : KeyOrder K} (lawful : IsLawful order) {V : Type 0
         let right = right_side_cut lawful equal window stored inside left x here_end some
         (within.ends x here) parts.start start_is parts.value copied
         (λ m is on t. let item : own ≡ m = cc in not_both differs (rw (← item) at t)) in
-        inserted lawful equal window v v left right (equal.refl v) (λ e. refl) new
-        (list_is (Some own) divided)
+        inserted lawful equal window left right new (list_is (Some own) divided) v v refl (equal.refl v)
+        (λ e. refl)
 
     -- the range is unbound
     pub divided_alone : IsDivided others new at parts None → IsRemoved order same items new r
@@ -119,7 +118,7 @@ module _ {K : Type 0} {order : KeyOrder K} (lawful : IsLawful order) {V : Type 0
         parts.end end_is (λ m is. absurd (cc)) in
         removed lawful equal window left (right_side_cut lawful equal window nothing tt left x
         here_end some (within.ends x here) parts.start start_is parts.value copied
-        (λ m is. absurd (cc))) new (list_is None divided)
+        (λ m is. absurd (cc))) new (list_is None divided) refl
 
   split : items ≡ take place items ++ x ∷ drop (place + 1) items
   split = listed_at items place x within_list here
