@@ -15,9 +15,6 @@ use Rattle.range_runs.proofs.Windows.{every_both}
 must_touch : (A : Type 0) (t : Bool) → A → (A × (IsTrue t → ⊥) → ⊥) → IsTrue t
 must_touch A t a h = true_from_ne_false t (λ e. h (a, λ is. not_both e is))
 
-one_fails : (free a b : Bool) → free ≡ (a && b) → free ≡ false → (a ≡ false) ⊎ (b ≡ false)
-one_fails free test b e f = grind (arith, common_steps)
-
 module _ {K : Type 0} (order : KeyOrder K) (lawful : IsLawful order) where
   apart_is : (r s : AnyRange K) → IsKnownRange order r → IsKnownRange order s
       → (IsEmptyRange order s → ⊥) → LiesApart order r s → PLt lawful (upper order r) (lower order s)
@@ -180,7 +177,7 @@ module _ {K : Type 0} (order : KeyOrder K) (lawful : IsLawful order) where
             record {
               position = found.position;
               apart = grind (arith, common_steps, and_parts, clear_before, clear_after);
-              taken = λ f. elim (one_fails free a b both f) [
+              taken = λ f. let either : (a ≡ false) ⊎ (b ≡ false) = grind (arith, common_steps, both, f) in elim either [
                 | inl e ↦ refused_previous_is_connected before place a found.previous first
                     (rw start at found.below) e
                 | inr e ↦ refused_next_is_connected from place b found.position second

@@ -298,7 +298,7 @@ module _ {K : Type 0} {order : KeyOrder K} (lawful : IsLawful order) {V : Type 0
       → new ≡ insert items place (record { key = r; value = v }) → IsInserted order same items new r v
   put_between v none before after new put =
       let own : Item (AnyRange K) V = record { key = r; value = v } in
-      let stored = own_stored lawful equal v window.known window.nonempty in
+      let stored : IsStored order same (own ∷ []) = own_stored lawful equal v window.known window.nonempty in
       let within = own_within lawful equal r v in
       let end : place + w.count ≡ place = omega (arith, none) in
       let left = left_side_whole lawful equal window stored within

@@ -495,7 +495,7 @@ module _ {K : Type 0} {order : KeyOrder K} (lawful : IsLawful order) {V : Type 0
             let chain = rw whole at left.sewn.chain in
             let y = with_end z x.key.end in
             let body_end : with_last_end (Some x.key.end) Body ≡ more ++ y ∷ [] =
-            ap (with_last_end (Some x.key.end)) body ∙ with_last (Some x.key.end) more z in
+            ap (with_last_end (Some x.key.end)) body ∙ with_last x.key.end more z in
             let new : (Front ++ with_last_end (Some x.key.end) Body) ++ behind
             ≡ (Front ++ more) ++ y ∷ behind = ap (λ ys. (Front ++ ys) ++ behind) body_end ∙
             regrouped_last Front more behind y in

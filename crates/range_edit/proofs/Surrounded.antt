@@ -132,12 +132,6 @@ module _ {K : Type 0} {order : KeyOrder K} (lawful : IsLawful order) {V : Type 0
   good : PLt lawful (lower order r) (upper order r)
   good = (nonempty_good order lawful r within.window.known).0 within.window.nonempty
 
-  starts : PLt lawful (item_lower order x) (lower order r)
-  starts = within.starts x here
-
-  ends : PLt lawful (upper order r) (item_upper order x)
-  ends = within.ends x here
-
   abbrev IsAlone : Item (AnyRange K) V → Type 0
   IsAlone i = IsConnectedTo order i.key r → Overlap order i.key r
 
@@ -154,11 +148,11 @@ module _ {K : Type 0} {order : KeyOrder K} (lawful : IsLawful order) {V : Type 0
       let after = follows_above line x rest (chain_right line done (x ∷ rest) whole).1 in
       let front = every_with _ _ IsAlone done (chain_before line done x rest whole)
       (every_left _ done (x ∷ rest) all) (λ i h f c. absurd ((apart_not order lawful i.key r f.0
-      known f.1 good (le_lt_trans lawful _ _ _ h.0 starts)).0 c)) in
+      known f.1 good (le_lt_trans lawful _ _ _ h.0 (within.starts x here))).0 c)) in
       let behind = every_with _ _ IsAlone rest after own.1 (λ i h f c. absurd
-      ((apart_not order lawful r i.key known f.0 good f.1 (lt_le_trans lawful _ _ _ ends h)).1 c)) in
+      ((apart_not order lawful r i.key known f.0 good f.1 (lt_le_trans lawful _ _ _ (within.ends x here) h)).1 c)) in
       let around = (overlap_is order lawful x.key r own.0.0 known).1
-      (lt_trans lawful _ _ _ starts good, lt_trans lawful _ _ _ good ends) in
+      (lt_trans lawful _ _ _ (within.starts x here) good, lt_trans lawful _ _ _ good (within.ends x here)) in
       subst (λ ys. Every IsAlone ys) (sym split)
       (every_append IsAlone done (x ∷ rest) front ((λ c. around), behind))
 
@@ -171,10 +165,10 @@ module _ {K : Type 0} {order : KeyOrder K} (lawful : IsLawful order) {V : Type 0
       let v = end_position order x.key.end in
       let known_x = (item_at (IsFull order lawful items r) items place x full within_list here).0 in
       let under =
-      end_le order lawful r.end x.key.end within.window.known.1 known_x.1 (lt_le lawful _ _ ends) in
+      end_le order lawful r.end x.key.end within.window.known.1 known_x.1 (lt_le lawful _ _ (within.ends x here)) in
       record {
         starts = both lawful _ _ (later_over order lawful p q).0 (either_choice_holds order lawful
-            (λ y. PLe lawful y p) (is_gt (cmp p q)) p q (le_refl lawful p) (lt_le lawful _ _ starts));
+            (λ y. PLe lawful y p) (is_gt (cmp p q)) p q (le_refl lawful p) (lt_le lawful _ _ (within.starts x here)));
         ends = both lawful _ _ (either_choice_holds order lawful (λ y. PLe lawful u y)
             (is_gt (cmp u v)) v u under (le_refl lawful u)) (earlier_under order lawful u v).0;
       }
