@@ -164,9 +164,6 @@ module _ {K : Type 0} {order : KeyOrder K} (lawful : IsLawful order) {V : Type 0
       inner : Chained order lawful same equal middle
       inner = stored_chain order lawful same equal middle others
 
-      inner_starts : Every (λ i. PLe lawful (lower order r) (item_lower order i)) middle
-      inner_starts = every_weaker _ _ middle (λ i h. h.starts) within
-
       inner_ends : Every (λ i. PLe lawful (item_upper order i) (upper order r)) middle
       inner_ends = grind (arith, common_steps, every_with, past_le)
 
@@ -184,7 +181,7 @@ module _ {K : Type 0} {order : KeyOrder K} (lawful : IsLawful order) {V : Type 0
           record {
             sewn = sewn_apart line items middle front middle (lower order r) left (record {
               chain = inner;
-              starts = inner_starts;
+              starts = every_weaker _ _ middle (λ i h. h.starts) within;
               holds = λ p W alike l. (λ h. h, λ h. h);
             }) (λ m ms is. leads m (rw is refl));
             known = every_append _ front middle (every_append _ (take place items)

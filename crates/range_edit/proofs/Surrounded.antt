@@ -1,5 +1,5 @@
 -- What becomes of the one item that a range meets where it surrounds the range.
-use Rattle.range_edit.proofs.Common.{AnswersPiece, AnyRange, ArePieces, Bool, Bor, Every, IsCommonPart, start_position, inl, IsConnectedTo, IsDivided, IsEquivalence, IsInserted, IsKnownBound, IsLawful, IsReach, IsRemoved, IsStored, IsSurrounded, IsTrue, Item, KeyOrder, List, MayAnswer, None, Option, Overlap, PLe, PLt, ReachesAfter, ReachesBefore, Result, SameBound, Shared, Some, Window, [], ap, arith, both, common_steps, drop, end_position, every_append, every_left, every_right, false, flipped_bound, get_or, is_gt, item_lower, item_upper, le_lt_trans, le_refl, length, line_of, lower, lt_le, lt_le_trans, lt_trans, option_items, position_cmp, position_total, refl, subst, sym, take, tied_itself, true, upper, with_end, ℕ, ◌++◌, ◌+◌, ◌-◌, ◌<◌, ◌∙◌, ◌∷◌, ◌≡◌}
+use Rattle.range_edit.proofs.Common.{AnswersPiece, AnyRange, ArePieces, Bool, Bor, Every, IsCommonPart, start_position, inl, IsConnectedTo, IsDivided, IsEquivalence, IsInserted, IsKnownBound, IsLawful, IsReach, IsRemoved, IsStored, IsSurrounded, IsTrue, Item, KeyOrder, List, MayAnswer, None, Option, Overlap, PLe, PLt, ReachesAfter, ReachesBefore, Result, SameBound, Shared, Some, Window, [], ap, arith, both, common_steps, drop, end_position, every_append, every_left, every_right, false, flipped_bound, get_or, is_gt, le_lt_trans, le_refl, length, line_of, lower, lt_le, lt_le_trans, lt_trans, option_items, position_cmp, position_total, refl, subst, sym, take, tied_itself, true, upper, with_end, ℕ, ◌++◌, ◌+◌, ◌-◌, ◌<◌, ◌∙◌, ◌∷◌, ◌≡◌}
 use Rattle.range_edit.specs.declared.cut.DividedItem.{DividedItem}
 use Rattle.range_edit.specs.declared.reach.Reach.{Reach}
 use Rattle.range_runs.proofs.RangePieces.{IsFull, all_full, cut_all, earlier_under, either_choice_holds, every_with, item_at, later_over}

@@ -1,5 +1,5 @@
 -- A list that was changed as a closure answers, by what was put in the place of a range.
-use Rattle.range_edit.proofs.Common.{arith, common_steps, ◌≡◌, ◌∙◌, Option, Some, None, Bool, true, IsTrue, List, [], ◌∷◌, ◌++◌, ◌⊎◌, inl, inr, ◌↔◌, Result, Ok, Shared, Bor, Every, IsEquivalence, KeyOrder, AnyRange, Any, every_weaker, every_left, every_right, Item, MayAnswer, Answered, IsAsAnswered, IsGivenBy, IsGathered, IsUpdated, AreAnswersTo, Binds, IsSomeOf, IsInserted, IsRemoved, IsUpdateFrame, IsMergedInto, IsMergeFrame, HasValue, JoinsOrMeets, IsPart, IsInsertionFrame, IsRemovalFrame, IsConnectedTo, Overlap, IsReplaced}
+use Rattle.range_edit.proofs.Common.{arith, common_steps, ◌≡◌, ◌∙◌, Option, Some, None, Bool, true, IsTrue, List, [], ◌∷◌, ◌++◌, ◌⊎◌, inl, inr, Result, Ok, Shared, Bor, Every, IsEquivalence, KeyOrder, AnyRange, Any, every_weaker, every_left, every_right, Item, MayAnswer, Answered, IsGivenBy, IsGathered, IsUpdated, AreAnswersTo, IsInserted, IsRemoved, IsUpdateFrame, IsMergedInto, IsMergeFrame, HasValue, JoinsOrMeets, IsPart, IsInsertionFrame, IsRemovalFrame, IsConnectedTo, Overlap, IsReplaced}
 use Rattle.range_runs.proofs.RangePieces.{any_use, any_over, every_with}
 use Rattle.range_edit.proofs.MergedItems.{rest_stands, way_follows}
 
