@@ -12,16 +12,8 @@ use Rattle.range_runs.proofs.ItemPlaces.{element_at, element_at_is_read, listed_
 use Rattle.range_runs.proofs.RangePieces.{item_at}
 use Rattle.range_runs.proofs.Windows.{every_both}
 
-last_place : {X P : Type 0} (is_good : P → Type 0) (rank : P → ℕ) (items : List X) (last : Option P)
-    → MatchOption last (items ≡ []) (λ p. is_good p × (rank p + 1 ≡ length items))
-    → IsJustBefore is_good rank last (length items)
-last_place is_good rank items option at = grind (arith, common_steps)
-
 must_touch : (A : Type 0) (t : Bool) → A → (A × (IsTrue t → ⊥) → ⊥) → IsTrue t
 must_touch A t a h = true_from_ne_false t (λ e. h (a, λ is. not_both e is))
-
-one_fails : (free a b : Bool) → free ≡ (a && b) → free ≡ false → (a ≡ false) ⊎ (b ≡ false)
-one_fails free test b e f = grind (arith, common_steps)
 
 module _ {K : Type 0} (order : KeyOrder K) (lawful : IsLawful order) where
   apart_is : (r s : AnyRange K) → IsKnownRange order r → IsKnownRange order s
@@ -112,8 +104,7 @@ module _ {K : Type 0} (order : KeyOrder K) (lawful : IsLawful order) where
             → LiesApartAt order items r (length items)
         all_before last b at answer h = record {
           in_range = omega arith;
-          before =
-              clear_before last (length items) b (last_place is_good rank items last at) answer h;
+          before = clear_before last (length items) b (grind (arith, common_steps, at)) answer h;
           behind = rw (drop_all items (length items) refl) tt;
         }
 
@@ -186,7 +177,7 @@ module _ {K : Type 0} (order : KeyOrder K) (lawful : IsLawful order) where
             record {
               position = found.position;
               apart = grind (arith, common_steps, and_parts, clear_before, clear_after);
-              taken = λ f. elim (one_fails free a b both f) [
+              taken = λ f. let either : (a ≡ false) ⊎ (b ≡ false) = grind (arith, common_steps, both, f) in elim either [
                 | inl e ↦ refused_previous_is_connected before place a found.previous first
                     (rw start at found.below) e
                 | inr e ↦ refused_next_is_connected from place b found.position second

@@ -23,14 +23,6 @@ pub parts_of : {X : Type 0} (xs : List X) (place count : ℕ)
 parts_of xs place count = list_is_take_and_drop (drop place xs) count ∙ ap
     (λ ys. take count (drop place xs) ++ ys) (drop-drop count place xs)
 
-append_reassociates : {X : Type 0} (a b c d e : List X)
-    → (a ++ b) ++ (c ++ (d ++ e)) ≡ a ++ (b ++ c ++ d) ++ e
-append_reassociates a b c d e = simp append_assoc
-
-reassociate_pieces : {X : Type 0} (a b c d e : List X)
-    → a ++ b ++ c ++ d ++ e ≡ a ++ (b ++ c ++ d) ++ e
-reassociate_pieces a b c d e = simp append_assoc
-
 -- items beside a window give way with it, and others come to stand for all of them
 pub widened_frame : {T : Type 0} (items new : List T) (Way : List T → List T → Type 0)
     (place count : ℕ) (front extra rest body beyond more tail : List T)
@@ -46,8 +38,8 @@ widened_frame items new Way place count front extra rest body beyond more tail b
       run = extra ++ met ++ more;
       others = rest ++ body ++ beyond;
       behind = tail;
-      before = list_is_take_and_drop items place ∙ (grind (arith, common_steps, parts_of, append_reassociates));
-      after = changed ∙ reassociate_pieces front rest body beyond tail;
+      before = list_is_take_and_drop items place ∙ (grind (arith, common_steps, parts_of, append_assoc));
+      after = changed ∙ simp append_assoc;
       such = such;
     }
 

@@ -48,16 +48,18 @@ module _ {K : Type 0} {order : KeyOrder K} (lawful : IsLawful order) {V : Type 0
       → IsJoinedLeft order same is_good rank items r v (place + 1) None
   left_other p x reach read differs = grind (arith, common_steps, not_both, get_or_read)
 
-  touching_left : (joined : Option P)
+  pub left_touching : (first joined : Option P) → first ≡ None
       → MatchOption joined (TouchesNoneBefore order same items place r v)
       (λ q. is_good q × (rank q + 1 ≡ place) × TouchesBefore order same items place r v)
-      → IsJoinedLeft order same is_good rank items r v place joined
-  touching_left None none = λ d some on t. none d some ((touches_is order lawful
+      → IsJoinedLeft order same is_good rank items r v (place + length (option_items first)) joined
+  left_touching first None is_none none =
+      let plus : place + 0 ≡ place = omega arith in
+      rw (is_none, plus) (λ d some on t. none d some ((touches_is order lawful
       (get_or items (place - 1) d).key.end r window.known (range_has_places lawful equal window)
-      (ends_before d some)).1 on) t
-  touching_left (Some q) (is, next, touching) = (
+      (ends_before d some)).1 on) t)
+  left_touching first (Some q) is_none (is, next, touching) = (
     is,
-    next,
+    rw is_none (omega (arith, next)),
     λ d.
         let some : 0 < place = omega (arith, next) in
         let index : rank q ≡ place - 1 = omega (arith, next) in
@@ -72,13 +74,6 @@ module _ {K : Type 0} {order : KeyOrder K} (lawful : IsLawful order) {V : Type 0
         ),
   )
 
-  pub left_touching : (first joined : Option P) → first ≡ None
-      → MatchOption joined (TouchesNoneBefore order same items place r v)
-      (λ q. is_good q × (rank q + 1 ≡ place) × TouchesBefore order same items place r v)
-      → IsJoinedLeft order same is_good rank items r v (place + length (option_items first)) joined
-  left_touching first joined none found = let plus : place + 0 ≡ place = omega arith in
-      rw (none, plus) (touching_left joined found)
-
   pub right_reaching : (p : P) (x : Item (AnyRange K) V)
       → ReachesAfter order is_good rank items r place w.count (Some p)
       → x ≡ get_or items (rank p) x → same x.value v ≡ true
@@ -91,14 +86,6 @@ module _ {K : Type 0} {order : KeyOrder K} (lawful : IsLawful order) {V : Type 0
       → IsJoinedRight order same is_good rank items r v (place + w.count - 1) None
   right_other p x reach read differs = grind (arith, common_steps, not_both, get_or_read)
 
-  touching_right : (joined : Option P) → ((p : P) → is_good p → rank p < length items)
-      → MatchOption joined (TouchesNoneAfter order same items (place + w.count) r v)
-      (λ q. is_good q × (rank q ≡ place + w.count)
-      × TouchesAfter order same items (place + w.count) r v)
-      → IsJoinedRight order same is_good rank items r v (place + w.count) joined
-  touching_right None in_range none = grind (arith, common_steps, touches_after)
-  touching_right (Some q) in_range (is, at, touching) = grind (arith, common_steps, touches_after, le_lt_trans, starts_behind, good_at)
-
   pub right_touching : (last joined : Option P) → last ≡ None
       → ((p : P) → is_good p → rank p < length items)
       → MatchOption joined (TouchesNoneAfter order same items (place + w.count) r v)
@@ -106,6 +93,9 @@ module _ {K : Type 0} {order : KeyOrder K} (lawful : IsLawful order) {V : Type 0
       × TouchesAfter order same items (place + w.count) r v)
       → IsJoinedRight order same is_good rank items r v
       (place + w.count - length (option_items last)) joined
-  right_touching last joined none in_range found =
+  right_touching last None is_none in_range none =
       let plus : place + w.count - 0 ≡ place + w.count = omega arith in
-      rw (none, plus) (touching_right joined in_range found)
+      rw (is_none, plus) (grind (arith, common_steps, touches_after))
+  right_touching last (Some q) is_none in_range (is, at, touching) =
+      let plus : place + w.count - 0 ≡ place + w.count = omega arith in
+      rw (is_none, plus) (grind (arith, common_steps, touches_after, le_lt_trans, starts_behind, good_at))

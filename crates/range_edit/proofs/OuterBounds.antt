@@ -1,5 +1,5 @@
 -- A list whose first item has another start, and its last another end.
-use Rattle.range_edit.proofs.Common.{common_steps, unwrap_or, ◌≡◌, ◌+◌, ◌-◌, ◌<◌, ◌≤◌, ℕ, suc, List, [], ◌∷◌, ◌++◌, length, take, drop, get_or, refl, ap, sym, ◌∙◌, arith, Option, Some, None, Bool, inl, inr, append_assoc, take_at, drop_at, ◌⊎◌, drop-drop, set, Every, slice_get, IsEquivalence, Bound, KeyOrder, every_weaker, Any, AnyRange, Item, with_start, with_end, HasValue, with_first_start, with_last_end}
+use Rattle.range_edit.proofs.Common.{common_steps, ◌≡◌, ◌+◌, ◌-◌, ◌<◌, ◌≤◌, ℕ, suc, List, [], ◌∷◌, ◌++◌, length, take, drop, get_or, refl, ap, sym, ◌∙◌, arith, Option, Some, None, Bool, inl, inr, append_assoc, take_at, drop_at, ◌⊎◌, drop-drop, set, Every, slice_get, IsEquivalence, Bound, KeyOrder, every_weaker, Any, AnyRange, Item, with_start, with_end, HasValue, with_first_start, with_last_end}
 
 -- the last of some items
 pub last_of : {X : Type 0} (x : X) (xs : List X)
@@ -52,16 +52,11 @@ pub put_all : {X : Type 0} (before now new done : List X) (place left less : ℕ
 put_all before now new done place left less was few within changed = grind (arith, common_steps, put_parts)
 
 module _ {K V : Type 0} where
-  abbrev pub item_with_end : Option (Bound K) → Item (AnyRange K) V → Item (AnyRange K) V
-  item_with_end finish z = with_end z (unwrap_or finish z.key.end)
-
-  pub with_last : (finish : Option (Bound K)) (front : List (Item (AnyRange K) V))
-      (z : Item (AnyRange K) V)
-      → with_last_end finish (front ++ z ∷ []) ≡ front ++ item_with_end finish z ∷ []
-  with_last None front z = refl
-  with_last (Some b) [] z = refl
-  with_last (Some b) (i ∷ []) z = refl
-  with_last (Some b) (i ∷ j ∷ rest) z = ap (λ ys. i ∷ ys) (with_last (Some b) (j ∷ rest) z)
+  pub with_last : (b : Bound K) (front : List (Item (AnyRange K) V)) (z : Item (AnyRange K) V)
+      → with_last_end (Some b) (front ++ z ∷ []) ≡ front ++ with_end z b ∷ []
+  with_last b [] z = refl
+  with_last b (i ∷ []) z = refl
+  with_last b (i ∷ j ∷ rest) z = ap (λ ys. i ∷ ys) (with_last b (j ∷ rest) z)
 
   -- another start at the front leaves the last item its end and its value
   pub started_last : (start : Option (Bound K)) (front : List (Item (AnyRange K) V))

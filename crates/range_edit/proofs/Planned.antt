@@ -1,5 +1,5 @@
 -- That a container can be changed as planned, and how many items it then has.
-use Rattle.range_edit.proofs.Common.{common_steps, ◌≡◌, ℕ, ◌+◌, ◌*◌, ◌≤◌, List, ◌++◌, length, take, drop, arith, Option, Bool, IsEquivalence, ForSome, Bound, KeyOrder, IsLawful, AnyRange, place_before, IsAt, Item, kept_at, good_at, IsGoodBorder, IsLeftShape, IsRightShape, IsReach, option_items, Border}
+use Rattle.range_edit.proofs.Common.{common_steps, ◌≡◌, ℕ, ◌+◌, ◌*◌, ◌≤◌, List, ◌++◌, length, take, drop, arith, Option, Bool, IsEquivalence, ForSome, Bound, KeyOrder, IsLawful, AnyRange, place_before, Item, kept_at, good_at, IsGoodBorder, IsLeftShape, IsRightShape, IsReach, option_items, Border}
 use Rattle.range_edit.specs.declared.reach.Reach.{Reach}
 use Rattle.range_edit.specs.Reach.{AreApart}
 use Rattle.range_edit.proofs.BoundEdits.{shape_kept, border_good}
@@ -20,18 +20,6 @@ pub record IsFit {K V P : Type 0} (is_good : P → Type 0) (rank : P → ℕ)
   pub on_right : IsRightShape is_good rank items right
       (place_before rank (length items) from + count) end after finish
 
-module _ {K V P : Type 0} {is_good is_good' : P → Type 0} {rank rank' : P → ℕ}
-    {items items' : List (Item (AnyRange K) V)} (kept : (p : P) → is_good p → is_good' p ×
-    (rank' p ≡ rank p)) (same_list : items' ≡ items) where
-  -- so they are where positions and items are kept since they were planned
-  pub plan_fits : (left right : Border K P) (from : Option P) (count at begin upto end : ℕ)
-      (before after : Option (Item (AnyRange K) V)) (start finish : Option (Bound K)) →
-      IsLeftShape is_good rank items left at begin before start
-      → IsRightShape is_good rank items right upto end after finish →
-      IsAt is_good rank (length items) from begin → begin + count ≡ upto → end ≤ length items →
-      IsFit is_good' rank' items' left right from count at end before after start finish
-  plan_fits left right from count at begin upto end before after start finish on_left on_right is_at sum within = grind (arith, common_steps, kept_at, common_steps, border_length, border_good, good_at, shape_kept)
-
 module _ {K : Type 0} {order : KeyOrder K} {lawful : IsLawful order} {V : Type 0}
     {same : V → V → Bool} {equal : IsEquivalence same} {P : Type 0} {is_good : P → Type 0}
     {rank : P → ℕ} {items : List (Item (AnyRange K) V)} {r : AnyRange K} {place : ℕ}
@@ -42,10 +30,7 @@ module _ {K : Type 0} {order : KeyOrder K} {lawful : IsLawful order} {V : Type 0
       → ((p : P) → is_good p → is_good' p × (rank' p ≡ rank p)) → items' ≡ items
       → IsFit is_good' rank' items' border behind from size plan.left.at plan.right.end
       plan.left.rest plan.right.rest plan.left.start plan.right.finish
-  planned_fits plan kept same_list =
-      plan_fits kept same_list border behind from size plan.left.at plan.left.begin plan.right.upto
-      plan.right.end plan.left.rest plan.right.rest plan.left.start plan.right.finish
-      plan.left.shape plan.right.shape plan.left.run plan.ends plan.right.side.in_range
+  planned_fits plan kept same_list = grind (arith, common_steps, plan.left.shape, plan.right.shape, plan.left.run, plan.ends, plan.right.side.in_range, kept_at, border_length, border_good, good_at, shape_kept)
 
   -- what is put in the place of the run decides how long the list is
   pub planned_size : {reach : Reach P} (plan : IsPlan order same lawful equal is_good rank items r

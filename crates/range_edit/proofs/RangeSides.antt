@@ -1,6 +1,6 @@
 -- The list in which a middle stands for what a range held, by what stands on both sides of it: for
 -- one item the range is bound, for none it is unbound.
-use Rattle.range_edit.proofs.Common.{common_steps, Line, Position, ◌≡◌, ℕ, ◌+◌, ◌<◌, ◌≤◌, List, [], ◌∷◌, ◌++◌, ◌∙◌, ap, sym, insert, append-nil, length, take, drop, refl, arith, Option, Some, None, Bool, true, IsTrue, ◌⊎◌, inl, inr, append_assoc, length-append, IsEquivalence, Every, KeyOrder, IsLawful, Beside, At, Any, AnyRange, any_left, any_right, every_weaker, every_append, every_left, every_right, held_between, line_of, IsBoundTo, IsSpliced, lower, upper, le_refl, Item, Bound, HasValue, IsPart, IsStartOf, IsEndOf, IsNewItem, IsSpliceFrame, IsInserted, IsRemoved, IsReplaced, Overlap, joined_item, unwrap_or, with_first_start, with_last_end, IsWindow, IsStored, option_items, Window}
+use Rattle.range_edit.proofs.Common.{common_steps, slice_get, ◌-◌, Line, Position, ◌≡◌, ℕ, ◌+◌, ◌<◌, ◌≤◌, List, [], ◌∷◌, ◌++◌, ◌∙◌, ap, sym, insert, append-nil, length, take, drop, refl, arith, Option, Some, None, Bool, true, IsTrue, ◌⊎◌, inl, inr, append_assoc, length-append, IsEquivalence, Every, KeyOrder, IsLawful, Beside, At, Any, AnyRange, any_left, any_right, every_weaker, every_append, every_left, every_right, held_between, line_of, IsBoundTo, IsSpliced, lower, upper, le_refl, Item, Bound, HasValue, IsPart, IsNewItem, IsSpliceFrame, IsInserted, IsRemoved, IsReplaced, Overlap, joined_item, with_first_start, with_last_end, IsWindow, IsStored, option_items, Window}
 use Rattle.range_edit.specs.Plans.{IsJoinedLeft, IsJoinedRight}
 use Rattle.range_runs.proofs.ChainSides.{held_alone}
 use Rattle.range_runs.proofs.CoveredPlaces.{meets_bound, met_range_is_covered, chained_items_have_places, overlap_is}
@@ -30,26 +30,14 @@ within_wider : {A B some wide : Type 0} → (some → wide) → A ⊎ (some ⊎ 
 within_wider f either = grind (arith, common_steps)
 
 module _ {K V : Type 0} where
-  none_inside : (start finish : Option (Bound K))
+  pub none_inside : (start finish : Option (Bound K))
       → with_last_end {V = V} finish (with_first_start start []) ≡ []
   none_inside start finish = grind (arith, common_steps)
 
-  one_inside : (m : Item (AnyRange K) V) (start finish : Option (Bound K))
+  pub one_inside : (m : Item (AnyRange K) V) (start finish : Option (Bound K))
       → with_last_end finish (with_first_start start (m ∷ []))
       ≡ joined_item m start finish ∷ []
   one_inside m start finish = grind (arith, common_steps)
-
-  given_start : (order : KeyOrder K) (run : List (Item (AnyRange K) V)) (r : AnyRange K)
-      (o : Option (Bound K)) → ((b : Bound K) → o ≡ Some b → Any (λ i. b ≡ i.key.start) run)
-      → IsStartOf order run r (unwrap_or o r.start)
-  given_start order run r None given = inl refl
-  given_start order run r (Some b) given = inr (inl (given b refl))
-
-  given_end : (order : KeyOrder K) (run : List (Item (AnyRange K) V)) (r : AnyRange K)
-      (o : Option (Bound K)) → ((b : Bound K) → o ≡ Some b → Any (λ i. b ≡ i.key.end) run)
-      → IsEndOf order run r (unwrap_or o r.end)
-  given_end order run r None given = inl refl
-  given_end order run r (Some b) given = inr (inl (given b refl))
 
 none_of : {P : Type 0} (o : Option P) → length (option_items o) ≤ 0 → o ≡ None
 none_of option few = grind (arith, common_steps)
@@ -173,153 +161,122 @@ module _ {K : Type 0} {order : KeyOrder K} (lawful : IsLawful order) {V : Type 0
           });
         }
 
-  module _ {at end : ℕ} {rest beyond : Option (Item (AnyRange K) V)}
-      {start finish : Option (Bound K)}
-      (left : IsLeftSide order lawful same equal items r place w.count [] at rest start)
-      (right : IsRightSide order lawful same equal items r place w.count [] (take at items
-      ++ option_items rest) (with_first_start start []) end beyond finish)
-      (new : List (Item (AnyRange K) V)) (list : new ≡ take at items ++ option_items rest ++ []
-      ++ option_items beyond ++ drop end items) where
-    changed : new ≡ take at items ++ option_items rest ++ with_last_end finish
-        (with_first_start start []) ++ option_items beyond ++ drop end items
-    changed = rw (none_inside start finish) list
-
-    pub removed : IsRemoved order same items new r
-    removed =
-        let change = made left right new changed in
-        let known = known_new left right new changed in
+    pub removed : middle ≡ [] → IsRemoved order same items new r
+    removed empty =
+        let change = rw empty at made in
         let good = range_has_places lawful equal window in
-        let few = few_rests left right new changed in
-        let size = sizes left right new changed in
-        let none = ap length (none_inside {V = V} start finish) in
-        let part = part_of_run left right new changed in
+        let none : Inner ≡ [] = rw empty (none_inside start finish) in
         record {
-          stored = stored_new left right new changed;
+          stored = stored_new;
           unbound = unbound_after order lawful same equal items new r window.known
-              window.stored.known known change;
+              window.stored.known known_new change;
           apart = every_not _ new (λ met. let at = met_range_is_covered order lawful same equal r new
-              window.known good known (chained_items_have_places order lawful same equal new
+              window.known good known_new (chained_items_have_places order lawful same equal new
               change.chain) met in (change.inside at.place (λ u. true)
               (respects_any order lawful same equal) at.from at.upto).0 at.held);
-          frame = framed left right new changed _ (record {
-            concerned = every_run left right new changed _
-                (every_weaker _ _ left.extra (λ i h. absurd (let e = h.1 in grind (arith, common_steps))) left.touched)
+          frame = framed _ (record {
+            concerned = every_run _
+                (every_weaker _ _ left.extra (λ i h. absurd (let e = rw empty at h.1 in grind (arith, common_steps))) left.touched)
                 (all_meet lawful equal window)
-                (every_weaker _ _ right.extra (λ i h. absurd (let e = h.1 in grind (arith, common_steps))) right.touched);
-            few = omega (arith, size, none, few rest left.made, few beyond right.made, one_item rest);
+                (every_weaker _ _ right.extra (λ i h. absurd (let e = rw none at h.1 in grind (arith, common_steps))) right.touched);
+            few = omega (arith, sizes, ap length none, few_rests rest left.made, few_rests beyond right.made, one_item rest);
             whole = λ e. no_length _ (omega (
               arith,
-              size,
-              none,
-              few rest left.made,
-              few beyond right.made,
+              sizes,
+              ap length none,
+              few_rests rest left.made,
+              few_rests beyond right.made,
               ap length e,
             ));
-            made = every_other left right new changed _ (every_weaker _ _ (option_items rest) part left.made)
-                (rw (none_inside start finish) tt) (every_weaker _ _ (option_items beyond) part right.made);
+            made = every_other _ (every_weaker _ _ (option_items rest) part_of_run left.made)
+                (rw none tt) (every_weaker _ _ (option_items beyond) part_of_run right.made);
           });
         }
 
-  module _ (v u : V) {at end : ℕ} {rest beyond : Option (Item (AnyRange K) V)}
-      {start finish : Option (Bound K)} (left : IsLeftSide order lawful same equal items r place
-      w.count (record { key = r; value = u } ∷ []) at rest start)
-      (right : IsRightSide order lawful same equal items r place w.count
-      (record { key = r; value = u } ∷ []) (take at items ++ option_items rest)
-      (with_first_start start (record { key = r; value = u } ∷ [])) end beyond finish)
-      (values : same u v ≡ true) (own_value : w.count ≡ 0 → u ≡ v)
-      (new : List (Item (AnyRange K) V)) (list : new ≡ take at items ++ option_items rest
-      ++ option_items (Some (joined_item (record { key = r; value = u }) start finish))
-      ++ option_items beyond ++ drop end items) where
-    abbrev own : Item (AnyRange K) V
-    own = record { key = r; value = u }
+    module _ (v u : V) (single : middle ≡ record { key = r; value = u } ∷ [])
+        (values : same u v ≡ true) (own_value : w.count ≡ 0 → u ≡ v) where
+      abbrev own : Item (AnyRange K) V
+      own = record { key = r; value = u }
 
-    put : new ≡ take at items ++ option_items rest ++ with_last_end finish
-        (with_first_start start (own ∷ [])) ++ option_items beyond ++ drop end items
-    put = rw (one_inside own start finish) list
+      inner_is : Inner ≡ joined_item own start finish ∷ []
+      inner_is = rw single (one_inside own start finish)
 
-    abbrev Whole : List (Item (AnyRange K) V)
-    Whole = Run left right new put
+      takes_value : (i : Item (AnyRange K) V)
+          → TakesStartOf lawful same r i (with_first_start start middle)
+          ⊎ TakesEndOf lawful same r i Inner → IsTrue (same i.value v)
+      takes_value i h =
+          let t = rw single at h in grind (arith, common_steps, every_started, any_use, every_ended)
 
-    takes_value : (i : Item (AnyRange K) V)
-        → TakesStartOf lawful same r i (with_first_start start (own ∷ []))
-        ⊎ TakesEndOf lawful same r i (with_last_end finish (with_first_start start (own ∷ [])))
-        → IsTrue (same i.value v)
-    takes_value i h = grind (arith, common_steps, every_started, any_use, every_ended)
+      starts_of : (b : Bound K) → start ≡ Some b → Any (λ i. b ≡ i.key.start) Run
+      starts_of b is = any_left _ (left.extra ++ Met) right.extra (left.given b is)
 
-    starts_of : (b : Bound K) → start ≡ Some b → Any (λ i. b ≡ i.key.start) Whole
-    starts_of b is = any_left _ (left.extra ++ Met) right.extra (left.given b is)
+      ends_of : (b : Bound K) → finish ≡ Some b → Any (λ i. b ≡ i.key.end) Run
+      ends_of b is = grind (arith, common_steps, any_right)
 
-    ends_of : (b : Bound K) → finish ≡ Some b → Any (λ i. b ≡ i.key.end) Whole
-    ends_of b is = grind (arith, common_steps, any_right)
+      own_is_new : IsNewItem order same Run r v (joined_item own start finish)
+      own_is_new = grind (arith, common_steps, starts_of, ends_of)
 
-    own_is_new : IsNewItem order same Whole r v (joined_item own start finish)
-    own_is_new = grind (arith, common_steps, given_start, starts_of, given_end, ends_of)
+      no_rest : (o : Option (Item (AnyRange K) V)) → Every (IsPart order same Met r) (option_items o)
+          → Every (λ i. IsTrue (same i.value v)) Run
+          → Every (λ j. same j.value u ≡ true → ⊥) (option_items o) → length (option_items o) ≡ 0
+      no_rest None parts all apart = refl
+      no_rest (Some y) parts all apart = absurd (any_use _ _ Run
+          (in_run _ parts.0.value) all (λ i h k. apart.0
+          (equal.congr y.value i.value u h ∙ (equal.congr i.value v u k ∙ (equal.symm v u ∙ values)))))
 
-    no_rest : (o : Option (Item (AnyRange K) V)) → Every (IsPart order same Met r) (option_items o)
-        → Every (λ i. IsTrue (same i.value v)) Whole
-        → Every (λ j. same j.value u ≡ true → ⊥) (option_items o) → length (option_items o) ≡ 0
-    no_rest None parts all apart = refl
-    no_rest (Some y) parts all apart = absurd (any_use _ _ Whole
-        (in_run left right new put _ parts.0.value) all (λ i h k. apart.0
-        (equal.congr y.value i.value u h ∙ (equal.congr i.value v u k ∙ (equal.symm v u ∙ values)))))
+      new_part : (j : Item (AnyRange K) V) → IsPart order same Met r j → IsNewItem order same Run r v j
+      new_part j h = let wide = part_of_run j h in
+          record { start = wide.start; end = wide.end; value = inr wide.value }
 
-    new_part : (j : Item (AnyRange K) V) → IsPart order same Met r j → IsNewItem order same Whole r v j
-    new_part j h = let wide = part_of_run left right new put j h in
-        record { start = wide.start; end = wide.end; value = inr wide.value }
-
-    pub inserted : IsInserted order same items new r v
-    inserted =
-        let change = made left right new put in
-        let known = known_new left right new put in
-        let good = range_has_places lawful equal window in
-        let few = few_rests left right new put in
-        let size = sizes left right new put in
-        let one = ap length (one_inside own start finish) in
-        let bound : IsBoundTo line items new (lower order r) (upper order r) v = record {
-          chain = change.chain;
-          inside = λ p W alike from upto. through (change.inside p W alike from upto)
-              (held_alone line [] own [] p W v (good, tt) (from, upto) alike values);
-          outside = change.outside;
-        } in
-        record {
-          stored = stored_new left right new put;
-          bound = bound_after order lawful same equal items new r v window.known
-              window.stored.known known bound;
-          frame = framed left right new put _ (record {
-            concerned = every_run left right new put _
-                (every_weaker _ _ left.extra (λ i h. inr (inl h.0, takes_value i (inl h.1))) left.touched)
-                (every_weaker _ _ Met (λ i h. inl h) (all_meet lawful equal window))
-                (every_weaker _ _ right.extra (λ i h. inr (inr h.0, takes_value i (inr h.1))) right.touched);
-            few = omega (arith, size, one, few rest left.made, few beyond right.made, one_item rest);
-            whole = λ e.
-                let no_rest = none_of rest (omega (arith, few rest left.made, ap length e)) in
-                let no_beyond = none_of beyond (omega (arith, few beyond right.made, ap length e)) in
-                let no_start = not_given start (λ b is. rw e at (starts_of b is)) in
-                let no_finish = not_given finish (λ b is. rw e at (ends_of b is)) in
-                let same_value = own_value (omega (
-                  arith,
-                  run_size items place w.count window.in_range,
-                  length-append (left.extra ++ Met) right.extra,
-                  length-append left.extra Met,
-                  ap length e,
-                )) in
-                rw (no_rest, no_beyond, no_start, no_finish, same_value) refl;
-            one = λ all. omega (
-              arith,
-              size,
-              one,
-              no_rest rest left.made all (every_weaker _ _ (option_items rest)
-                  (λ j h. h own refl (le_refl lawful _)) left.apart),
-              no_rest beyond right.made all (every_weaker _ _ (option_items beyond)
-                  (λ j h. h own refl (le_refl lawful _)) right.apart),
-            );
-            made = every_other left right new put _ (every_weaker _ _ (option_items rest) new_part left.made)
-                (rw (one_inside own start finish) (own_is_new, tt))
-                (every_weaker _ _ (option_items beyond) new_part right.made);
-          });
-          meets = meets_bound order lawful same equal items new r v window.stored.known known
-              (stored_chain order lawful same equal items window.stored) window.known good bound;
-        }
+      pub inserted : IsInserted order same items new r v
+      inserted =
+          let change = rw single at made in
+          let good = range_has_places lawful equal window in
+          let bound : IsBoundTo line items new (lower order r) (upper order r) v = record {
+            chain = change.chain;
+            inside = λ p W alike from upto. through (change.inside p W alike from upto)
+                (held_alone line [] own [] p W v (good, tt) (from, upto) alike values);
+            outside = change.outside;
+          } in
+          record {
+            stored = stored_new;
+            bound = bound_after order lawful same equal items new r v window.known
+                window.stored.known known_new bound;
+            frame = framed _ (record {
+              concerned = every_run _
+                  (every_weaker _ _ left.extra (λ i h. inr (inl h.0, takes_value i (inl h.1))) left.touched)
+                  (every_weaker _ _ Met (λ i h. inl h) (all_meet lawful equal window))
+                  (every_weaker _ _ right.extra (λ i h. inr (inr h.0, takes_value i (inr h.1))) right.touched);
+              few = omega (arith, sizes, ap length inner_is, few_rests rest left.made, few_rests beyond right.made, one_item rest);
+              whole = λ e.
+                  let no_rest = none_of rest (omega (arith, few_rests rest left.made, ap length e)) in
+                  let no_beyond = none_of beyond (omega (arith, few_rests beyond right.made, ap length e)) in
+                  let no_start = not_given start (λ b is. rw e at (starts_of b is)) in
+                  let no_finish = not_given finish (λ b is. rw e at (ends_of b is)) in
+                  let same_value = own_value (omega (
+                    arith,
+                    run_size items place w.count window.in_range,
+                    length-append (left.extra ++ Met) right.extra,
+                    length-append left.extra Met,
+                    ap length e,
+                  )) in
+                  rw (single, no_rest, no_beyond, no_start, no_finish, same_value) refl;
+              one = λ all. omega (
+                arith,
+                sizes,
+                ap length inner_is,
+                no_rest rest left.made all (every_weaker _ _ (option_items rest)
+                    (λ j h. h own (ap (λ ys. slice_get ys 0) single) (le_refl lawful _)) left.apart),
+                no_rest beyond right.made all (every_weaker _ _ (option_items beyond)
+                    (λ j h. h own (ap (λ ys. slice_get ys (length ys - 1)) single) (le_refl lawful _)) right.apart),
+              );
+              made = every_other _ (every_weaker _ _ (option_items rest) new_part left.made)
+                  (rw inner_is (own_is_new, tt))
+                  (every_weaker _ _ (option_items beyond) new_part right.made);
+            });
+            meets = meets_bound order lawful same equal items new r v window.stored.known known_new
+                (stored_chain order lawful same equal items window.stored) window.known good bound;
+          }
 
   -- a range that meets nothing is unbound
   pub unmet_is_unbound : w.count ≡ 0 → IsRemoved order same items items r
@@ -328,7 +285,7 @@ module _ {K : Type 0} {order : KeyOrder K} (lawful : IsLawful order) {V : Type 0
       let left = left_side_whole lawful equal window nothing tt
       (λ x some read. absurd (omega (arith, some, none))) (λ m is. absurd (cc)) in
       removed left (right_side_whole lawful equal window nothing tt left
-      (λ x some read. absurd (omega (arith, some, none))) (λ m is. absurd (cc))) items (grind (arith, common_steps))
+      (λ x some read. absurd (omega (arith, some, none))) (λ m is. absurd (cc))) items (grind (arith, common_steps)) refl
 
   -- an empty window leaves no item that meets the range
   pub none_meets : w.count ≡ 0 → Every (λ i. Overlap order i.key r → ⊥) items
@@ -341,14 +298,15 @@ module _ {K : Type 0} {order : KeyOrder K} (lawful : IsLawful order) {V : Type 0
       → new ≡ insert items place (record { key = r; value = v }) → IsInserted order same items new r v
   put_between v none before after new put =
       let own : Item (AnyRange K) V = record { key = r; value = v } in
-      let stored = own_stored lawful equal v window.known window.nonempty in
+      let stored : IsStored order same (own ∷ []) = own_stored lawful equal v window.known window.nonempty in
       let within = own_within lawful equal r v in
       let end : place + w.count ≡ place = omega (arith, none) in
       let left = left_side_whole lawful equal window stored within
       (λ x some read. absurd (omega (arith, some, none)))
       (λ m is le. let item : own ≡ m = cc in rw (← item) before) in
-      inserted v v left (right_side_whole lawful equal window stored within left
+      inserted left (right_side_whole lawful equal window stored within left
       (λ x some read. absurd (omega (arith, some, none)))
-      (λ m is le. let item : own ≡ m = cc in rw (← item) after)) (equal.refl v) (λ e. refl) new
+      (λ m is le. let item : own ≡ m = cc in rw (← item) after)) new
       (rw (end, append-nil (take place items), append-nil (take place items ++ own ∷ [])) (put ∙ sym
-      (append_assoc (take place items) (own ∷ []) (drop place items))))
+      (append_assoc (take place items) (own ∷ []) (drop place items)))) v v refl (equal.refl v)
+      (λ e. refl)

@@ -7,6 +7,7 @@ use Rattle.range_runs.proofs.Sewn.{IsSewn, leading_by, leading_last, sewn_apart,
 use Rattle.range_runs.proofs.Forms.{places, nonempty_good, Known, Chained, stored_chain, every_front, every_back, touches_is}
 use Rattle.range_runs.proofs.CutParts.{cut_end, cut_start}
 use Rattle.range_runs.proofs.Extents.{past_le}
+use Rattle.range_edit.specs.Plans.{IsJoinedLeft, IsJoinedRight}
 use Rattle.range_edit.proofs.InsertionFrames.{any_of_run}
 use Rattle.range_edit.proofs.OuterBounds.{ending, regrouped_last, started_last, with_last}
 use Rattle.range_runs.proofs.RangePieces.{any_over, every_with}
@@ -147,20 +148,7 @@ module _ {K : Type 0} {order : KeyOrder K} (lawful : IsLawful order) {V : Type 0
         (λ i h. le_trans lawful _ _ _ h.0 (last_starts x read some)) before)
         (reach x some read, tt))
 
-    -- what is left of the first item of a window and of the last is a part of one of the run
-    left_part : (x : Item (AnyRange K) V) → x ≡ get_or items place x → 0 < w.count → (b : Bound K)
-        → SameBound order (flipped_bound r.start) b
-        → IsPart order same (take w.count (drop place items)) r (with_end x b)
-    left_part x here some b same_b =
-        let plus : place ≡ place + 0 = omega arith in
-        let met = λ (Q : Item (AnyRange K) V → Type 0) (h : Q x). any_of_run Q items place w.count 0
-        x window.in_range some (here ∙ ap (λ n. get_or items n x) plus) h in
-        record {
-          start = inr (inl (met (λ i. x.key.start ≡ i.key.start) refl));
-          end = inr (inr same_b);
-          value = met (λ i. IsTrue (same x.value i.value)) (equal.refl x.value);
-        }
-
+    -- what holds of the last item of a window holds of one of the run
     last_met : (x : Item (AnyRange K) V) → x ≡ get_or items (place + w.count - 1) x → 0 < w.count
         → (Q : Item (AnyRange K) V → Type 0) → Q x → Any Q (take w.count (drop place items))
     last_met x here some Q h =
@@ -175,9 +163,6 @@ module _ {K : Type 0} {order : KeyOrder K} (lawful : IsLawful order) {V : Type 0
 
       inner : Chained order lawful same equal middle
       inner = stored_chain order lawful same equal middle others
-
-      inner_starts : Every (λ i. PLe lawful (lower order r) (item_lower order i)) middle
-      inner_starts = every_weaker _ _ middle (λ i h. h.starts) within
 
       inner_ends : Every (λ i. PLe lawful (item_upper order i) (upper order r)) middle
       inner_ends = grind (arith, common_steps, every_with, past_le)
@@ -196,7 +181,7 @@ module _ {K : Type 0} {order : KeyOrder K} (lawful : IsLawful order) {V : Type 0
           record {
             sewn = sewn_apart line items middle front middle (lower order r) left (record {
               chain = inner;
-              starts = inner_starts;
+              starts = every_weaker _ _ middle (λ i h. h.starts) within;
               holds = λ p W alike l. (λ h. h, λ h. h);
             }) (λ m ms is. leads m (rw is refl));
             known = every_append _ front middle (every_append _ (take place items)
@@ -230,16 +215,25 @@ module _ {K : Type 0} {order : KeyOrder K} (lawful : IsLawful order) {V : Type 0
           (cut_end order lawful x.key.start r.start b known_x.0 starts cut.1)
           (equal.refl x.value)) in
           let ends = every_right _ (take place items) (y ∷ []) left.ends in
-          left_apart (Some y) left ((known_x.0, cut.0), tt) (left_part x read some b cut.1, tt)
+          let plus : place ≡ place + 0 = omega arith in
+          let met = λ (Q : Item (AnyRange K) V → Type 0) (h : Q x). any_of_run Q items place w.count 0
+          x window.in_range some (read ∙ ap (λ n. get_or items n x) plus) h in
+          left_apart (Some y) left ((known_x.0, cut.0), tt) (
+            record {
+              start = inr (inl (met (λ i. x.key.start ≡ i.key.start) refl));
+              end = inr (inr cut.1);
+              value = met (λ i. IsTrue (same x.value i.value)) (equal.refl x.value);
+            },
+            tt,
+          )
           (λ m is le. leading_last line (take place items) y (lower order r) m.value left.chain
           (ends.0, λ k. apart m is le)) (apart, tt)
 
       -- no item of the window starts before it
       pub left_side_whole : ReachesBefore order is_good rank items r place w.count None
           → ((m : Item (AnyRange K) V) → slice_get middle 0 ≡ Some m
-          → PLe lawful (item_lower order m) (lower order r) → (d : Item (AnyRange K) V) → 0 < place
-          → PLe lawful (lower order r) (item_upper order (get_or items (place - 1) d))
-          → same (get_or items (place - 1) d).value m.value ≡ true → ⊥) → LeftSide place None None
+          → PLe lawful (item_lower order m) (lower order r)
+          → IsJoinedLeft order same is_good rank items r m.value place None) → LeftSide place None None
       left_side_whole reach apart =
           let parts = list_is_take_and_drop items place in
           let front = take place items in
@@ -336,31 +330,15 @@ module _ {K : Type 0} {order : KeyOrder K} (lawful : IsLawful order) {V : Type 0
         RightSide = IsRightSide order lawful same equal items r place w.count middle Front Body
 
         -- another start leaves the last item its end and its value
-        record IsLast (m : Item (AnyRange K) V) : Type 0 where
-          more : List (Item (AnyRange K) V)
-          z : Item (AnyRange K) V
-          body : Body ≡ more ++ z ∷ []
-          whole : Front ++ Body ≡ (Front ++ more) ++ z ∷ []
-          same_end : z.key.end ≡ m.key.end
-          same_value : z.value ≡ m.value
-          chain : Chained order lawful same equal ((Front ++ more) ++ z ∷ [])
-
         last_is : (init : List (Item (AnyRange K) V)) (m : Item (AnyRange K) V)
-            → middle ≡ init ++ m ∷ [] → IsLast m
+            → middle ≡ init ++ m ∷ [] → (more : List (Item (AnyRange K) V))
+            × (z : Item (AnyRange K) V) × (Body ≡ more ++ z ∷ [])
+            × (Front ++ Body ≡ (Front ++ more) ++ z ∷ []) × (z.key.end ≡ m.key.end)
+            × (z.value ≡ m.value)
         last_is init m list =
-            let (more, z, body, end, value) = started_last start init m in
+            let (more, z, body, same_end, same_value) = started_last start init m in
             let all : Body ≡ more ++ z ∷ [] = ap (with_first_start start) list ∙ body in
-            let whole : Front ++ Body ≡ (Front ++ more) ++ z ∷ [] =
-            ap (λ ys. Front ++ ys) all ∙ sym (append_assoc Front more (z ∷ [])) in
-            record {
-              more = more;
-              z = z;
-              body = all;
-              whole = whole;
-              same_end = end;
-              same_value = value;
-              chain = rw whole at left.sewn.chain;
-            }
+            (more, z, all, ap (λ ys. Front ++ ys) all ∙ sym (append_assoc Front more (z ∷ [])), same_end, same_value)
 
         -- what stands there leads to the end of the range, if its last item does
         body_leads : (v : V) → EndsApart lawful same r middle v
@@ -370,10 +348,10 @@ module _ {K : Type 0} {order : KeyOrder K} (lawful : IsLawful order) {V : Type 0
               (λ i h. strictly_leads line i (upper order r) v (le_lt_trans lawful _ _ _ h
               range_has_places)) (left.ends (lower order r) (le_refl lawful _) (rw none tt))
           | inr (init, m, list, last) ↦
-              let s = last_is init m list in
+              let (more, z, body, whole, same_end, same_value) = last_is init m list in
               let ends = every_right _ init (m ∷ []) (rw list at inner_ends) in
-              rw s.whole (leading_last line (Front ++ s.more) s.z (upper order r) v s.chain
-              (rw (s.same_end, s.same_value) (
+              rw whole (leading_last line (Front ++ more) z (upper order r) v (rw whole at left.sewn.chain)
+              (rw (same_end, same_value) (
                 ends.0,
                 λ on t. apart m last on
                     (same_is_symmetric line m.value v t),
@@ -448,11 +426,9 @@ module _ {K : Type 0} {order : KeyOrder K} (lawful : IsLawful order) {V : Type 0
         -- no item of the window ends after it
         pub right_side_whole : ReachesAfter order is_good rank items r place w.count None
             → ((m : Item (AnyRange K) V) → slice_get middle (length middle - 1) ≡ Some m
-            → PLe lawful (upper order r) (item_upper order m) → (d : Item (AnyRange K) V)
-            → place + w.count < length items
-            → PLe lawful (item_lower order (get_or items (place + w.count) d)) (upper order r)
-            → same (get_or items (place + w.count) d).value m.value ≡ true → ⊥) → RightSide
-            (place + w.count) None None
+            → PLe lawful (upper order r) (item_upper order m)
+            → IsJoinedRight order same is_good rank items r m.value (place + w.count) None)
+            → RightSide (place + w.count) None None
         right_side_whole reach apart =
             let end = place + w.count in
             let parts = list_is_take_and_drop items end in
@@ -512,36 +488,36 @@ module _ {K : Type 0} {order : KeyOrder K} (lawful : IsLawful order) {V : Type 0
             let behind = drop (n + 1) items in
             let split = listed_at items n x inside read in
             let known_x = known_at n x inside read in
-            let s = last_is init m list in
-            let z = s.z in
+            let (more, z, body, whole, same_end, same_value) = last_is init m list in
+            let chain = rw whole at left.sewn.chain in
             let y = with_end z x.key.end in
-            let body_end : with_last_end (Some x.key.end) Body ≡ s.more ++ y ∷ [] =
-            ap (with_last_end (Some x.key.end)) s.body ∙ with_last (Some x.key.end) s.more z in
+            let body_end : with_last_end (Some x.key.end) Body ≡ more ++ y ∷ [] =
+            ap (with_last_end (Some x.key.end)) body ∙ with_last x.key.end more z in
             let new : (Front ++ with_last_end (Some x.key.end) Body) ++ behind
-            ≡ (Front ++ s.more) ++ y ∷ behind = ap (λ ys. (Front ++ ys) ++ behind) body_end ∙
-            regrouped_last Front s.more behind y in
-            let full = (chain_right line (Front ++ s.more) (z ∷ []) s.chain).0 in
+            ≡ (Front ++ more) ++ y ∷ behind = ap (λ ys. (Front ++ ys) ++ behind) body_end ∙
+            regrouped_last Front more behind y in
+            let full = (chain_right line (Front ++ more) (z ∷ []) chain).0 in
             let z_ends : places order lawful (item_upper order z) (upper order r) ≡ Equal =
-            rw s.same_end ends in
+            rw same_end ends in
             let under = lt_le_trans lawful _ _ _ full (eq_le lawful _ _ z_ends) in
             let crosses = lt_le_trans lawful _ _ _ range_has_places (lt_le lawful _ _ over) in
-            let values : same x.value z.value ≡ true = rw s.same_value alike in
-            let all = rw s.whole at left.known in
-            let known_z = every_right _ (Front ++ s.more) (z ∷ []) all in
+            let values : same x.value z.value ≡ true = rw same_value alike in
+            let all = rw whole at left.known in
+            let known_z = every_right _ (Front ++ more) (z ∷ []) all in
             let extra = extra_after last n x at inside read reaches after in
             let end_of : TakesEndOf lawful same r x (with_last_end (Some x.key.end) Body) =
-            rw body_end (any_right _ s.more (y ∷ []) (inl (refl, (under, crosses), values))) in
+            rw body_end (any_right _ more (y ∷ []) (inl (refl, (under, crosses), values))) in
             record {
               in_range = omega (arith, inside);
-              sewn = rw (s.whole, new) (subst (λ ys. IsSewn line ((Front ++ s.more) ++ z ∷ []) ys
-                  ((Front ++ s.more) ++ y ∷ behind) (upper order r)) (sym split)
-                  (sewn_joined line (Front ++ s.more) [] (take n items) behind z x y (upper order r)
-                  s.chain (rw split at in_order) (lt_le lawful _ _ under) (eq_ge lawful _ _ z_ends)
+              sewn = rw (whole, new) (subst (λ ys. IsSewn line ((Front ++ more) ++ z ∷ []) ys
+                  ((Front ++ more) ++ y ∷ behind) (upper order r)) (sym split)
+                  (sewn_joined line (Front ++ more) [] (take n items) behind z x y (upper order r)
+                  chain (rw split at in_order) (lt_le lawful _ _ under) (eq_ge lawful _ _ z_ends)
                   reaches over (tied_itself total (item_lower order z))
                   (tied_itself total (item_upper order x)) (equal.refl z.value)
                   (same_is_symmetric line x.value z.value values)));
-              known = rw new (every_append _ (Front ++ s.more) (y ∷ behind)
-                  (every_left _ (Front ++ s.more) (z ∷ []) all)
+              known = rw new (every_append _ (Front ++ more) (y ∷ behind)
+                  (every_left _ (Front ++ more) (z ∷ []) all)
                   ((known_z.0.0, known_x.1), every_back _ (n + 1) items window.stored.known));
               extra = extra.0;
               split = extra.1;

@@ -1,5 +1,5 @@
 -- What is planned on both sides of a range for a list that comes to stand there.
-use Rattle.range_edit.proofs.Common.{Bor, option_copied, common_steps, ◌≡◌, ℕ, ◌+◌, ◌-◌, ◌<◌, ◌≤◌, inl, inr, List, [], ◌∷◌, ◌++◌, length, take, get_or, refl, ap, ◌∙◌, arith, Option, Some, None, Bool, true, slice_get, IsEquivalence, tied_itself, position_total, Bound, KeyOrder, IsLawful, AnyRange, IsAt, Item, joined_count, IsLeftShape, IsRightShape, right_side, IsRunStart, IsReach, IsWindow, IsStored, IsKnownBound, SameBound, flipped_bound, seam_border, option_items, Border, Window, AreWithin, ReachesBefore, ReachesAfter, with_start, with_end, with_first_start, lower, upper, item_lower, item_upper, PLe, lt_not_le}
+use Rattle.range_edit.proofs.Common.{Bor, option_copied, common_steps, ◌≡◌, ℕ, ◌+◌, ◌-◌, ◌<◌, ◌≤◌, inl, inr, List, [], ◌∷◌, ◌++◌, length, take, refl, ap, ◌∙◌, arith, Option, Some, None, Bool, slice_get, IsEquivalence, tied_itself, position_total, Bound, KeyOrder, IsLawful, AnyRange, IsAt, Item, joined_count, IsLeftShape, IsRightShape, right_side, IsRunStart, IsReach, IsWindow, IsStored, IsKnownBound, SameBound, flipped_bound, seam_border, option_items, Border, Window, AreWithin, ReachesBefore, ReachesAfter, with_start, with_end, with_first_start, lower, upper, item_lower, item_upper, PLe, lt_not_le}
 use Rattle.range_edit.specs.declared.borders.Joins.{Joins}
 use Rattle.range_edit.specs.declared.reach.Reach.{Reach}
 use Rattle.range_edit.specs.Borders.{IsSeamAt, run_length}
@@ -24,10 +24,6 @@ first_of : {X : Type 0} (xs : List X) (m : X) → slice_get xs 0 ≡ Some m
     → (ms : List X) × (xs ≡ m ∷ ms)
 first_of [] m is = absurd (cc)
 first_of (x ∷ xs) m is = (xs, cc)
-
-none_got : {X : Type 0} (xs : List X) (n : ℕ) (m : X) → xs ≡ [] → slice_get xs n ≡ Some m → ⊥
-none_got [] n m none is = cc
-none_got (x ∷ xs) n m none is = cc
 
 -- only an item that joins gives way beyond the window
 pub seam_count : {K P : Type 0} (joined reaching : Option P) (b : Bound K)
@@ -82,20 +78,16 @@ module _ {K : Type 0} {order : KeyOrder K} (lawful : IsLawful order) {V : Type 0
     parted_before : {n : ℕ} {next : Option (Item (AnyRange K) V)}
         → IsFirstSeam order same is_good rank items r n next None → (m : Item (AnyRange K) V)
         → next ≡ Some m → PLe lawful (item_lower order m) (lower order r)
-        → (d : Item (AnyRange K) V) → 0 < n
-        → PLe lawful (lower order r) (item_upper order (get_or items (n - 1) d))
-        → same (get_or items (n - 1) d).value m.value ≡ true → ⊥
-    parted_before (inl (i, at, starts, none)) m is le d = let item : i ≡ m = cc in rw item at (none d)
-    parted_before (inr (later, at)) m is le d = λ some on t. lt_not_le lawful _ _ (later m is) le
+        → IsJoinedLeft order same is_good rank items r m.value n None
+    parted_before (inl (i, at, starts, none)) m is le = let item : i ≡ m = cc in rw item at none
+    parted_before (inr (later, at)) m is le = λ d some on t. lt_not_le lawful _ _ (later m is) le
 
     parted_after : {n : ℕ} {previous : Option (Item (AnyRange K) V)}
         → IsLastSeam order same is_good rank items r n previous None → (m : Item (AnyRange K) V)
         → previous ≡ Some m → PLe lawful (upper order r) (item_upper order m)
-        → (d : Item (AnyRange K) V) → n < length items
-        → PLe lawful (item_lower order (get_or items n d)) (upper order r)
-        → same (get_or items n d).value m.value ≡ true → ⊥
-    parted_after (inl (i, at, ends, none)) m is le d = let item : i ≡ m = cc in rw item at (none d)
-    parted_after (inr (earlier, at)) m is le d = λ some on t. lt_not_le lawful _ _ (earlier m is) le
+        → IsJoinedRight order same is_good rank items r m.value n None
+    parted_after (inl (i, at, ends, none)) m is le = let item : i ≡ m = cc in rw item at none
+    parted_after (inr (earlier, at)) m is le = λ d some on t. lt_not_le lawful _ _ (earlier m is) le
 
     left_plan : (first found from : Option P) (b : Bound K)
         → ReachesBefore order is_good rank items r place w.count first
@@ -153,10 +145,6 @@ module _ {K : Type 0} {order : KeyOrder K} (lawful : IsLawful order) {V : Type 0
           begins = omega arith;
         }
 
-    few_last : (last : Option P) → ReachesAfter order is_good rank items r place w.count last
-        → length (option_items last) ≤ w.count
-    few_last option after = grind (arith, common_steps)
-
     right_plan : (front : List (Item (AnyRange K) V)) {at : ℕ}
         {rest : Option (Item (AnyRange K) V)} {start : Option (Bound K)}
         → IsLeftSide order lawful same equal items r place w.count middle at rest start
@@ -175,9 +163,9 @@ module _ {K : Type 0} {order : KeyOrder K} (lawful : IsLawful order) {V : Type 0
         let x = element_at items (rank q) inside in
         let read = element_at_is_read items (rank q) inside x in
         let (reaches, over, alike) = rw (← read) at (joins x) in
-        let few = few_last last after in
+        let few : length (option_items last) ≤ w.count = grind (arith, common_steps, after) in
         elim (ending middle) [
-          | inl none ↦ absurd (none_got middle (length middle - 1) m none is)
+          | inl none ↦ absurd (let e = rw none at is in cc)
           | inr (init, z, list, there) ↦
               let item : z ≡ m = cc in
               record {

@@ -1,12 +1,12 @@
 -- That what a change puts in the place of a range is spelled as what it replaces.
-use Rattle.range_edit.proofs.Common.{common_steps, ◌≡◌, BorderSide, IsBorderShape, left_side, right_side, with_start, with_end, sym, ap, subst, ◌∙◌, ℕ, ◌+◌, ◌-◌, ◌<◌, arith, Option, Some, Bool, List, ◌∷◌, ◌++◌, inl, inr, length, get_or, take, drop, IsEquivalence, Every, Bound, KeyOrder, IsLawful, AnyRange, same_itself, lower, upper, lt_le, eq_le, eq_ge, lt_not_le, lt_trans, PLt, IsKnownRange, every_weaker, every_append, every_left, every_right, list_is_take_and_drop, reaching_is_before_past, Item, IsInserted, IsRemoved, seam_border, flipped_bound, IsStartOf, IsEndOf, IsNewItem, IsPart, IsReach, IsSurrounded, with_first_start, with_last_end, IsStartAsIn, IsEndAsIn, IsSpelledAsIn, KeepsSpelling, IsStored, item_lower, option_items, Window}
+use Rattle.range_edit.proofs.Common.{common_steps, ◌≡◌, BorderSide, IsBorderShape, left_side, right_side, with_start, with_end, sym, ap, subst, ◌∙◌, ℕ, ◌+◌, ◌-◌, ◌<◌, arith, Option, Some, Bool, List, ◌∷◌, ◌++◌, inl, inr, length, get_or, take, drop, IsEquivalence, Every, Bound, KeyOrder, IsLawful, AnyRange, same_itself, lower, upper, lt_le, eq_le, lt_not_le, lt_trans, PLt, IsKnownRange, every_weaker, every_append, every_left, every_right, list_is_take_and_drop, reaching_is_before_past, Item, IsInserted, IsRemoved, seam_border, flipped_bound, IsStartOf, IsEndOf, IsReach, IsSpliceFrame, IsSurrounded, with_first_start, with_last_end, IsStartAsIn, IsEndAsIn, IsSpelledAsIn, KeepsSpelling, IsStored, item_lower, option_items, Window}
 use Rattle.std.proofs.lemmas.Option.{same_Some}
 use Rattle.range_edit.specs.declared.reach.Reach.{Reach}
 use Rattle.range_runs.proofs.RangePieces.{any_use, item_at}
 use Rattle.range_runs.proofs.ItemPlaces.{listed_at, from_item}
 use Rattle.range_runs.proofs.Extents.{past_le, end_le}
 use Rattle.range_runs.proofs.Forms.{Known, Chained, stored_chain, nonempty_good}
-use Rattle.range_runs.proofs.Spelling.{StartSide, EndSide, own_spelling, within_is_kept, cut_end_is_kept, cut_start_is_kept}
+use Rattle.range_runs.proofs.Spelling.{StartSide, EndSide, own_spelling, common_is_kept, within_is_kept, cut_end_is_kept, cut_start_is_kept}
 use Rattle.range_edit.proofs.OuterBounds.{every_started, every_ended}
 use Rattle.range_edit.proofs.SidePlans.{IsPlan}
 
@@ -111,82 +111,69 @@ module _ {K : Type 0} {order : KeyOrder K} (lawful : IsLawful order) {V : Type 0
     here : x ≡ get_or items place x
     here = read ∙ ap (λ n. get_or items n x) within.here
 
-    is_listed : place < length items
-    is_listed = omega (arith, within.window.in_range, within.one)
-
     list : items ≡ take place items ++ x ∷ drop (place + 1) items
-    list = listed_at items place x is_listed here
-
-    known_x : IsKnownRange order x.key
-    known_x = item_at (λ i. IsKnownRange order i.key) items place x known is_listed here
+    list = listed_at items place x (omega (arith, within.window.in_range, within.one)) here
 
     some : PLt lawful (lower order r) (upper order r)
     some = (nonempty_good order lawful r within.window.known).0 within.window.nonempty
 
-    starts : PLt lawful (lower order x.key) (lower order r)
-    starts = within.starts x here
-
-    ends : PLt lawful (upper order r) (upper order x.key)
-    ends = within.ends x here
-
     starts_before_end : PLt lawful (lower order x.key) (upper order r)
-    starts_before_end = lt_trans lawful _ _ _ starts some
+    starts_before_end = lt_trans lawful _ _ _ (within.starts x here) some
 
     ends_after_start : PLt lawful (lower order r) (upper order x.key)
-    ends_after_start = lt_trans lawful _ _ _ some ends
-
-    start_within : IsStartAsIn order items r.start
-    start_within =
-        within_is_kept lawful equal items known chain (take place items) (drop (place + 1) items) x
-        list StartSide r.start r.start (same_itself order lawful r.start) (grind (arith, common_steps, lt_le, starts, reaching_is_before_past, known_x, ends_after_start)) (λ e. absurd (lt_not_le lawful _ _ starts (eq_ge lawful _ _ e)))
-
-    end_within : IsEndAsIn order items r.end
-    end_within =
-        let known_r = within.window.known in
-        within_is_kept lawful equal items known chain (take place items)
-        (drop (place + 1) items) x list EndSide r.end r.end (same_itself order lawful r.end) (grind (arith, common_steps, reaching_is_before_past, known_x, starts_before_end, end_le, lt_le, ends)) (λ e. absurd (lt_not_le lawful _ _ ends
-        (past_le order lawful x.key.end r.end known_x.1 known_r.1 (eq_le lawful _ _ e))))
+    ends_after_start = lt_trans lawful _ _ _ some (within.ends x here)
 
     module _ (run : List (Item (AnyRange K) V)) (all : KeepsSpelling order items run)
         (b : Bound K) where
       start_of : IsStartOf order run r b → IsStartAsIn order items b
-      start_of (inl is) = subst (IsStartAsIn order items) (sym is) start_within
+      start_of (inl is) = rw is (common_is_kept lawful equal items known chain (take place items)
+          (drop (place + 1) items) x list r within.window.known starts_before_end ends_after_start
+          StartSide r.start (rw (within.starts x here) (same_itself order lawful r.start)))
       start_of (inr (inl one)) = any_use (λ i. b ≡ i.key.start) IsSpelled run one all
           (λ i is s. subst (IsStartAsIn order items) (sym is) s.0)
       start_of (inr (inr turned)) =
           cut_start_is_kept lawful equal items known chain (take place items)
-          (drop (place + 1) items) x list r within.window.known starts_before_end ends b turned
+          (drop (place + 1) items) x list r within.window.known starts_before_end
+          (within.ends x here) b turned
 
       end_of : IsEndOf order run r b → IsEndAsIn order items b
-      end_of (inl is) = subst (IsEndAsIn order items) (sym is) end_within
+      end_of (inl is) =
+          let known_x = item_at (λ i. IsKnownRange order i.key) items place x known
+          (omega (arith, within.window.in_range, within.one)) here in
+          let ends = within.ends x here in
+          rw is (within_is_kept lawful equal items known chain (take place items)
+          (drop (place + 1) items) x list EndSide r.end r.end (same_itself order lawful r.end)
+          (grind (arith, common_steps, reaching_is_before_past, known_x, starts_before_end, end_le, lt_le, ends))
+          (λ e. absurd (lt_not_le lawful _ _ ends (past_le order lawful x.key.end r.end known_x.1
+          within.window.known.1 (eq_le lawful _ _ e)))))
       end_of (inr (inl one)) = any_use (λ i. b ≡ i.key.end) IsSpelled run one all
           (λ i is s. subst (IsEndAsIn order items) (sym is) s.1)
       end_of (inr (inr turned)) = cut_end_is_kept lawful equal items known chain (take place items)
-          (drop (place + 1) items) x list r within.window.known starts ends_after_start b turned
+          (drop (place + 1) items) x list r within.window.known
+          (within.starts x here) ends_after_start b turned
 
-    run_keeps_spelling : (new front run others behind : List (Item (AnyRange K) V))
-        → items ≡ front ++ run ++ behind → new ≡ front ++ others ++ behind
-        → Every (λ j. IsStartOf order run r j.key.start × IsEndOf order run r j.key.end) others
-        → KeepsSpelling order items new
-    run_keeps_spelling new front run others behind before after made =
-        let all = subst (KeepsSpelling order items) before list_keeps_spelling in
-        let left = every_left IsSpelled (front ++ run) behind all in
+    run_keeps_spelling : {new : List (Item (AnyRange K) V)}
+        {Way : List (Item (AnyRange K) V) → List (Item (AnyRange K) V) → Type 0}
+        (frame : IsSpliceFrame items new Way) → Every (λ j. IsStartOf order frame.run r j.key.start
+        × IsEndOf order frame.run r j.key.end) frame.others → KeepsSpelling order items new
+    run_keeps_spelling frame made =
+        let front = frame.front in
+        let run = frame.run in
+        let all = subst (KeepsSpelling order items) frame.before list_keeps_spelling in
+        let left = every_left IsSpelled (front ++ run) frame.behind all in
         let met = every_right IsSpelled front run left in
-        rw after (every_append IsSpelled (front ++ others) behind
-        (every_append IsSpelled front others (every_left IsSpelled front run left)
-        (every_weaker (λ j. IsStartOf order run r j.key.start × IsEndOf order run r j.key.end)
-        IsSpelled others (λ j t. (start_of run met j.key.start t.0, end_of run met j.key.end t.1))
-        made)) (every_right IsSpelled (front ++ run) behind all))
+        rw frame.after (every_append IsSpelled (front ++ frame.others) frame.behind
+        (every_append IsSpelled front frame.others (every_left IsSpelled front run left)
+        (every_weaker _ IsSpelled frame.others
+        (λ j t. (start_of run met j.key.start t.0, end_of run met j.key.end t.1))
+        made)) (every_right IsSpelled (front ++ run) frame.behind all))
 
     pub inserted_keeps_spelling : {new : List (Item (AnyRange K) V)} {v : V}
         → IsInserted order same items new r v → KeepsSpelling order items new
-    inserted_keeps_spelling {new} {v} h = run_keeps_spelling new h.frame.front h.frame.run
-        h.frame.others h.frame.behind h.frame.before h.frame.after
-        (every_weaker (IsNewItem order same h.frame.run r v) _ h.frame.others
-        (λ j t. (t.start, t.end)) h.frame.such.made)
+    inserted_keeps_spelling h = run_keeps_spelling h.frame
+        (every_weaker _ _ h.frame.others (λ j t. (t.start, t.end)) h.frame.such.made)
 
     pub removed_keeps_spelling : {new : List (Item (AnyRange K) V)}
         → IsRemoved order same items new r → KeepsSpelling order items new
-    removed_keeps_spelling {new} h = run_keeps_spelling new h.frame.front h.frame.run h.frame.others
-        h.frame.behind h.frame.before h.frame.after (every_weaker (IsPart order same h.frame.run r)
-        _ h.frame.others (λ j t. (t.start, t.end)) h.frame.such.made)
+    removed_keeps_spelling h = run_keeps_spelling h.frame
+        (every_weaker _ _ h.frame.others (λ j t. (t.start, t.end)) h.frame.such.made)

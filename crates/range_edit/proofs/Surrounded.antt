@@ -1,5 +1,5 @@
 -- What becomes of the one item that a range meets where it surrounds the range.
-use Rattle.range_edit.proofs.Common.{AnswersPiece, AnyRange, ArePieces, Bool, Bor, Every, IsCommonPart, start_position, inl, IsConnectedTo, IsDivided, IsEquivalence, IsInserted, IsKnownBound, IsLawful, IsReach, IsRemoved, IsStored, IsSurrounded, IsTrue, Item, KeyOrder, List, MayAnswer, None, Option, Overlap, PLe, PLt, ReachesAfter, ReachesBefore, Result, SameBound, Shared, Some, Window, [], ap, arith, both, common_steps, drop, end_position, every_append, every_left, every_right, false, flipped_bound, get_or, is_gt, item_lower, item_upper, le_lt_trans, le_refl, length, line_of, lower, lt_le, lt_le_trans, lt_trans, option_items, position_cmp, position_total, refl, subst, sym, take, tied_itself, true, upper, with_end, ℕ, ◌++◌, ◌+◌, ◌-◌, ◌<◌, ◌∙◌, ◌∷◌, ◌≡◌}
+use Rattle.range_edit.proofs.Common.{AnswersPiece, AnyRange, ArePieces, Bool, Bor, Every, IsCommonPart, start_position, inl, IsConnectedTo, IsDivided, IsEquivalence, IsInserted, IsKnownBound, IsLawful, IsReach, IsRemoved, IsStored, IsSurrounded, IsTrue, Item, KeyOrder, List, MayAnswer, None, Option, Overlap, PLe, PLt, ReachesAfter, ReachesBefore, Result, SameBound, Shared, Some, Window, [], ap, arith, both, common_steps, drop, end_position, every_append, every_left, every_right, false, flipped_bound, get_or, is_gt, le_lt_trans, le_refl, length, line_of, lower, lt_le, lt_le_trans, lt_trans, option_items, position_cmp, position_total, refl, subst, sym, take, tied_itself, true, upper, with_end, ℕ, ◌++◌, ◌+◌, ◌-◌, ◌<◌, ◌∙◌, ◌∷◌, ◌≡◌}
 use Rattle.range_edit.specs.declared.cut.DividedItem.{DividedItem}
 use Rattle.range_edit.specs.declared.reach.Reach.{Reach}
 use Rattle.range_runs.proofs.RangePieces.{IsFull, all_full, cut_all, earlier_under, either_choice_holds, every_with, item_at, later_over}
@@ -63,9 +63,8 @@ module _ {K : Type 0} {order : KeyOrder K} (lawful : IsLawful order) {V : Type 0
       let right = right_side_joined lawful equal window stored inside left (Some p) [] own refl after
       place (sym next) within_list x here (tied_itself total (upper order r))
       (last_starts lawful equal window x here_end some) (within.ends x here) (equal.refl x.value) in
-      inserted lawful equal window v x.value left right values
-      (λ e. absurd (omega (arith, within.one, e))) items
-      (standing_item_splits_list items place (place + 1) x within_list here refl)
+      inserted lawful equal window left right items (standing_item_splits_list items place (place + 1) x
+      within_list here refl) v x.value refl values (λ e. absurd (omega (arith, within.one, e)))
 
   -- the range is cut out of it: what the copies are, and the list with the parts
   module _ (parts : DividedItem K V)
@@ -107,8 +106,8 @@ module _ {K : Type 0} {order : KeyOrder K} (lawful : IsLawful order) {V : Type 0
         let right = right_side_cut lawful equal window stored inside left x here_end some
         (within.ends x here) parts.start start_is parts.value copied
         (λ m is on t. let item : own ≡ m = cc in not_both differs (rw (← item) at t)) in
-        inserted lawful equal window v v left right (equal.refl v) (λ e. refl) new
-        (list_is (Some own) divided)
+        inserted lawful equal window left right new (list_is (Some own) divided) v v refl (equal.refl v)
+        (λ e. refl)
 
     -- the range is unbound
     pub divided_alone : IsDivided others new at parts None → IsRemoved order same items new r
@@ -119,7 +118,7 @@ module _ {K : Type 0} {order : KeyOrder K} (lawful : IsLawful order) {V : Type 0
         parts.end end_is (λ m is. absurd (cc)) in
         removed lawful equal window left (right_side_cut lawful equal window nothing tt left x
         here_end some (within.ends x here) parts.start start_is parts.value copied
-        (λ m is. absurd (cc))) new (list_is None divided)
+        (λ m is. absurd (cc))) new (list_is None divided) refl
 
   split : items ≡ take place items ++ x ∷ drop (place + 1) items
   split = listed_at items place x within_list here
@@ -132,12 +131,6 @@ module _ {K : Type 0} {order : KeyOrder K} (lawful : IsLawful order) {V : Type 0
 
   good : PLt lawful (lower order r) (upper order r)
   good = (nonempty_good order lawful r within.window.known).0 within.window.nonempty
-
-  starts : PLt lawful (item_lower order x) (lower order r)
-  starts = within.starts x here
-
-  ends : PLt lawful (upper order r) (item_upper order x)
-  ends = within.ends x here
 
   abbrev IsAlone : Item (AnyRange K) V → Type 0
   IsAlone i = IsConnectedTo order i.key r → Overlap order i.key r
@@ -155,11 +148,11 @@ module _ {K : Type 0} {order : KeyOrder K} (lawful : IsLawful order) {V : Type 0
       let after = follows_above line x rest (chain_right line done (x ∷ rest) whole).1 in
       let front = every_with _ _ IsAlone done (chain_before line done x rest whole)
       (every_left _ done (x ∷ rest) all) (λ i h f c. absurd ((apart_not order lawful i.key r f.0
-      known f.1 good (le_lt_trans lawful _ _ _ h.0 starts)).0 c)) in
+      known f.1 good (le_lt_trans lawful _ _ _ h.0 (within.starts x here))).0 c)) in
       let behind = every_with _ _ IsAlone rest after own.1 (λ i h f c. absurd
-      ((apart_not order lawful r i.key known f.0 good f.1 (lt_le_trans lawful _ _ _ ends h)).1 c)) in
+      ((apart_not order lawful r i.key known f.0 good f.1 (lt_le_trans lawful _ _ _ (within.ends x here) h)).1 c)) in
       let around = (overlap_is order lawful x.key r own.0.0 known).1
-      (lt_trans lawful _ _ _ starts good, lt_trans lawful _ _ _ good ends) in
+      (lt_trans lawful _ _ _ (within.starts x here) good, lt_trans lawful _ _ _ good (within.ends x here)) in
       subst (λ ys. Every IsAlone ys) (sym split)
       (every_append IsAlone done (x ∷ rest) front ((λ c. around), behind))
 
@@ -172,10 +165,10 @@ module _ {K : Type 0} {order : KeyOrder K} (lawful : IsLawful order) {V : Type 0
       let v = end_position order x.key.end in
       let known_x = (item_at (IsFull order lawful items r) items place x full within_list here).0 in
       let under =
-      end_le order lawful r.end x.key.end within.window.known.1 known_x.1 (lt_le lawful _ _ ends) in
+      end_le order lawful r.end x.key.end within.window.known.1 known_x.1 (lt_le lawful _ _ (within.ends x here)) in
       record {
         starts = both lawful _ _ (later_over order lawful p q).0 (either_choice_holds order lawful
-            (λ y. PLe lawful y p) (is_gt (cmp p q)) p q (le_refl lawful p) (lt_le lawful _ _ starts));
+            (λ y. PLe lawful y p) (is_gt (cmp p q)) p q (le_refl lawful p) (lt_le lawful _ _ (within.starts x here)));
         ends = both lawful _ _ (either_choice_holds order lawful (λ y. PLe lawful u y)
             (is_gt (cmp u v)) v u under (le_refl lawful u)) (earlier_under order lawful u v).0;
       }

@@ -1,5 +1,5 @@
 -- A list that was changed as a closure answers, by what was put in the place of a range.
-use Rattle.range_edit.proofs.Common.{arith, common_steps, ◌≡◌, ◌∙◌, Option, Some, None, Bool, true, IsTrue, List, [], ◌∷◌, ◌++◌, ◌⊎◌, inl, inr, ◌↔◌, Result, Ok, Shared, Bor, Every, IsEquivalence, KeyOrder, AnyRange, Any, every_weaker, every_left, every_right, Item, MayAnswer, Answered, IsAsAnswered, IsGivenBy, IsGathered, IsUpdated, AreAnswersTo, Binds, IsSomeOf, IsInserted, IsRemoved, IsUpdateFrame, IsMergedInto, IsMergeFrame, HasValue, JoinsOrMeets, IsPart, IsInsertionFrame, IsRemovalFrame, IsConnectedTo, Overlap, IsReplaced}
+use Rattle.range_edit.proofs.Common.{arith, common_steps, ◌≡◌, ◌∙◌, Option, Some, None, Bool, true, IsTrue, List, [], ◌∷◌, ◌++◌, ◌⊎◌, inl, inr, Result, Ok, Shared, Bor, Every, IsEquivalence, KeyOrder, AnyRange, Any, every_weaker, every_left, every_right, Item, MayAnswer, Answered, IsGivenBy, IsGathered, IsUpdated, AreAnswersTo, IsInserted, IsRemoved, IsUpdateFrame, IsMergedInto, IsMergeFrame, HasValue, JoinsOrMeets, IsPart, IsInsertionFrame, IsRemovalFrame, IsConnectedTo, Overlap, IsReplaced}
 use Rattle.range_runs.proofs.RangePieces.{any_use, any_over, every_with}
 use Rattle.range_edit.proofs.MergedItems.{rest_stands, way_follows}
 
@@ -41,10 +41,6 @@ module _ {K : Type 0} (order : KeyOrder K) {V : Type 0} (same : V → V → Bool
   abbrev one_answer : V → Option V → List (Answered K V)
   one_answer v answer = record { key = r; value = Some v; answer = answer } ∷ []
 
-  meets_alone : (i : Item (AnyRange K) V) (v : V) → JoinsOrMeets order same r v i
-      → (IsConnectedTo order i.key r → Overlap order i.key r) → Overlap order i.key r
-  meets_alone i v either alone = grind (arith, common_steps)
-
   module _ (old : V) where
     inserted_frame : (v : V)
         → Every (λ i. IsConnectedTo order i.key r → Overlap order i.key r) items
@@ -63,7 +59,7 @@ module _ {K : Type 0} (order : KeyOrder K) {V : Type 0} (same : V → V → Bool
           such = record {
             concerned = every_with (JoinsOrMeets order same r v) _
                 (λ i. Overlap order i.key r ⊎ IsMergedInto order same h.others r i) h.run
-                h.such.concerned met (λ i t a. inl (meets_alone i v t a));
+                h.such.concerned met (λ i t a. inl (grind (arith, common_steps, t, a)));
             valued = grind (arith, common_steps, every_weaker, same_is_symmetric);
           };
         }
@@ -76,10 +72,6 @@ module _ {K : Type 0} (order : KeyOrder K) {V : Type 0} (same : V → V → Bool
           IsGivenBy same (one_answer old None) j.value) others (λ j t. inl t.value) way.made;
     })
 
-    some_of : (v : V) (k : K) (b : Option V) → Binds order same new k b ↔ IsSomeOf order same v b
-        → Binds order same new k b ↔ IsAsAnswered same (Some v) b
-    some_of v k option h = grind (arith, common_steps)
-
     pub by_insertion : (v : V)
         → Every (λ i. IsConnectedTo order i.key r → Overlap order i.key r) items
         → AreAnswersTo order items r (one_answer old (Some v))
@@ -90,7 +82,7 @@ module _ {K : Type 0} (order : KeyOrder K) {V : Type 0} (same : V → V → Bool
         answers = one_answer old (Some v);
         pieces = pieces;
         given = (says, tt);
-        held = λ k key in_r. inl (in_r, λ b. some_of v k b (h.bound.held k key in_r b));
+        held = λ k key in_r. inl (in_r, λ b. let t = h.bound.held k key in_r b in grind (arith, common_steps, t));
         others = h.bound.others;
       };
       frame = inserted_frame v alone h.frame;

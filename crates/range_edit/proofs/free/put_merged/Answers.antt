@@ -1,6 +1,6 @@
 use Rattle.range_edit.proofs.Common.{common_steps, arith, refl}
 use Rattle.range_edit.proofs.Planned.{planned_fits, planned_size}
-use Rattle.range_edit.proofs.RangeSides.{inserted}
+use Rattle.range_edit.proofs.RangeSides.{inserted, one_inside}
 use Rattle.range_edit.proofs.SidePlans.{plan_one}
 use Rattle.range_edit.proofs.free.put_merged.Goals as goal
 
@@ -39,8 +39,9 @@ returns-in-Ok g c =
     let made = rw c.reserve.ensures.list at (c.change.ensures.list left.at right.end left.rest
     right.rest left.start right.finish fit.on_left fit.on_right plan.joined) in
     record {
-      ok = inserted lawful equal c.requires.reach.window c.args.item.value c.args.item.value left.side
-          right.side (equal.refl _) (λ e. refl) _ made;
+      ok = inserted lawful equal c.requires.reach.window left.side right.side _
+          (rw (one_inside c.args.item left.start right.finish) made) c.args.item.value
+          c.args.item.value refl (equal.refl _) (λ e. refl);
       few = omega (arith, planned_size plan c.requires.reach c.requires.apart _ _ made);
       given = tt;
       refused = tt;

@@ -1,6 +1,6 @@
 use Rattle.range_edit.proofs.Common.{refl, arith}
 use Rattle.range_edit.proofs.Planned.{planned_fits, planned_size}
-use Rattle.range_edit.proofs.RangeSides.{removed}
+use Rattle.range_edit.proofs.RangeSides.{none_inside, removed}
 use Rattle.range_edit.proofs.SidePlans.{plan_none}
 use Rattle.range_edit.proofs.unbind.unbind_cutting.Goals as goal
 
@@ -19,7 +19,8 @@ returns g c =
     let done = c.change.ensures.list left.at right.end left.rest right.rest left.start right.finish
     fit.on_left fit.on_right plan.joined in
     record {
-      ok = removed lawful equal c.requires.reach.window left.side right.side _ done;
+      ok = removed lawful equal c.requires.reach.window left.side right.side _
+          (rw (none_inside {V = g.row.V.Denot} left.start right.finish) done) refl;
       few = omega (arith, c.requires.some, planned_size plan c.requires.reach c.requires.apart _ _ done);
       refused = tt;
       space = c.change.ensures.space;

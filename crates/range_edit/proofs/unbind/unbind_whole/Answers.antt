@@ -1,4 +1,4 @@
-use Rattle.range_edit.proofs.Common.{common_steps, ◌≡◌, [], ◌+◌, ◌++◌, length, take, drop, arith, IsStored, append-nil, place_before}
+use Rattle.range_edit.proofs.Common.{common_steps, refl, ◌≡◌, [], ◌+◌, ◌++◌, length, take, drop, arith, IsStored, append-nil, place_before}
 use Rattle.range_edit.proofs.RangeSides.{removed}
 use Rattle.range_edit.proofs.SewnSides.{left_side_whole, right_side_whole}
 use Rattle.range_edit.proofs.unbind.unbind_whole.Goals as goal
@@ -24,7 +24,7 @@ returns-clause-removed g c =
     let left = left_side_whole lawful equal window nothing tt
     (rw c.requires.first at c.requires.reach.first) (λ m is. absurd (cc)) in
     removed lawful equal window left (right_side_whole lawful equal window nothing tt left
-    (rw c.requires.last at c.requires.reach.last) (λ m is. absurd (cc))) new done
+    (rw c.requires.last at c.requires.reach.last) (λ m is. absurd (cc))) new done refl
 
 pub returns-clause-few : goal.returns-clause-few
 returns-clause-few g c = grind (arith, common_steps)
