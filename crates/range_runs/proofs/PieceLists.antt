@@ -34,11 +34,8 @@ module _ {K : Type 0} {order : KeyOrder K} (lawful : IsLawful order) {V : Type 0
   chained : Chained order lawful same equal items
   chained = stored_chain order lawful same equal items stored
 
-  listed : Known order lawful same equal items
-  listed = stored.known
-
   full : Every (IsFull order lawful items r) items
-  full = all_full order lawful same equal r items listed chained
+  full = all_full order lawful same equal r items stored.known chained
 
   -- all pieces of the range from two places on
   record IsCut (from to : Position K) (pieces : List (Item (AnyRange K) (Option V))) : Type 0 where
@@ -58,14 +55,10 @@ module _ {K : Type 0} {order : KeyOrder K} (lawful : IsLawful order) {V : Type 0
       record {
         each = (
           (after, behind, good),
-          every_weaker _ _ rest (λ q h. let up = le_trans lawful _ _ _ on h.1 in
-              (le_trans lawful _ _ _ after up, le_trans lawful _ _ _ behind up, h.2)) was.each,
+          every_weaker _ _ rest (λ q h. (grind (arith, common_steps, le_trans))) was.each,
         );
         rising = (every_weaker _ _ rest (λ q h. le_trans lawful _ _ _ ends h.1) was.each, was.rising);
-        covered = λ m h k upto. elim (split m h k upto) [
-          | inl here ↦ inl here
-          | inr there ↦ inr (was.covered m there.0 there.1 upto)
-        ];
+        covered = λ m h k upto. (grind (arith, common_steps));
       }
 
   -- the items before a place end at most there, and an item ends at it and the others start after
@@ -133,8 +126,7 @@ module _ {K : Type 0} {order : KeyOrder K} (lawful : IsLawful order) {V : Type 0
             free = free;
             left = elim ready.edge [
               | inl le ↦ inl (le_trans lawful _ _ _ upto le)
-              | inr some_item ↦ inr (any_over _ _ items (λ j h.
-                  (le_trans lawful _ _ _ upto h.0, le_trans lawful _ _ _ h.1 after)) some_item.0)
+              | inr some_item ↦ inr (any_over _ _ items (λ j h. (grind (arith, common_steps, le_trans))) some_item.0)
             ];
             right = elim bounded [
               | inl le ↦ inl (le_trans lawful _ _ _ le over)
@@ -142,11 +134,8 @@ module _ {K : Type 0} {order : KeyOrder K} (lawful : IsLawful order) {V : Type 0
                   (le_trans lawful _ _ _ ends h.0, le_trans lawful _ _ _ h.1 over)) some_item)
             ];
           },
-          gap_is_kept lawful equal items listed chained gap (is_known, room) free,
-        ) ends (λ m h k before. elim (cases lawful m to) [
-          | inl l ↦ inl (le_trans lawful _ _ _ upto h, lt_le_trans lawful _ _ _ l over)
-          | inr le ↦ inr (h, le)
-        ]) was
+          gap_is_kept lawful equal items stored.known chained gap (is_known, room) free,
+        ) ends (λ m h k before. (grind (arith, common_steps, cases, le_trans, lt_le_trans))) was
 
     gap_by : (a b : Bound K) (t : Bool) → starts_past_end order a b ≡ t → Opens (Some a) from
         → Closes (Some b) from to → IsCut from from
@@ -211,7 +200,7 @@ module _ {K : Type 0} {order : KeyOrder K} (lawful : IsLawful order) {V : Type 0
         part_within.2,
       ),
       among _ (common_is order lawful r x.key, refl),
-      common_is_kept lawful equal items listed chained done rest x ready.list r known starts ends,
+      common_is_kept lawful equal items stored.known chained done rest x ready.list r known starts ends,
     )
 
     part_after : Le' from (Low Part)
