@@ -69,8 +69,12 @@ module _ {K : Type 0} (order : KeyOrder K) (lawful : IsLawful order) {V : Type 0
       (inside : IsWithin key) (from : PLe lawful m (lower order key))
       (upto : PLe lawful (upper order key) n) where
     lies_up_to_later_place : (j : Item (AnyRange K) V) → LiesUpTo m j → LiesUpTo n j
-    lies_up_to_later_place j h = (h.0, h.1, le_trans lawful _ _ _ h.2 (le_trans lawful _ _ _ from
-        (le_trans lawful _ _ _ (lt_le lawful _ _ inside.2) upto)))
+    lies_up_to_later_place j h = (
+      h.0,
+      h.1,
+      le_trans lawful _ _ _ h.2 (le_trans lawful _ _ _ from
+          (le_trans lawful _ _ _ (lt_le lawful _ _ inside.2) upto)),
+    )
 
     more_valued : (a : Answered K V) (middle : List (Item (AnyRange K) V))
         → Every (λ j. Any (λ b. b.answer ≡ Some j.value) answers) middle

@@ -1,5 +1,5 @@
 -- The ends of ranges and the places past them lie in the same order.
-use Rattle.range_runs.proofs.Common.{arith, common_steps, ◌≡◌, refl, Option, Some, None, false, Bound, Less, Equal, is_gt, KeyOrder, IsLawful, Tells, SameAnswer, end_position, position_cmp, at_told, Position, MinusInfinity, Beside, PlusInfinity, Before, At, After, less_unless_greater, less_unless_equal, less_unless_less, less_then_any, IsKnownBound, flipped, Le, Lt, eq_le, eq_ge, le_trans, lt_not_le, not_lt, le_lt_trans, past, reaching_is_before_past, flipped_bound_is_past, flipped_known, unbounded_end}
+use Rattle.range_runs.proofs.Common.{arith, common_steps, ◌≡◌, refl, Option, Some, None, false, Bound, Less, is_gt, KeyOrder, IsLawful, end_position, position_cmp, at_told, Position, MinusInfinity, Beside, PlusInfinity, Before, At, After, less_unless_greater, less_unless_equal, less_unless_less, less_then_any, IsKnownBound, flipped, Le, Lt, eq_le, eq_ge, le_trans, lt_not_le, not_lt, le_lt_trans, past, reaching_is_before_past, flipped_bound_is_past, flipped_known, unbounded_end}
 use Rattle.range_keys.proofs.BoundPositions.{IsEnd, ends_lie_at_ends}
 use Rattle.range_algebra.specs.Orders
 

@@ -1,5 +1,5 @@
 -- Which stored ranges a range meets, and which keys both then hold.
-use Rattle.range_runs.proofs.Common.{common_steps, lower, PLe, PLt, common, common_known, earlier_is, later_is, ◌≡◌, ℕ, zero, suc, ◌+◌, ◌<◌, Bool, List, [], ◌∷◌, ◌++◌, length, take, drop, get_or, refl, arith, true, false, inl, inr, not, IsTrue, ◌↔◌, Option, Every, option_copied, is_some, Bound, is_lt, KeyOrder, IsLawful, IsComplete, start_position, end_position, position_cmp, Position, not_both_greater_and_not, not_greater, AnyRange, Holds, IsKnownRange, IsEmptyRange, Any, le_trans, lt_not_le, not_lt, list_is_take_and_drop, any_none, any_split, Item, IsBound, BindsTo, Binds, IsStored, MeetsSome, BindsKeyOf, Overlap}
+use Rattle.range_runs.proofs.Common.{common_steps, lower, PLe, PLt, common, common_known, earlier_is, later_is, ◌≡◌, ℕ, zero, suc, ◌+◌, ◌<◌, Bool, List, [], ◌∷◌, length, take, drop, get_or, refl, arith, true, false, inl, inr, not, IsTrue, ◌↔◌, Option, Every, option_copied, is_some, Bound, is_lt, KeyOrder, IsLawful, IsComplete, start_position, end_position, position_cmp, Position, not_both_greater_and_not, not_greater, AnyRange, Holds, IsKnownRange, IsEmptyRange, le_trans, lt_not_le, not_lt, Item, IsBound, BindsTo, Binds, IsStored, MeetsSome, BindsKeyOf, Overlap}
 use Rattle.std.specs.Borrow.{Bor}
 use Rattle.range_algebra.proofs.Commons.{common_holds}
 use Rattle.range_algebra.proofs.Completeness.{nonempty_holds}

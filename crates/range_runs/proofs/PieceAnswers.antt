@@ -1,5 +1,5 @@
 -- The answers to the pieces of a range, one after the other.
-use Rattle.range_runs.proofs.Common.{arith, common_steps, ℕ, ◌+◌, take, drop, ◌≡◌, refl, sym, ap, ◌∙◌, Option, Some, None, Bool, List, [], ◌∷◌, ◌++◌, append_assoc, inl, inr, ◌↔◌, map, Result, Ok, append-nil, drop-drop, map-append, Shared, Bor, Every, Bound, IsEquivalence, KeyOrder, IsLawful, Position, Beside, At, AnyRange, IsBoundClone, SameBound, Any, every_append, every_right, every_weaker, list_is_take_and_drop, held_between, Item, MayAnswer, MayBeAsked, Answered, IsAsAnswered, AnswersPiece, IsGathered, piece_of, Binds, pieces_of, IsPut, AreOverlapping, KeepsSpelling, IsWindow, Window, le_refl, le_trans, lt_not_le, PLe, PLt, lower, upper}
+use Rattle.range_runs.proofs.Common.{arith, common_steps, ℕ, ◌+◌, take, drop, ◌≡◌, refl, ap, ◌∙◌, Option, Some, None, Bool, List, [], ◌∷◌, ◌++◌, inl, inr, ◌↔◌, map, Result, Ok, append-nil, drop-drop, map-append, Shared, Bor, Every, Bound, IsEquivalence, KeyOrder, IsLawful, Position, Beside, At, AnyRange, IsBoundClone, SameBound, Any, every_append, every_right, every_weaker, list_is_take_and_drop, held_between, Item, MayAnswer, MayBeAsked, Answered, IsAsAnswered, AnswersPiece, IsGathered, piece_of, Binds, pieces_of, IsPut, AreOverlapping, KeepsSpelling, IsWindow, Window, le_refl, le_trans, lt_not_le, PLe, PLt, lower, upper}
 use Rattle.range_runs.proofs.AnswerLists.{IsFilledUpTo, Gives, Alike, filled_none, fill_more}
 use Rattle.range_runs.proofs.Forms.{Known, Hold, before_is, binds_as, unbinds_as, chain_stored, every_back, every_front}
 use Rattle.range_runs.proofs.WindowItems.{all_meet}

@@ -1,7 +1,7 @@
 -- The pieces that are read off from the items that meet a range are its pieces.
 use Rattle.range_runs.proofs.Common.{arith, common_steps, ◌≡◌, refl, sym, ◌∙◌, List, [], ◌∷◌, ◌++◌, ◌⊎◌, inl, inr, Option, Some, None, Bool, true, false, map, if◌then◌else◌, append_assoc, append-nil, IsEquivalence, tied_itself, Every, Equal, Bound, Unbounded, KeyOrder, IsLawful, start_position, end_position, position_cmp, position_total, Position, common, flipped, starts_past_end, past, lower, upper, Le, Lt, Any, IsEmptyRange, IsKnownBound, IsKnownRange, AnyRange, common_known, later_is, earlier_is, any_right, every_weaker, every_append, every_left, every_right, reaching_is_before_past, flipped_bound_is_past, flipped_back, flipped_known, unbounded_start, unbounded_end, Item, line_of, Overlap, free_piece, bound_piece, free_between, pieces_from, pieces_of, IsFreePart, ArePieces, AreOverlapping, IsStored, le_refl, lt_le, eq_le, eq_ge, le_trans, cases, not_le, not_lt, lt_not_le, lt_le_trans, PLe, PLt}
 use Rattle.range_runs.proofs.Chains.{chain_above, chain_right, follows_above}
-use Rattle.range_runs.proofs.Forms.{Known, Chained, before_is, stored_chain, nonempty_good}
+use Rattle.range_runs.proofs.Forms.{Chained, before_is, stored_chain, nonempty_good}
 use Rattle.range_runs.proofs.RangePieces.{Rises, IsFull, IsRight, IsInside, AreCut, all_full, any_over, any_with, common_is, common_place_is_not_clear, common_within, cut_all, every_with, free_apart, free_inside}
 use Rattle.range_runs.proofs.Spelling.{IsKeptIn, gap_is_kept, common_is_kept}
 use Rattle.range_runs.proofs.Tests.{not_both}

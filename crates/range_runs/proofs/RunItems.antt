@@ -1,10 +1,9 @@
 -- The items that a range meets are one run of a stored list.
-use Rattle.range_runs.proofs.Common.{common_steps, PLe, PLt, lower, Every, any_none, any_left, any_right, any_split, every_at, list_is_take_and_drop, drop_all, unbounded_end, Le, Lt, IsKnownBound, with_bounds, AnyRange, MeetsSome, IsStored, KeyOrder, IsLawful, start_position, end_position, position_cmp, Position, AreOverlapping, le_refl, lt_le, le_trans, lt_not_le, le_lt_trans, place_before, Item, ◌≡◌, refl, sym, ap, ◌∙◌, ℕ, zero, suc, ◌+◌, ◌-◌, ◌<◌, ◌≤◌, Bool, true, false, List, [], ◌∷◌, ◌++◌, length, take, drop, get_or, arith, Option, Some, None, inl, inr, drop-drop, IsEquivalence, is_gt, MatchOption, Bound, Included, Unbounded, IsFound, IsLastStarting, place_after}
+use Rattle.range_runs.proofs.Common.{common_steps, PLe, PLt, lower, Every, any_none, any_left, any_right, any_split, every_at, list_is_take_and_drop, drop_all, unbounded_end, IsKnownBound, with_bounds, AnyRange, MeetsSome, IsStored, KeyOrder, IsLawful, start_position, end_position, position_cmp, Position, AreOverlapping, le_refl, lt_le, le_trans, lt_not_le, le_lt_trans, place_before, Item, ◌≡◌, refl, sym, ap, ◌∙◌, ℕ, zero, suc, ◌+◌, ◌-◌, ◌<◌, ◌≤◌, Bool, true, false, List, [], ◌∷◌, ◌++◌, length, take, drop, get_or, arith, Option, Some, None, inl, inr, drop-drop, IsEquivalence, is_gt, MatchOption, Bound, Included, Unbounded, IsFound, IsLastStarting, place_after}
 use Rattle.range_runs.proofs.Forms.{every_front, every_back}
 use Rattle.range_runs.proofs.Found.{starts_rise, stored_tail, every_nonempty}
 use Rattle.range_runs.proofs.Listed.{IsListed, stored_list_is_listed}
 use Rattle.range_runs.proofs.RangePieces.{every_with}
-use Rattle.range_runs.proofs.Tests.{not_both}
 use Rattle.std.proofs.Math.Seq.{take-append-add}
 use Rattle.range_runs.proofs.Extents.{end_le}
 use Rattle.range_runs.proofs.Windows.{first_of_run, last_of_run}

@@ -23,8 +23,7 @@ returns-in_err-ask-clause-closure g c = λ e failed.
 pub returns-in_err-ask-clause-memory : goal.returns-in_err-ask-clause-memory
 returns-in_err-ask-clause-memory g c = λ failed.
     let was = c.loop-part.invariant.underway g.met.K.PartialEnum.lawful g.met.V.Eq.laws in
-    let said = c.ask.ensures.memory (grind (arith, common_steps)) in
-    (
+    let said = c.ask.ensures.memory (grind (arith, common_steps)) in (
       said.0,
       next_answered _ _ c.requires.window (rw c.in-Some.ensures.steps at was) (Ok said.0) said.1,
     )
