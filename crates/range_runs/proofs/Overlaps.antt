@@ -4,7 +4,8 @@ use Rattle.std.specs.Borrow.{Bor}
 use Rattle.range_algebra.proofs.Commons.{common_holds}
 use Rattle.range_algebra.proofs.Completeness.{nonempty_holds}
 use Rattle.range_algebra.proofs.Holding.{holds_by_position}
-use Rattle.range_runs.proofs.Found.{any_at, ends_upto, not_less, starts_here}
+use Rattle.range_runs.proofs.Found.{ends_upto, not_less, starts_here}
+pub use Rattle.range_runs.proofs.Found.{any_at}
 
 module _ {K : Type 0} (order : KeyOrder K) (lawful : IsLawful order) where
   abbrev End : AnyRange K → Position K

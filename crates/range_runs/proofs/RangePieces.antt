@@ -80,16 +80,11 @@ module _ {K : Type 0} (order : KeyOrder K) (lawful : IsLawful order) where
   rises_right [] ys h = h
   rises_right (x ∷ xs) ys h = rises_right xs ys h.1
 
-  chosen_by : (p q : Position K) (b : Bool) → is_gt (position_cmp order.cmp p q) ≡ b
-      → (PLe p (if b then p else q) × PLe q (if b then p else q))
-      × (PLe (if b then q else p) p × PLe (if b then q else p) q)
-  chosen_by p q test e = grind (arith, common_steps, le_refl)
-
   pub later_over : (p q : Position K) → PLe p (later order p q) × PLe q (later order p q)
-  later_over p q = (chosen_by p q (is_gt (position_cmp order.cmp p q)) refl).0
+  later_over p q = grind (arith, common_steps, le_refl, later)
 
   pub earlier_under : (p q : Position K) → PLe (earlier order p q) p × PLe (earlier order p q) q
-  earlier_under p q = (chosen_by p q (is_gt (position_cmp order.cmp p q)) refl).1
+  earlier_under p q = grind (arith, common_steps, le_refl, earlier)
 
   pub either_choice_holds : (P : Position K → Type 0) (b : Bool) (p q : Position K) → P p → P q
       → P (if b then p else q)
