@@ -68,12 +68,13 @@ module _ {K : Type 0} (order : KeyOrder K) (lawful : IsLawful order) {V : Type 0
   module _ (m n : Position K) (answers : List (Answered K V)) (key : AnyRange K)
       (inside : IsWithin key) (from : PLe lawful m (lower order key))
       (upto : PLe lawful (upper order key) n) where
-    later_place_is_not_before : PLe lawful m n
-    later_place_is_not_before =
-        le_trans lawful _ _ _ from (le_trans lawful _ _ _ (lt_le lawful _ _ inside.2) upto)
-
     lies_up_to_later_place : (j : Item (AnyRange K) V) → LiesUpTo m j → LiesUpTo n j
-    lies_up_to_later_place j h = grind (arith, common_steps, le_trans, later_place_is_not_before)
+    lies_up_to_later_place j h = (
+      h.0,
+      h.1,
+      le_trans lawful _ _ _ h.2 (le_trans lawful _ _ _ from
+          (le_trans lawful _ _ _ (lt_le lawful _ _ inside.2) upto)),
+    )
 
     more_valued : (a : Answered K V) (middle : List (Item (AnyRange K) V))
         → Every (λ j. Any (λ b. b.answer ≡ Some j.value) answers) middle
@@ -169,10 +170,7 @@ module _ {K : Type 0} (order : KeyOrder K) (lawful : IsLawful order) {V : Type 0
             holds = λ p W alike l. (
               like_item line [] [] [] [] j x p W alike (equal.refl v)
                   (λ h. (l, lt_le_trans lawful _ _ _ h.1 (eq_le lawful _ _ to))) (λ k. k) (λ k. k),
-              like_item line [] [] [] [] x j p W alike (equal.refl v) (λ h. (
-                le_trans lawful _ _ _ (eq_le lawful _ _ at) l,
-                lt_le_trans lawful _ _ _ h.1 (eq_ge lawful _ _ to),
-              )) (λ k. k) (λ k. k),
+              like_item line [] [] [] [] x j p W alike (equal.refl v) (λ h. (grind (arith, common_steps, le_trans, eq_le, eq_ge, lt_le_trans))) (λ k. k) (λ k. k),
             );
           }) (λ y ys is low.
           let value : v ≡ y.value = cc in

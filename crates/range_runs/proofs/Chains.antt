@@ -1,5 +1,5 @@
 -- Chains in parts, and chains that are joined.
-use Rattle.range_runs.proofs.Common.{arith, common_steps, inl, inr, ◌≡◌, ◌∙◌, ◌⊎◌, true, List, [], ◌∷◌, ◌++◌, Every, Equal, Le, Lt, Line, Leads, Follows, IsChain}
+use Rattle.range_runs.proofs.Common.{arith, common_steps, ◌≡◌, ◌∙◌, ◌⊎◌, true, List, [], ◌∷◌, ◌++◌, Every, Equal, Le, Lt, Line, Leads, Follows, IsChain}
 use Rattle.range_algebra.specs.Orders
 
 module _ {L V X : Type 0} (line : Line L V X) where

@@ -22,33 +22,18 @@ module _ {K : Type 0} (order : KeyOrder K) (lawful : IsLawful order) where
       )
 
   -- a place that two ranges share
-  record Shares (r s : AnyRange K) : Type 0 where
-    place : Position K
-    from : PLe lawful (lower order r) place
-    upto : PLt lawful place (upper order r)
-    other_from : PLe lawful (lower order s) place
-    other_upto : PLt lawful place (upper order s)
+  abbrev Shared : AnyRange K → AnyRange K → Position K → Type 0
+  Shared r s p = (PLe lawful (lower order r) p × PLt lawful p (upper order r))
+      × (PLe lawful (lower order s) p × PLt lawful p (upper order s))
 
   overlapping_ranges_share_place : (r s : AnyRange K) → IsKnownRange order r → IsKnownRange order s
       → PLt lawful (lower order r) (upper order r) → PLt lawful (lower order s) (upper order s)
-      → Overlap order r s → Shares r s
+      → Overlap order r s → (p : Position K) × Shared r s p
   overlapping_ranges_share_place r s known others good good_s h =
       let met = (overlap_is r s known others).0 h in
       elim (cases lawful (lower order r) (lower order s)) [
-        | inl l ↦ record {
-          place = lower order s;
-          from = lt_le lawful _ _ l;
-          upto = met.1;
-          other_from = le_refl lawful (lower order s);
-          other_upto = good_s;
-        }
-        | inr g ↦ record {
-          place = lower order r;
-          from = le_refl lawful (lower order r);
-          upto = good;
-          other_from = g;
-          other_upto = met.0;
-        }
+        | inl l ↦ (lower order s, ((lt_le lawful _ _ l, met.1), (le_refl lawful _, good_s)))
+        | inr g ↦ (lower order r, ((le_refl lawful _, good), (g, met.0)))
       ]
 
   pub shared_place_is_overlap : (r s : AnyRange K) (p : Position K) → IsKnownRange order r
@@ -80,10 +65,10 @@ module _ {K : Type 0} (order : KeyOrder K) (lawful : IsLawful order) where
     met_range_is_covered s (i ∷ rest) known good all full (inl h) =
         let at = overlapping_ranges_share_place i.key s all.0 known full.0 good h in
         record {
-          place = at.place;
-          from = at.other_from;
-          upto = at.other_upto;
-          held = inl ((at.from, at.upto), refl);
+          place = at.0;
+          from = at.1.1.0;
+          upto = at.1.1.1;
+          held = inl (at.1.0, refl);
         }
     met_range_is_covered s (i ∷ rest) known good all full (inr h) = grind (arith, common_steps, met_range_is_covered s rest known good all.1 full.1 h)
 
@@ -118,8 +103,8 @@ module _ {K : Type 0} (order : KeyOrder K) (lawful : IsLawful order) where
               ],
           λ h. elim h [
             | inl met ↦ let at = overlapping_ranges_share_place r s known known_s good good_s met in
-                held_place_is_met s new at.place known_s all_new at.other_from at.other_upto
-                ((changed.inside at.place (λ u. true) any at.from at.upto).1 refl)
+                held_place_is_met s new at.0 known_s all_new at.1.1.0 at.1.1.1
+                ((changed.inside at.0 (λ u. true) any at.1.0.0 at.1.0.1).1 refl)
             | inr met ↦
                 let at = met_range_is_covered s items known_s good_s all
                 (chained_items_have_places items chain) met in

@@ -53,14 +53,10 @@ module _ {K : Type 0} (order : KeyOrder K) (lawful : IsLawful order) where
   pub same_turned : (b : Bound K) → SameBound order (flipped_bound b) (flipped_bound b)
   same_turned b = same_itself order lawful (flipped_bound b)
 
-  not_past_all : (e a : Bound K) → None ≡ flipped e → IsKnownBound order a
-      → PLt lawful (past order (end_position order e)) (past order (end_position order a)) → ⊥
-  not_past_all bound a turns known l = grind (arith, common_steps, lt_not_le, unbounded_end)
-
   -- nothing ends after an unbounded end
   pub ends_never : (r i : AnyRange K) → IsKnownRange order i → None ≡ flipped r.end → IsTrue false
       ↔ PLt lawful (upper order r) (upper order i)
-  ends_never r i known turns = grind (arith, common_steps, not_past_all)
+  ends_never r i known turns = grind (arith, common_steps, lt_not_le, unbounded_end)
 
   pub le_is : (o : Ordering) → IsTrue (is_le o) ↔ is_gt o ≡ false
   le_is compared = grind (arith, common_steps)

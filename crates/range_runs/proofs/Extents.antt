@@ -1,5 +1,5 @@
 -- The ends of ranges and the places past them lie in the same order.
-use Rattle.range_runs.proofs.Common.{arith, common_steps, ◌≡◌, refl, Option, Some, None, false, Bound, Less, Equal, is_gt, KeyOrder, IsLawful, Tells, SameAnswer, end_position, position_cmp, at_told, Position, MinusInfinity, Beside, PlusInfinity, Before, At, After, less_unless_greater, less_unless_equal, less_unless_less, less_then_any, IsKnownBound, flipped, Le, Lt, eq_le, eq_ge, le_trans, lt_not_le, not_lt, le_lt_trans, past, reaching_is_before_past, flipped_bound_is_past, flipped_known, unbounded_end}
+use Rattle.range_runs.proofs.Common.{arith, common_steps, ◌≡◌, refl, Option, Some, None, false, Bound, Less, is_gt, KeyOrder, IsLawful, end_position, position_cmp, at_told, Position, MinusInfinity, Beside, PlusInfinity, Before, At, After, less_unless_greater, less_unless_equal, less_unless_less, less_then_any, IsKnownBound, flipped, Le, Lt, eq_le, eq_ge, le_trans, lt_not_le, not_lt, le_lt_trans, past, reaching_is_before_past, flipped_bound_is_past, flipped_known, unbounded_end}
 use Rattle.range_keys.proofs.BoundPositions.{IsEnd, ends_lie_at_ends}
 use Rattle.range_algebra.specs.Orders
 
@@ -31,17 +31,15 @@ module _ {K : Type 0} (order : KeyOrder K) (lawful : IsLawful order) where
       → PLe (past order (end_position order e)) (past order (end_position order f))
   past_le e bound known known' le = grind (arith, common_steps, past_turned, unbounded_end)
 
-  -- the neighbour before a key that has none is nobody's neighbour
-  told_none : (o p : Option K) (a : K) → Tells order o a → SameAnswer order o p → p ≡ None → ⊥
-  told_none option p a t s n = grind (arith, common_steps)
-
   next_below : (a b d : K) → order.succ a ≡ Some d → order.is_key b → order.pred b ≡ None
       → order.cmp a b ≡ Less → order.cmp d b ≡ Less
   next_below a b d next key first l =
       let le = lawful.none_between a d b next key l in
       Orders.not_le order.cmp lawful.total d b
-      (λ over. told_none (order.pred d) (order.pred b) a (lawful.succ_pred a d next)
-      (lawful.pred_congr d b (Orders.both order.cmp lawful.total d b le over)) first)
+      (λ over.
+      let tells = lawful.succ_pred a d next in
+      let alike = lawful.pred_congr d b (Orders.both order.cmp lawful.total d b le over) in
+      grind (arith, common_steps))
 
   at_before : (a b : K) (o : Option K) → order.succ a ≡ o → order.is_key b → order.pred b ≡ None
       → order.cmp a b ≡ Less → PLt (at_told o (Beside a After)) (Beside b At)
@@ -56,12 +54,6 @@ module _ {K : Type 0} (order : KeyOrder K) (lawful : IsLawful order) where
       → PLt (Beside a At) (at_told p (Beside b After))
   before_at a b option next le = grind (arith, common_steps, less_unless_less, less_then_any, le_lt_trans)
 
-  at_infinity : (a : K) (o : Option K) → PLt (at_told o (Beside a After)) PlusInfinity
-  at_infinity a option = grind (arith, common_steps)
-
-  infinity_last : (f : Position K) → PLt PlusInfinity f → ⊥
-  infinity_last place l = grind (arith, common_steps)
-
   past_lt : (e f : Position K) → IsEnd order e → IsEnd order f → PLt e f
       → PLt (past order e) (past order f)
   unfolding IsEnd
@@ -70,8 +62,8 @@ module _ {K : Type 0} (order : KeyOrder K) (lawful : IsLawful order) where
   past_lt (Beside a Before) PlusInfinity h k l = refl
   past_lt (Beside a At) (Beside b Before) h k l = grind (arith, common_steps, at_before, less_unless_greater)
   past_lt (Beside a At) (Beside b At) h k l = grind (arith, common_steps, at_at, less_unless_equal)
-  past_lt (Beside a At) PlusInfinity h k l = at_infinity a (order.succ a)
-  past_lt PlusInfinity f h k l = absurd (infinity_last f l)
+  past_lt (Beside a At) PlusInfinity h k l = grind (arith, common_steps)
+  past_lt PlusInfinity f h k l = grind (arith, common_steps)
   past_lt MinusInfinity f h k l = absurd h
   past_lt (Beside a After) f h k l = absurd h
   past_lt (Beside a Before) (Beside b After) h k l = absurd k

@@ -1,5 +1,5 @@
 -- What a search among stored items finds.
-use Rattle.range_runs.proofs.Common.{common_steps, get_or_read, ◌≡◌, ◌↔◌, ℕ, zero, suc, ◌+◌, ◌<◌, List, [], ◌∷◌, ◌++◌, length, take, drop, get_or, refl, ap, sym, arith, Option, None, Some, Bool, true, false, inl, inr, Every, MatchOption, Ordering, Less, is_gt, is_le, is_lt, IsEquivalence, KeyOrder, IsLawful, start_position, end_position, Position, Beside, At, lt_is_less, not_greater, AnyRange, Holds, IsEmptyRange, Item, IsAt, IsFrontOf, place_at, Any, Le, Lt, lt_le, lt_not_le, le_trans, not_le, not_lt, lt_le_trans, le_lt_trans, lt_trans, PLe, PLt, IsStored, IsItemFor, IsStoredFor, IsBound, BindsTo, IsFound, IsJustBefore, IsLastStarting, place_after, every_append, every_at, every_take, every_drop, list_is_take_and_drop, every_weaker}
+use Rattle.range_runs.proofs.Common.{common_steps, get_or_read, ◌≡◌, ◌↔◌, ℕ, zero, suc, ◌+◌, ◌<◌, List, [], ◌∷◌, length, take, drop, get_or, refl, ap, sym, arith, Option, None, Some, Bool, true, false, inl, inr, Every, MatchOption, Ordering, Less, is_gt, is_le, is_lt, IsEquivalence, KeyOrder, IsLawful, start_position, end_position, Position, Beside, At, lt_is_less, not_greater, AnyRange, Holds, IsEmptyRange, Item, IsAt, IsFrontOf, place_at, Any, Le, Lt, lt_le, lt_not_le, le_trans, not_le, not_lt, lt_le_trans, le_lt_trans, lt_trans, PLe, PLt, IsStored, IsItemFor, IsStoredFor, IsBound, BindsTo, IsFound, IsJustBefore, IsLastStarting, place_after, every_at, every_take, every_drop, every_weaker}
 use Rattle.std.specs.List.Sorted.{IsPartitionedBy}
 use Rattle.range_algebra.proofs.Holding.{holds_by_position}
 use Rattle.range_algebra.specs.Orders.{lt_of}
@@ -12,8 +12,12 @@ not_less compared h e = grind (arith, common_steps)
 le_is_at_most : (o : Ordering) → is_gt o ≡ false ↔ is_le o ≡ true
 le_is_at_most compared = grind (arith, common_steps)
 
-not_at_most : (o : Ordering) → is_le o ≡ false → is_gt o ≡ false → ⊥
-not_at_most compared h e = grind (arith, common_steps)
+-- an item that is such is some item
+pub any_at : {X : Type 0} (P : X → Type 0) (xs : List X) (place : ℕ) (x : X) → place < length xs
+    → x ≡ get_or xs place x → P x → Any P xs
+any_at P [] place x within read h = absurd (omega arith)
+any_at P (y ∷ ys) zero x within read h = let at : x ≡ y = read in inl (rw at at h)
+any_at P (y ∷ ys) (suc place) x within read h = inr (any_at P ys place x (omega arith) read h)
 
 module _ {K : Type 0} (order : KeyOrder K) (lawful : IsLawful order) {V : Type 0}
     (same : V → V → Bool) where
@@ -121,7 +125,7 @@ module _ {K : Type 0} (order : KeyOrder K) (lawful : IsLawful order) {V : Type 0
           upto = every_weaker _ _ (take place items) (λ i e. (le_is_at_most (cmp (Start i) p)).1 e)
               (every_take (λ i. is_le (cmp (Start i) p) ≡ true) items place front.0 front.1.0);
           past = every_weaker _ _ (drop place items) (λ i e. not_le lawful _ _
-              (not_at_most (cmp (Start i) p) e)) (every_drop (λ i. is_le (cmp (Start i) p) ≡ false)
+              (λ le. grind (arith, common_steps))) (every_drop (λ i. is_le (cmp (Start i) p) ≡ false)
               items place front.0 front.1.1);
         }
 
@@ -133,31 +137,16 @@ module _ {K : Type 0} (order : KeyOrder K) (lawful : IsLawful order) {V : Type 0
     last_started None front = started_by None 0 refl front
     last_started (Some q) front = started_by (Some q) (rank q + 1) (front.0, refl) front.1
 
-  not_bound : (items : List (Item (AnyRange K) V)) (k : K)
-      → Every (λ i. Holds order i.key k → ⊥) items → IsBound order items k → ⊥
-  not_bound [] k all h = h
-  not_bound (i ∷ rest) k all (inl h) = all.0 h
-  not_bound (i ∷ rest) k all (inr h) = not_bound rest k all.1 h
-
-  below_not : (i : Item (AnyRange K) V) (k : K) → order.is_key k → PLt lawful (End i) (Beside k At)
-      → Holds order i.key k → ⊥
-  below_not i k key l h = grind (arith, common_steps, lt_not_le, holds_by_position)
-
-  above_not : (i : Item (AnyRange K) V) (k : K) → order.is_key k
-      → PLt lawful (Beside k At) (Start i) → Holds order i.key k → ⊥
-  above_not i k key l h = grind (arith, common_steps, lt_not_le, holds_by_position)
-
   -- up to the place all end before the key, and from there on all start past it
   pub apart_bound : (items : List (Item (AnyRange K) V)) (k : K) (place : ℕ) → order.is_key k
       → Every (λ i. PLt lawful (End i) (Beside k At)) (take place items)
       → Every (λ i. PLt lawful (Beside k At) (Start i)) (drop place items) → IsBound order items k
       → ⊥
-  apart_bound items k place key below above =
-      let none = every_append (λ i. Holds order i.key k → ⊥) (take place items) (drop place items)
-      (every_weaker _ _ (take place items) (λ i l. below_not i k key l) below)
-      (every_weaker _ _ (drop place items) (λ i l. above_not i k key l) above) in
-      λ h. not_bound (take place items ++ drop place items) k none
-      (rw (list_is_take_and_drop items place) at h)
+  apart_bound [] k place key below above h = h
+  apart_bound (i ∷ rest) k zero key below above (inl h) = grind (arith, common_steps, lt_not_le, holds_by_position)
+  apart_bound (i ∷ rest) k zero key below above (inr h) = apart_bound rest k zero key tt above.1 h
+  apart_bound (i ∷ rest) k (suc place) key below above (inl h) = grind (arith, common_steps, lt_not_le, holds_by_position)
+  apart_bound (i ∷ rest) k (suc place) key below above (inr h) = apart_bound rest k place key below.1 above h
 
   -- with an item that ends before a position, those before it do
   pub ends_upto : (items : List (Item (AnyRange K) V)) (p : Position K) (place : ℕ)
@@ -186,9 +175,7 @@ module _ {K : Type 0} (order : KeyOrder K) (lawful : IsLawful order) {V : Type 0
 
   pub item_at : (items : List (Item (AnyRange K) V)) (place : ℕ) (x : Item (AnyRange K) V)
       → place < length items → x ≡ get_or items place x → Any (λ j. j ≡ x) items
-  item_at [] place x within read = absurd (omega arith)
-  item_at (i ∷ rest) zero x within read = inl (sym read)
-  item_at (i ∷ rest) (suc place) x within read = inr (item_at rest place x (omega arith) read)
+  item_at items place x within read = any_at _ items place x within read refl
 
   -- the value of an item that is stored for the key
   pub stored_value : (items : List (Item (AnyRange K) V)) (k : K) (x : Item (AnyRange K) V)

@@ -56,24 +56,14 @@ module _ {K : Type 0} (order : KeyOrder K) (lawful : IsLawful order) {V : Type 0
       → IsListed items
   stored_list_is_listed items h = by_parts items h.known h.nonempty h.rising
 
-  all_known : (items : List (Item (AnyRange K) V)) → IsListed items
-      → Every (λ i. IsKnownRange order i.key) items
-  all_known [] h = tt
-  all_known (i ∷ []) h = (h.0, tt)
-  all_known (i ∷ j ∷ rest) h = (h.0, all_known (j ∷ rest) h.4)
-
-  all_full : (items : List (Item (AnyRange K) V)) → IsListed items
-      → Every (λ i. IsEmptyRange order i.key → ⊥) items
-  all_full [] h = tt
-  all_full (i ∷ []) h = (h.1, tt)
-  all_full (i ∷ j ∷ rest) h = (h.1, all_full (j ∷ rest) h.4)
-
-  all_rising : (items : List (Item (AnyRange K) V)) → IsListed items
-      → EachNext (IsFollowedBy order same) items
-  all_rising [] h = tt
-  all_rising (i ∷ []) h = (tt, tt)
-  all_rising (i ∷ j ∷ rest) h =
-      ((followed_is_before_and_apart i j h.1).1 (h.2, h.3), all_rising (j ∷ rest) h.4)
-
   pub stored_by : (items : List (Item (AnyRange K) V)) → IsListed items → IsStored order same items
-  stored_by items h = grind (arith, common_steps, all_known, all_full, all_rising)
+  stored_by [] h = record { known = tt; nonempty = tt; rising = tt }
+  stored_by (i ∷ []) h = record { known = (h.0, tt); nonempty = (h.1, tt); rising = (tt, tt) }
+  stored_by (i ∷ j ∷ rest) h =
+      let was = stored_by (j ∷ rest) h.4 in
+      let next = (followed_is_before_and_apart i j h.1).1 (h.2, h.3) in
+      record {
+        known = (h.0, was.known);
+        nonempty = (h.1, was.nonempty);
+        rising = (next, was.rising);
+      }

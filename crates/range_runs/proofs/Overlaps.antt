@@ -1,33 +1,15 @@
 -- Which stored ranges a range meets, and which keys both then hold.
-use Rattle.range_runs.proofs.Common.{common_steps, PLe, PLt, common, common_known, earlier_is, later_is, ◌≡◌, ℕ, zero, suc, ◌+◌, ◌<◌, Bool, List, [], ◌∷◌, ◌++◌, length, take, drop, get_or, refl, arith, true, false, inl, inr, not, IsTrue, ◌↔◌, Option, Every, option_copied, is_some, Bound, is_lt, KeyOrder, IsLawful, IsComplete, start_position, end_position, position_cmp, Position, not_both_greater_and_not, not_greater, AnyRange, Holds, IsKnownRange, IsEmptyRange, Any, le_trans, lt_not_le, not_lt, list_is_take_and_drop, any_none, any_split, Item, IsBound, BindsTo, Binds, IsStored, MeetsSome, BindsKeyOf, Overlap}
+use Rattle.range_runs.proofs.Common.{common_steps, lower, PLe, PLt, common, common_known, earlier_is, later_is, ◌≡◌, ℕ, zero, suc, ◌+◌, ◌<◌, Bool, List, [], ◌∷◌, length, take, drop, get_or, refl, arith, true, false, inl, inr, not, IsTrue, ◌↔◌, Option, Every, option_copied, is_some, Bound, is_lt, KeyOrder, IsLawful, IsComplete, start_position, end_position, position_cmp, Position, not_both_greater_and_not, not_greater, AnyRange, Holds, IsKnownRange, IsEmptyRange, le_trans, lt_not_le, not_lt, Item, IsBound, BindsTo, Binds, IsStored, MeetsSome, BindsKeyOf, Overlap}
 use Rattle.std.specs.Borrow.{Bor}
 use Rattle.range_algebra.proofs.Commons.{common_holds}
 use Rattle.range_algebra.proofs.Completeness.{nonempty_holds}
 use Rattle.range_algebra.proofs.Holding.{holds_by_position}
 use Rattle.range_runs.proofs.Found.{ends_upto, not_less, starts_here}
-
--- an item that is such is some item
-pub any_at : {X : Type 0} (P : X → Type 0) (xs : List X) (place : ℕ) (x : X) → place < length xs
-    → x ≡ get_or xs place x → P x → Any P xs
-any_at P [] place x within read h = absurd (omega arith)
-any_at P (y ∷ ys) zero x within read h = let at : x ≡ y = read in inl (rw at at h)
-any_at P (y ∷ ys) (suc place) x within read h = inr (any_at P ys place x (omega arith) read h)
+pub use Rattle.range_runs.proofs.Found.{any_at}
 
 module _ {K : Type 0} (order : KeyOrder K) (lawful : IsLawful order) where
-  abbrev Start : AnyRange K → Position K
-  Start r = start_position order r.start
-
   abbrev End : AnyRange K → Position K
   End r = end_position order r.end
-
-  -- ranges that hold the same key meet
-  shared_meets : (r s : AnyRange K) (k : K) → order.is_key k → Holds order r k → Holds order s k
-      → Overlap order r s
-  shared_meets r s k key h g = grind (arith, common_steps, holds_by_position, lt_not_le, le_trans)
-
-  held_nonempty : (r : AnyRange K) (k : K) → order.is_key k → Holds order r k → IsEmptyRange order r
-      → ⊥
-  held_nonempty r k key h e = grind (arith, common_steps, holds_by_position, not_both_greater_and_not, le_trans)
 
   -- over complete keys ranges that meet share a key
   shared_key : (r s : AnyRange K) → IsComplete order → IsKnownRange order r → IsKnownRange order s
@@ -42,8 +24,8 @@ module _ {K : Type 0} (order : KeyOrder K) (lawful : IsLawful order) where
       let found = nonempty_holds order lawful complete (common order r s)
       (common_known order lawful r s known others) (later_is order lawful r.start s.start
       (λ b. PLe lawful (start_position order b) (End (common order r s)))
-      (ends r.start (not_greater (cmp (Start r) (End r)) full) (not_lt lawful _ _ meets.1))
-      (ends s.start (not_lt lawful _ _ meets.0) (not_greater (cmp (Start s) (End s)) full_s))) in
+      (ends r.start (not_greater (cmp (lower order r) (End r)) full) (not_lt lawful _ _ meets.1))
+      (ends s.start (not_lt lawful _ _ meets.0) (not_greater (cmp (lower order s) (End s)) full_s))) in
       let held = (common_holds order lawful r s found.0 found.1).0 found.2 in
       (found.0, found.1, held.0, held.1)
 
@@ -51,13 +33,16 @@ module _ {K : Type 0} (order : KeyOrder K) (lawful : IsLawful order) where
     bound_meets : (items : List (Item (AnyRange K) V)) (r : AnyRange K) (k : K) → order.is_key k
         → Holds order r k → IsBound order items k → MeetsSome order items r
     bound_meets [] r k key held h = h
-    bound_meets (i ∷ rest) r k key held (inl h) = inl (shared_meets i.key r k key h held)
+    bound_meets (i ∷ rest) r k key held (inl h) = inl (grind (arith, common_steps, holds_by_position, lt_not_le, le_trans))
     bound_meets (i ∷ rest) r k key held (inr h) = inr (bound_meets rest r k key held h)
 
     -- a range of which a key is bound is nonempty and meets some item
     pub binding_meets : (items : List (Item (AnyRange K) V)) (r : AnyRange K)
         → BindsKeyOf order items r → (IsEmptyRange order r → ⊥) × MeetsSome order items r
-    binding_meets items r (k, key, held, bound) = grind (arith, common_steps, held_nonempty, bound_meets)
+    binding_meets items r (k, key, held, bound) = (
+      λ e. grind (arith, common_steps, holds_by_position, not_both_greater_and_not, le_trans),
+      bound_meets items r k key held bound,
+    )
 
     meeting_by : (items : List (Item (AnyRange K) V)) (r : AnyRange K) → IsComplete order
         → Every (λ i. IsKnownRange order i.key) items
@@ -77,25 +62,21 @@ module _ {K : Type 0} (order : KeyOrder K) (lawful : IsLawful order) where
 
     -- up to the place all end before the range, and from there on all start past it
     pub apart_meets : (items : List (Item (AnyRange K) V)) (r : AnyRange K) (p e : Position K)
-        (place : ℕ) → p ≡ Start r → e ≡ End r → Every (λ i. PLt lawful (End i.key) p) (take place items)
-        → Every (λ i. PLt lawful e (Start i.key)) (drop place items) → MeetsSome order items r → ⊥
-    apart_meets items r p e place start end below above h =
-        let parted : MeetsSome order (take place items ++ drop place items) r =
-        rw (list_is_take_and_drop items place) at h in
-        elim (any_split (λ i. Overlap order i.key r) (take place items) (drop place items) parted) [
-          | inl k ↦ any_none (λ i. Overlap order i.key r) (λ i. PLt lawful (End i.key) (Start r))
-              (take place items) (rw start at below) (λ i l meets. meets.0 l) k
-          | inr k ↦ any_none (λ i. Overlap order i.key r) (λ i. PLt lawful (End r) (Start i.key))
-              (drop place items) (rw end at above) (λ i l meets. meets.1 l) k
-        ]
+        (place : ℕ) → p ≡ lower order r → e ≡ End r → Every (λ i. PLt lawful (End i.key) p) (take place items)
+        → Every (λ i. PLt lawful e (lower order i.key)) (drop place items) → MeetsSome order items r → ⊥
+    apart_meets [] r p e place start end below above h = h
+    apart_meets (i ∷ rest) r p e zero start end below above (inl h) = grind (arith, common_steps)
+    apart_meets (i ∷ rest) r p e zero start end below above (inr h) = apart_meets rest r p e zero start end tt above.1 h
+    apart_meets (i ∷ rest) r p e (suc place) start end below above (inl h) = grind (arith, common_steps)
+    apart_meets (i ∷ rest) r p e (suc place) start end below above (inr h) = apart_meets rest r p e place start end below.1 above h
 
     -- the last that starts within a nonempty range or before it decides
     pub last_started_decides : (same : V → V → Bool) (items : List (Item (AnyRange K) V))
         (r : AnyRange K) (p e : Position K) (place : ℕ) (x : Item (AnyRange K) V) (before : Bool)
-        → p ≡ Start r → e ≡ End r → IsStored order same items → (IsEmptyRange order r → ⊥)
+        → p ≡ lower order r → e ≡ End r → IsStored order same items → (IsEmptyRange order r → ⊥)
         → place < length items → x ≡ get_or items place x
-        → Every (λ i. PLe lawful (Start i.key) e) (take (place + 1) items)
-        → Every (λ i. PLt lawful e (Start i.key)) (drop (place + 1) items)
+        → Every (λ i. PLe lawful (lower order i.key) e) (take (place + 1) items)
+        → Every (λ i. PLt lawful e (lower order i.key)) (drop (place + 1) items)
         → before ≡ is_lt (position_cmp order.cmp (End x.key) p) → IsTrue (not before)
         ↔ ((IsEmptyRange order r → ⊥) × MeetsSome order items r)
     last_started_decides same items r p e place x true start end stored full within read upto above

@@ -1,11 +1,12 @@
 -- The answers to the pieces of a range, one after the other.
-use Rattle.range_runs.proofs.Common.{arith, common_steps, ℕ, ◌+◌, take, drop, ◌≡◌, refl, sym, ap, ◌∙◌, Option, Some, None, Bool, List, [], ◌∷◌, ◌++◌, append_assoc, inl, inr, ◌↔◌, map, Result, Ok, append-nil, drop-drop, map-append, Shared, Bor, Every, Bound, IsEquivalence, KeyOrder, IsLawful, Position, Beside, At, AnyRange, IsBoundClone, SameBound, Any, every_append, every_right, every_weaker, list_is_take_and_drop, held_between, Item, MayAnswer, MayBeAsked, Answered, IsAsAnswered, AnswersPiece, IsGathered, piece_of, Binds, pieces_of, IsPut, AreOverlapping, KeepsSpelling, IsWindow, Window, le_refl, le_trans, lt_not_le, PLe, PLt, lower, upper}
+use Rattle.range_runs.proofs.Common.{arith, common_steps, ℕ, ◌+◌, take, drop, ◌≡◌, refl, ap, ◌∙◌, Option, Some, None, Bool, List, [], ◌∷◌, ◌++◌, inl, inr, ◌↔◌, map, Result, Ok, append-nil, drop-drop, map-append, Shared, Bor, Every, Bound, IsEquivalence, KeyOrder, IsLawful, Position, Beside, At, AnyRange, IsBoundClone, SameBound, Any, every_append, every_right, every_weaker, list_is_take_and_drop, held_between, Item, MayAnswer, MayBeAsked, Answered, IsAsAnswered, AnswersPiece, IsGathered, piece_of, Binds, pieces_of, IsPut, AreOverlapping, KeepsSpelling, IsWindow, Window, le_refl, le_trans, lt_not_le, PLe, PLt, lower, upper}
 use Rattle.range_runs.proofs.AnswerLists.{IsFilledUpTo, Gives, Alike, filled_none, fill_more}
 use Rattle.range_runs.proofs.Forms.{Known, Hold, before_is, binds_as, unbinds_as, chain_stored, every_back, every_front}
 use Rattle.range_runs.proofs.WindowItems.{all_meet}
 use Rattle.range_runs.proofs.PieceLists.{pieces_are, pieces_are_cut, pieces_are_kept}
 use Rattle.range_runs.proofs.RangePieces.{Rises, IsRight, AreCut, any_unmap, any_use, any_with, every_unmap, every_with, lies_in, rises_right}
 use Rattle.range_runs.proofs.Spelling.{put_keeps_spelling}
+use Rattle.range_runs.proofs.Sewn.{through}
 
 module _ {K : Type 0} (order : KeyOrder K) (lawful : IsLawful order) {V : Type 0}
     (same : V → V → Bool) (equal : IsEquivalence same) (r : AnyRange K) where
@@ -78,20 +79,18 @@ module _ {K : Type 0} {order : KeyOrder K} (lawful : IsLawful order) {V : Type 0
   abbrev Pieces : List (Item (AnyRange K) (Option V))
   Pieces = pieces_of order r Met
 
-  listed : Known order lawful same equal items
-  listed = window.stored.known
-
   met : AreOverlapping order items r Met
   met = record {
     before = take place items;
     after = drop w.count (drop place items);
     split = list_is_take_and_drop items place ∙ ap (λ ys. take place items ++ ys)
         (list_is_take_and_drop (drop place items) w.count);
-    below = every_with _ _ _ (take place items) window.below (every_front _ place items listed)
+    below = every_with _ _ _ (take place items) window.below
+        (every_front _ place items window.stored.known)
         (λ i le k. (before_is order lawful i.key.end r.start k.1 window.known.0).1 le);
     meet = all_meet lawful equal window;
     above = rw (drop-drop w.count place items) (every_with _ _ _ _ window.behind
-        (every_back _ (place + w.count) items listed) (λ i le k.
+        (every_back _ (place + w.count) items window.stored.known) (λ i le k.
         (before_is order lawful r.end i.key.start window.known.1 k.0).1 le));
   }
 
@@ -137,13 +136,6 @@ module _ {K : Type 0} {order : KeyOrder K} (lawful : IsLawful order) {V : Type 0
     abbrev more : Option V → List (Answered K V)
     more answer = was.answers ++ record { key = key; value = value; answer = answer } ∷ []
 
-    list_more : (answer : Option V) → Pieces ≡ map piece_of (more answer) ++ rest
-    list_more answer = grind (arith, common_steps, map-append)
-
-    given_more : (answer : Option V) → MayAnswer calls f value (Ok answer)
-        → Every (λ a. MayAnswer calls f a.value (Ok a.answer)) (more answer)
-    given_more answer says = every_append _ was.answers _ was.given (says, tt)
-
     module _ (is_clone : K → K → Type 0)
         (clones : (a b : Bound K) → IsBoundClone is_clone a b → SameBound order a b)
         (new : List (Item (AnyRange K) V)) (answer : Option V)
@@ -154,8 +146,8 @@ module _ {K : Type 0} {order : KeyOrder K} (lawful : IsLawful order) {V : Type 0
           let inside = (every_right _ Done _ (rw was.list at cut.inside)).0 in
           record {
             answers = more answer;
-            list = list_more answer;
-            given = given_more answer says;
+            list = grind (arith, common_steps, map-append);
+            given = every_append _ was.answers _ was.given (says, tt);
             from = upper order key;
             ahead = (rises_right order lawful Done _ (rw was.list at cut.rising)).0;
             filled = fill_more order lawful same equal r was.from (upper order key) was.answers key
@@ -196,11 +188,7 @@ module _ {K : Type 0} {order : KeyOrder K} (lawful : IsLawful order) {V : Type 0
             parts.rising there) (every_unmap piece_of _ was.answers parts.inside) (λ a only i. (
               (held_between order lawful a.key k i.0 key).1 only.0,
               λ b. as_answered order lawful same equal r middle k was.filled.known key a.answer b
-                  (λ W alike.
-                  let says = was.filled.has p W alike in (
-                    λ g. (only.1 W).0 (says.0 g),
-                    λ g. says.1 ((only.1 W).1 g),
-                  )),
+                  (λ W alike. through (was.filled.has p W alike) (only.1 W)),
             ));
         valued = was.filled.valued;
       }

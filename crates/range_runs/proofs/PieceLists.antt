@@ -1,7 +1,7 @@
 -- The pieces that are read off from the items that meet a range are its pieces.
 use Rattle.range_runs.proofs.Common.{arith, common_steps, ◌≡◌, refl, sym, ◌∙◌, List, [], ◌∷◌, ◌++◌, ◌⊎◌, inl, inr, Option, Some, None, Bool, true, false, map, if◌then◌else◌, append_assoc, append-nil, IsEquivalence, tied_itself, Every, Equal, Bound, Unbounded, KeyOrder, IsLawful, start_position, end_position, position_cmp, position_total, Position, common, flipped, starts_past_end, past, lower, upper, Le, Lt, Any, IsEmptyRange, IsKnownBound, IsKnownRange, AnyRange, common_known, later_is, earlier_is, any_right, every_weaker, every_append, every_left, every_right, reaching_is_before_past, flipped_bound_is_past, flipped_back, flipped_known, unbounded_start, unbounded_end, Item, line_of, Overlap, free_piece, bound_piece, free_between, pieces_from, pieces_of, IsFreePart, ArePieces, AreOverlapping, IsStored, le_refl, lt_le, eq_le, eq_ge, le_trans, cases, not_le, not_lt, lt_not_le, lt_le_trans, PLe, PLt}
 use Rattle.range_runs.proofs.Chains.{chain_above, chain_right, follows_above}
-use Rattle.range_runs.proofs.Forms.{Known, Chained, before_is, stored_chain, nonempty_good}
+use Rattle.range_runs.proofs.Forms.{Chained, before_is, stored_chain, nonempty_good}
 use Rattle.range_runs.proofs.RangePieces.{Rises, IsFull, IsRight, IsInside, AreCut, all_full, any_over, any_with, common_is, common_place_is_not_clear, common_within, cut_all, every_with, free_apart, free_inside}
 use Rattle.range_runs.proofs.Spelling.{IsKeptIn, gap_is_kept, common_is_kept}
 use Rattle.range_runs.proofs.Tests.{not_both}
@@ -34,11 +34,8 @@ module _ {K : Type 0} {order : KeyOrder K} (lawful : IsLawful order) {V : Type 0
   chained : Chained order lawful same equal items
   chained = stored_chain order lawful same equal items stored
 
-  listed : Known order lawful same equal items
-  listed = stored.known
-
   full : Every (IsFull order lawful items r) items
-  full = all_full order lawful same equal r items listed chained
+  full = all_full order lawful same equal r items stored.known chained
 
   -- all pieces of the range from two places on
   record IsCut (from to : Position K) (pieces : List (Item (AnyRange K) (Option V))) : Type 0 where
@@ -58,14 +55,10 @@ module _ {K : Type 0} {order : KeyOrder K} (lawful : IsLawful order) {V : Type 0
       record {
         each = (
           (after, behind, good),
-          every_weaker _ _ rest (λ q h. let up = le_trans lawful _ _ _ on h.1 in
-              (le_trans lawful _ _ _ after up, le_trans lawful _ _ _ behind up, h.2)) was.each,
+          every_weaker _ _ rest (λ q h. (grind (arith, common_steps, le_trans))) was.each,
         );
         rising = (every_weaker _ _ rest (λ q h. le_trans lawful _ _ _ ends h.1) was.each, was.rising);
-        covered = λ m h k upto. elim (split m h k upto) [
-          | inl here ↦ inl here
-          | inr there ↦ inr (was.covered m there.0 there.1 upto)
-        ];
+        covered = λ m h k upto. (grind (arith, common_steps));
       }
 
   -- the items before a place end at most there, and an item ends at it and the others start after
@@ -133,8 +126,7 @@ module _ {K : Type 0} {order : KeyOrder K} (lawful : IsLawful order) {V : Type 0
             free = free;
             left = elim ready.edge [
               | inl le ↦ inl (le_trans lawful _ _ _ upto le)
-              | inr some_item ↦ inr (any_over _ _ items (λ j h.
-                  (le_trans lawful _ _ _ upto h.0, le_trans lawful _ _ _ h.1 after)) some_item.0)
+              | inr some_item ↦ inr (any_over _ _ items (λ j h. (grind (arith, common_steps, le_trans))) some_item.0)
             ];
             right = elim bounded [
               | inl le ↦ inl (le_trans lawful _ _ _ le over)
@@ -142,11 +134,8 @@ module _ {K : Type 0} {order : KeyOrder K} (lawful : IsLawful order) {V : Type 0
                   (le_trans lawful _ _ _ ends h.0, le_trans lawful _ _ _ h.1 over)) some_item)
             ];
           },
-          gap_is_kept lawful equal items listed chained gap (is_known, room) free,
-        ) ends (λ m h k before. elim (cases lawful m to) [
-          | inl l ↦ inl (le_trans lawful _ _ _ upto h, lt_le_trans lawful _ _ _ l over)
-          | inr le ↦ inr (h, le)
-        ]) was
+          gap_is_kept lawful equal items stored.known chained gap (is_known, room) free,
+        ) ends (λ m h k before. (grind (arith, common_steps, cases, le_trans, lt_le_trans))) was
 
     gap_by : (a b : Bound K) (t : Bool) → starts_past_end order a b ≡ t → Opens (Some a) from
         → Closes (Some b) from to → IsCut from from
@@ -211,7 +200,7 @@ module _ {K : Type 0} {order : KeyOrder K} (lawful : IsLawful order) {V : Type 0
         part_within.2,
       ),
       among _ (common_is order lawful r x.key, refl),
-      common_is_kept lawful equal items listed chained done rest x ready.list r known starts ends,
+      common_is_kept lawful equal items stored.known chained done rest x ready.list r known starts ends,
     )
 
     part_after : Le' from (Low Part)

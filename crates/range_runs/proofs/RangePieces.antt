@@ -1,5 +1,5 @@
 -- Parts that share out a range are its pieces.
-use Rattle.range_runs.proofs.Common.{arith, common_steps, ◌≡◌, refl, sym, subst, ap, ◌∙◌, ℕ, ◌<◌, length, get_or, Option, Some, None, Bool, List, [], ◌∷◌, ◌++◌, ◌⊎◌, inl, inr, map, if◌then◌else◌, Every, Equal, is_gt, IsEquivalence, tied_back, KeyOrder, IsLawful, start_position, end_position, position_cmp, position_total, Position, equal_then_equal, AnyRange, IsKnownRange, Le, Lt, Any, le_refl, lt_le, eq_ge, le_trans, lt_not_le, cases, both, le_lt_trans, lt_le_trans, every_at, every_weaker, line_of, common, later_is, earlier_is, lower, upper, LiesBefore, Item, EachNext, later, earlier, IsCommonPart, LiesIn, IsFreePart, IsPiece, ArePieces, Overlap}
+use Rattle.range_runs.proofs.Common.{arith, common_steps, ◌≡◌, refl, sym, subst, ap, ◌∙◌, ℕ, ◌<◌, length, get_or, Option, Some, None, Bool, List, [], ◌∷◌, ◌++◌, ◌⊎◌, inl, inr, map, if◌then◌else◌, Every, Equal, is_gt, IsEquivalence, tied_back, KeyOrder, IsLawful, start_position, end_position, position_cmp, position_total, Position, equal_then_equal, AnyRange, IsKnownRange, Le, Lt, Any, le_refl, lt_le, eq_ge, le_trans, lt_not_le, not_lt, cases, both, le_lt_trans, lt_le_trans, every_at, every_weaker, line_of, common, later_is, earlier_is, lower, upper, LiesBefore, Item, EachNext, later, earlier, IsCommonPart, LiesIn, IsFreePart, IsPiece, ArePieces, Overlap}
 use Rattle.range_algebra.specs.RangeOrder.{range_cmp}
 use Rattle.range_runs.proofs.Chains.{follows_above, chain_tail}
 use Rattle.range_algebra.proofs.Commons.{later_over as starts_over, earlier_under as ends_under}
@@ -80,16 +80,11 @@ module _ {K : Type 0} (order : KeyOrder K) (lawful : IsLawful order) where
   rises_right [] ys h = h
   rises_right (x ∷ xs) ys h = rises_right xs ys h.1
 
-  chosen_by : (p q : Position K) (b : Bool) → is_gt (position_cmp order.cmp p q) ≡ b
-      → (PLe p (if b then p else q) × PLe q (if b then p else q))
-      × (PLe (if b then q else p) p × PLe (if b then q else p) q)
-  chosen_by p q test e = grind (arith, common_steps, le_refl)
-
   pub later_over : (p q : Position K) → PLe p (later order p q) × PLe q (later order p q)
-  later_over p q = (chosen_by p q (is_gt (position_cmp order.cmp p q)) refl).0
+  later_over p q = grind (arith, common_steps, le_refl, later)
 
   pub earlier_under : (p q : Position K) → PLe (earlier order p q) p × PLe (earlier order p q) q
-  earlier_under p q = (chosen_by p q (is_gt (position_cmp order.cmp p q)) refl).1
+  earlier_under p q = grind (arith, common_steps, le_refl, earlier)
 
   pub either_choice_holds : (P : Position K → Type 0) (b : Bool) (p q : Position K) → P p → P q
       → P (if b then p else q)
@@ -104,12 +99,8 @@ module _ {K : Type 0} (order : KeyOrder K) (lawful : IsLawful order) where
       → IsKnownRange order part → IsCommonPart order r i part
       → PLe (Lo r) (Lo part) × PLe (Lo i) (Lo part) × PLe (Hi part) (Hi r) × PLe (Hi part) (Hi i)
   common_within r i part known known' known'' h =
-      let p = start_position order r.start in
-      let q = start_position order i.start in
-      let u = end_position order r.end in
-      let v = end_position order i.end in
-      let latest = later_over p q in
-      let first = earlier_under u v in
+      let latest = later_over (start_position order r.start) (start_position order i.start) in
+      let first = earlier_under (end_position order r.end) (end_position order i.end) in
       let at = eq_ge lawful _ _ h.starts in
       (grind (arith, common_steps, le_trans, past_le))
 
@@ -129,15 +120,8 @@ module _ {K : Type 0} (order : KeyOrder K) (lawful : IsLawful order) where
       let other = before_is order lawful r.end i.start known'.1 known.0 in
       elim (cases lawful (Lo r) (Hi i)) [
         | inr le ↦ inl le
-        | inl l ↦ elim (cases lawful (Lo i) (Hi r)) [
-          | inr le ↦ inr le
-          | inl m ↦ absurd (none (grind (arith, common_steps, lt_not_le)))
-        ]
+        | inl l ↦ inr (not_lt lawful _ _ (λ m. none (grind (arith, common_steps, lt_not_le))))
       ]
-
-  pub apart_not : (i r : AnyRange K) → IsKnownRange order i → IsKnownRange order r
-      → PLe (Hi i) (Lo r) ⊎ PLe (Hi r) (Lo i) → Overlap order i r → ⊥
-  apart_not i r known known' either h = grind (arith, common_steps, before_is)
 
   module _ {V : Type 0} (items : List (Item (AnyRange K) V)) (r : AnyRange K) where
     abbrev pub IsFull : Item (AnyRange K) V → Type 0
@@ -177,7 +161,7 @@ module _ {K : Type 0} (order : KeyOrder K) (lawful : IsLawful order) where
           known = inside.0;
           nonempty = (nonempty_good order lawful key inside.0).1 inside.2;
           within = lies_in key r inside.0 known_r inside.1 inside.3;
-          free = every_with _ _ _ items h.free full (λ i a f. apart_not i.key key f.0 inside.0 a);
+          free = every_with _ _ _ items h.free full (λ i a f meets. (grind (arith, common_steps, before_is)));
         }
 
         pub free_apart : (key : AnyRange K) → IsFreePart order items r key
@@ -194,11 +178,7 @@ module _ {K : Type 0} (order : KeyOrder K) (lawful : IsLawful order) where
             → PLt (Lo key) (Hi other) → PLe (Lo key) (Lo other)
         starts_after key other h from apart meets = elim h.left [
           | inl le ↦ le_trans lawful _ _ _ le from
-          | inr bounded ↦ any_use _ _ items bounded apart (λ i at a. elim a.1 [
-            | inl le ↦ le_trans lawful _ _ _ at.0 le
-            | inr le ↦ absurd (lt_not_le lawful _ _ meets (le_trans lawful _ _ _ le
-                (le_trans lawful _ _ _ (lt_le lawful _ _ a.0.1) at.1)))
-          ])
+          | inr bounded ↦ any_use _ _ items bounded apart (λ i at a. (grind (arith, common_steps, le_trans, lt_le, lt_not_le)))
         ]
 
         ends_before : (key other : AnyRange K) → IsOpenPart key → PLe (Hi other) (Hi r)
@@ -206,11 +186,7 @@ module _ {K : Type 0} (order : KeyOrder K) (lawful : IsLawful order) where
             → PLt (Lo other) (Hi key) → PLe (Hi other) (Hi key)
         ends_before key other h upto apart meets = elim h.right [
           | inl le ↦ le_trans lawful _ _ _ upto le
-          | inr bounded ↦ any_use _ _ items bounded apart (λ i at a. elim a.1 [
-            | inl le ↦ absurd (lt_not_le lawful _ _ meets (le_trans lawful _ _ _ at.0
-                (le_trans lawful _ _ _ (lt_le lawful _ _ a.0.1) le)))
-            | inr le ↦ le_trans lawful _ _ _ le at.1
-          ])
+          | inr bounded ↦ any_use _ _ items bounded apart (λ i at a. (grind (arith, common_steps, le_trans, lt_le, lt_not_le)))
         ]
 
         -- what is right by places is a piece
@@ -227,10 +203,6 @@ module _ {K : Type 0} (order : KeyOrder K) (lawful : IsLawful order) where
               (starts_after key other h others.1 apart (lt_le_trans lawful _ _ _ inside.2 over.1))
               (ends_before key other h others.3 apart (le_lt_trans lawful _ _ _ over.0 inside.2)),
         )
-
-        same_extent : (key part : AnyRange K) → LiesIn order key part → LiesIn order part key
-            → range_cmp order key part ≡ Equal
-        same_extent key part h k = grind (arith, common_steps, equal_then_equal, both)
 
         same_common : (i key part : AnyRange K) → IsCommonPart order r i key
             → IsCommonPart order r i part → range_cmp order key part ≡ Equal
@@ -306,7 +278,7 @@ module _ {K : Type 0} (order : KeyOrder K) (lawful : IsLawful order) where
               let good = (nonempty_good order lawful part known).0 piece.0 in
               absurd (common_place_is_not_clear (Lo part) part key v known piece.1
               (le_refl lawful (Lo part)) good h.free from upto)
-          same_piece key part None None chain inside h known piece from upto = grind (arith, common_steps, free_inside, lies_in, inside, ends_before, free_apart, same_extent, free_part)
+          same_piece key part None None chain inside h known piece from upto = grind (arith, common_steps, free_inside, lies_in, inside, ends_before, free_apart, equal_then_equal, both, free_part)
 
       piece_inside : (full : Every IsFull items) (part : AnyRange K) (binding : Option V)
           → IsKnownRange order part → IsPiece order items r part binding

@@ -1,10 +1,9 @@
 -- The items that a range meets are one run of a stored list.
-use Rattle.range_runs.proofs.Common.{common_steps, Every, any_none, any_left, any_right, any_split, every_at, list_is_take_and_drop, drop_all, unbounded_end, Le, Lt, IsKnownBound, with_bounds, AnyRange, MeetsSome, IsStored, KeyOrder, IsLawful, start_position, end_position, position_cmp, Position, AreOverlapping, le_refl, lt_le, le_trans, lt_not_le, le_lt_trans, place_before, Item, ◌≡◌, refl, sym, ap, ◌∙◌, ℕ, zero, suc, ◌+◌, ◌-◌, ◌<◌, ◌≤◌, Bool, true, false, List, [], ◌∷◌, ◌++◌, length, take, drop, get_or, arith, Option, Some, None, inl, inr, drop-drop, IsEquivalence, is_gt, MatchOption, Bound, Included, Unbounded, IsFound, IsLastStarting, place_after}
+use Rattle.range_runs.proofs.Common.{common_steps, PLe, PLt, lower, Every, any_none, any_left, any_right, any_split, every_at, list_is_take_and_drop, drop_all, unbounded_end, IsKnownBound, with_bounds, AnyRange, MeetsSome, IsStored, KeyOrder, IsLawful, start_position, end_position, position_cmp, Position, AreOverlapping, le_refl, lt_le, le_trans, lt_not_le, le_lt_trans, place_before, Item, ◌≡◌, refl, sym, ap, ◌∙◌, ℕ, zero, suc, ◌+◌, ◌-◌, ◌<◌, ◌≤◌, Bool, true, false, List, [], ◌∷◌, ◌++◌, length, take, drop, get_or, arith, Option, Some, None, inl, inr, drop-drop, IsEquivalence, is_gt, MatchOption, Bound, Included, Unbounded, IsFound, IsLastStarting, place_after}
 use Rattle.range_runs.proofs.Forms.{every_front, every_back}
 use Rattle.range_runs.proofs.Found.{starts_rise, stored_tail, every_nonempty}
 use Rattle.range_runs.proofs.Listed.{IsListed, stored_list_is_listed}
 use Rattle.range_runs.proofs.RangePieces.{every_with}
-use Rattle.range_runs.proofs.Tests.{not_both}
 use Rattle.std.proofs.Math.Seq.{take-append-add}
 use Rattle.range_runs.proofs.Extents.{end_le}
 use Rattle.range_runs.proofs.Windows.{first_of_run, last_of_run}
@@ -17,27 +16,18 @@ every_between P m n [] h = every_front P (n - m) (drop m []) (every_back P m [] 
 every_between P (suc m) (suc n) (x ∷ xs) h = grind (arith, common_steps, every_between P m n xs h.1)
 
 module _ {K : Type 0} {order : KeyOrder K} (lawful : IsLawful order) where
-  abbrev PLe : Position K → Position K → Type 0
-  PLe p q = Le (position_cmp order.cmp) p q
-
-  abbrev PLt : Position K → Position K → Type 0
-  PLt p q = Lt (position_cmp order.cmp) p q
-
-  abbrev Start : {V : Type 0} → Item (AnyRange K) V → Position K
-  Start i = start_position order i.key.start
-
   abbrev End : {V : Type 0} → Item (AnyRange K) V → Position K
   End i = end_position order i.key.end
 
   -- the end of all keys is the last
   pub ends_full : (e : Bound K) → IsKnownBound order e
-      → PLe (end_position order e) (end_position order Unbounded)
+      → PLe lawful (end_position order e) (end_position order Unbounded)
   ends_full e known = end_le order lawful e Unbounded known tt (unbounded_end order lawful e known)
 
   module _ {V : Type 0} (same : V → V → Bool) where
     first_starts_first : (i : Item (AnyRange K) V) (rest : List (Item (AnyRange K) V)) (n : ℕ)
         (y : Item (AnyRange K) V) → IsListed order lawful same (i ∷ rest) → n < length rest
-        → y ≡ get_or rest n y → PLt (Start i) (Start y)
+        → y ≡ get_or rest n y → PLt lawful (lower order i.key) (lower order y.key)
     first_starts_first i rest n y h within read =
         rw read (le_lt_trans lawful _ _ _ (every_nonempty order lawful same (i ∷ rest) h).0
         (every_at _ rest n y (starts_rise order lawful same i rest h) within))
@@ -46,7 +36,7 @@ module _ {K : Type 0} {order : KeyOrder K} (lawful : IsLawful order) where
     listed_order : (items : List (Item (AnyRange K) V)) (m n : ℕ) (x y : Item (AnyRange K) V)
         → IsListed order lawful same items → m < length items → n < length items
         → x ≡ get_or items m x → y ≡ get_or items n y
-        → (m < n → PLt (Start x) (Start y)) × (n ≤ m → PLe (Start y) (Start x))
+        → (m < n → PLt lawful (lower order x.key) (lower order y.key)) × (n ≤ m → PLe lawful (lower order y.key) (lower order x.key))
     listed_order [] m n x y h in_m in_n read read' = absurd (omega (arith, in_m))
     listed_order (i ∷ rest) zero zero x y h in_m in_n read read' = grind (arith, common_steps, le_refl)
     listed_order (i ∷ rest) zero (suc n) x y h in_m in_n read read' = grind (arith, common_steps, first_starts_first)
@@ -56,24 +46,22 @@ module _ {K : Type 0} {order : KeyOrder K} (lawful : IsLawful order) where
     pub stored_order : {items : List (Item (AnyRange K) V)} {m n : ℕ} {x y : Item (AnyRange K) V}
         → IsStored order same items → m < length items → n < length items
         → x ≡ get_or items m x → y ≡ get_or items n y →
-        (is_gt (position_cmp order.cmp (Start y) (Start x)) ≡ true → m < n)
-        × (is_gt (position_cmp order.cmp (Start y) (Start x)) ≡ false → n ≤ m)
+        (is_gt (position_cmp order.cmp (lower order y.key) (lower order x.key)) ≡ true → m < n)
+        × (is_gt (position_cmp order.cmp (lower order y.key) (lower order x.key)) ≡ false → n ≤ m)
     stored_order {items = items} {m = m} {n = n} {x = x} {y = y} stored in_m in_n read read' =
         let placed = listed_order items m n x y (stored_list_is_listed order lawful same items
         stored) in_m in_n read read' in (
-          λ e. let never : n ≤ m → ⊥ = λ l. not_both (placed.1 l) e in omega (arith, never),
-          λ e.
-              let never : m < n → ⊥ = λ l. lt_not_le lawful _ _ (placed.0 l) e in
-              omega (arith, never),
+          λ e. (grind (arith, common_steps)),
+          λ e. (grind (arith, common_steps, lt_not_le)),
         )
 
   -- the items from the first that does not end before the range to the last that starts within it
   -- at the latest
   overlapping_are : {V : Type 0} (r : AnyRange K) (items : List (Item (AnyRange K) V)) (a b : ℕ)
-      → Every (λ i. PLt (End i) (start_position order r.start)) (take a items)
-      → Every (λ i. PLe (start_position order r.start) (End i)) (drop a items)
-      → Every (λ i. PLe (Start i) (end_position order r.end)) (take b items)
-      → Every (λ i. PLt (end_position order r.end) (Start i)) (drop b items)
+      → Every (λ i. PLt lawful (End i) (start_position order r.start)) (take a items)
+      → Every (λ i. PLe lawful (start_position order r.start) (End i)) (drop a items)
+      → Every (λ i. PLe lawful (lower order i.key) (end_position order r.end)) (take b items)
+      → Every (λ i. PLt lawful (end_position order r.end) (lower order i.key)) (drop b items)
       → AreOverlapping order items r (take (b - a) (drop a items))
   overlapping_are r items a b below above upto past =
       let same_place : a + (b - a) ≡ b + (a - b) = omega arith in
@@ -86,11 +74,7 @@ module _ {K : Type 0} {order : KeyOrder K} (lawful : IsLawful order) where
             (list_is_take_and_drop (drop a items) (b - a));
         below = below;
         meet = every_with _ _ _ _ (every_front _ (b - a) (drop a items) above)
-            (every_between _ a b items upto) (λ i h k. (
-              λ l. lt_not_le lawful _ _ l h,
-              λ l.
-                  lt_not_le lawful _ _ l k,
-            ));
+            (every_between _ a b items upto) (λ i h k. (grind (arith, common_steps, lt_not_le)));
         above = rw behind (every_back _ (a - b) (drop b items) past);
       }
 
@@ -143,7 +127,7 @@ module _ {K : Type 0} {order : KeyOrder K} (lawful : IsLawful order) {V : Type 0
       (drop (place_before rank (length items) first) items))
   found_from k key before first last found is_last =
       let upper : Position K = end_position order Unbounded in
-      let all : Every (λ i. PLe lawful (Start lawful i) upper) items = every_with _ _ _ items
+      let all : Every (λ i. PLe lawful (lower order i.key) upper) items = every_with _ _ _ items
       (every_nonempty order lawful same items (stored_list_is_listed order lawful same items
       stored)) stored.known (λ i own known. le_trans lawful _ _ _ own
       (ends_full lawful i.key.end known.1)) in

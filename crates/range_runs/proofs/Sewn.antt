@@ -46,10 +46,7 @@ module _ {L V X : Type 0} (line : Line L V X) where
       chains_join line front y ys chain other (elim (cases line c (line.lo y)) [
         | inl l ↦ every_weaker _ _ front
             (λ x h. strictly_leads line x _ _ (le_lt_trans line _ _ _ h l)) ends
-        | inr le ↦ every_weaker _ _ front (λ x h. (
-          le_trans line _ _ _ h.0 starts.0,
-          λ k. h.1 (le_trans line _ _ _ starts.0 k),
-        )) (leads y ys refl le)
+        | inr le ↦ every_weaker _ _ front (λ x h. (grind (arith, common_steps, le_trans))) (leads y ys refl le)
       ])
 
   -- what is left of the one, and then what is left of the other
@@ -102,22 +99,13 @@ module _ {L V X : Type 0} (line : Line L V X) where
             lt_le_trans line _ _ _ l x_high,
           )) (λ k. k) (λ k. absurd (none_below line p (line.hi y) W behind
               (lt_le_trans line _ _ _ l (lt_le line _ _ y_high)) later k)),
-          like_item line front front rest behind x z p W alike from_x (λ h. (
-            le_trans line _ _ _ low h.0,
-            lt_le_trans line _ _ _ l (lt_le line _ _ reaches),
-          )) (λ k. k) (λ k. absurd (none_below line p (line.hi x) W rest
+          like_item line front front rest behind x z p W alike from_x (λ h. (grind (arith, common_steps, le_trans, lt_le, lt_le_trans))) (λ k. k) (λ k. absurd (none_below line p (line.hi x) W rest
               (lt_le_trans line _ _ _ l x_high) (follows_above line x rest more) k)),
         );
         above = λ p W alike l. (
-          like_item line front early behind behind z y p W alike like_y (λ h. (
-            le_trans line _ _ _ y_low l,
-            lt_le_trans line _ _ _ h.1 (eq_le line _ _ at_hi),
-          )) (λ k. absurd (none_above line p (line.lo x) W front (le_trans line _ _ _ x_low l)
+          like_item line front early behind behind z y p W alike like_y (λ h. (grind (arith, common_steps, le_trans, eq_le, lt_le_trans))) (λ k. absurd (none_above line p (line.lo x) W front (le_trans line _ _ _ x_low l)
               (every_weaker _ _ front (λ x h. h.0) before) k)) (λ k. k),
-          like_item line early front behind behind y z p W alike from_y (λ h. (
-            le_trans line _ _ _ z_low l,
-            lt_le_trans line _ _ _ h.1 high,
-          )) (λ k. absurd (none_above line p (line.lo y) W early (le_trans line _ _ _ y_low l)
+          like_item line early front behind behind y z p W alike from_y (λ h. (grind (arith, common_steps, le_trans, lt_le_trans))) (λ k. absurd (none_above line p (line.lo y) W early (le_trans line _ _ _ y_low l)
               (every_weaker _ _ early (λ x h. h.0) earlier) k)) (λ k. k),
         );
       }

@@ -1,5 +1,5 @@
 -- Which bounds are written as those of a list that lie at the same places.
-use Rattle.range_runs.proofs.Common.{common_steps, ◌≡◌, refl, sym, subst, ◌∙◌, ℕ, zero, suc, ◌-◌, arith, Option, Some, None, Bool, List, [], ◌∷◌, ◌++◌, ◌⊎◌, inl, inr, length, get_or, append_assoc, if◌then◌else◌, Every, slice_set, Bound, Ordering, Less, Equal, Greater, is_lt, is_gt, IsEquivalence, KeyOrder, IsLawful, start_position, end_position, position_total, Position, AnyRange, IsBoundClone, SameBound, same_start, same_end, same_itself, common, lower, upper, le_refl, lt_le, eq_le, eq_ge, lt_not_le, lt_le_trans, le_lt_trans, PLe, PLt, IsKnownRange, gt_le, every_weaker, every_append, every_left, every_right, every_at, reaching_is_before_past, Item, IsPut, line_of, flipped_bound, with_end, IsStartAsIn, IsEndAsIn, IsSpelledAsIn, KeepsSpelling, position_cmp}
+use Rattle.range_runs.proofs.Common.{common_steps, ◌≡◌, refl, sym, subst, ◌∙◌, ℕ, zero, suc, ◌-◌, arith, Option, Some, None, Bool, List, [], ◌∷◌, ◌++◌, ◌⊎◌, inl, inr, length, get_or, append_assoc, if◌then◌else◌, Every, slice_set, Bound, Ordering, Less, Equal, Greater, is_lt, is_gt, IsEquivalence, KeyOrder, IsLawful, start_position, end_position, position_total, Position, AnyRange, IsBoundClone, SameBound, same_itself, common, lower, upper, le_refl, lt_le, eq_le, eq_ge, lt_not_le, lt_le_trans, le_lt_trans, PLe, PLt, IsKnownRange, gt_le, every_weaker, every_append, every_left, every_right, every_at, reaching_is_before_past, Item, IsPut, line_of, flipped_bound, with_end, IsStartAsIn, IsEndAsIn, IsSpelledAsIn, KeepsSpelling, position_cmp}
 use Rattle.range_runs.proofs.Chains.{chain_before, chain_right, follows_above}
 use Rattle.range_runs.proofs.CutParts.{cut_end, cut_start, known_turned, same_turned}
 use Rattle.range_runs.proofs.RangePieces.{every_with}

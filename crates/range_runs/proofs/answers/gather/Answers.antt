@@ -10,26 +10,23 @@ loop-part-init g c = rw (c.new-middle.ensures.items, c.pieces_within-pieces.ensu
 
 pub ask-requires : goal.ask-requires
 ask-requires g c =
-    let lawful = g.met.K.PartialEnum.lawful in
-    let equal = g.met.V.Eq.laws in
-    let was = rw c.in-Some.ensures.steps at (c.loop-part.invariant.underway lawful equal) in
-    next_is_askable lawful equal c.requires.window was c.requires.free c.requires.bound
+    let was = c.loop-part.invariant.underway g.met.K.PartialEnum.lawful g.met.V.Eq.laws in
+    next_is_askable _ _ c.requires.window (rw c.in-Some.ensures.steps at was) c.requires.free
+    c.requires.bound
 
 pub returns-in_err-ask-clause-closure : goal.returns-in_err-ask-clause-closure
 returns-in_err-ask-clause-closure g c = λ e failed.
-    let lawful = g.met.K.PartialEnum.lawful in
-    let equal = g.met.V.Eq.laws in
-    let was = rw c.in-Some.ensures.steps at (c.loop-part.invariant.underway lawful equal) in
-    next_answered lawful equal c.requires.window was (Err e)
+    let was = c.loop-part.invariant.underway g.met.K.PartialEnum.lawful g.met.V.Eq.laws in
+    next_answered _ _ c.requires.window (rw c.in-Some.ensures.steps at was) (Err e)
     (c.ask.ensures.closure e (grind (arith, common_steps)))
 
 pub returns-in_err-ask-clause-memory : goal.returns-in_err-ask-clause-memory
 returns-in_err-ask-clause-memory g c = λ failed.
-    let lawful = g.met.K.PartialEnum.lawful in
-    let equal = g.met.V.Eq.laws in
-    let was = rw c.in-Some.ensures.steps at (c.loop-part.invariant.underway lawful equal) in
-    let said = c.ask.ensures.memory (grind (arith, common_steps)) in
-    (said.0, next_answered lawful equal c.requires.window was (Ok said.0) said.1)
+    let was = c.loop-part.invariant.underway g.met.K.PartialEnum.lawful g.met.V.Eq.laws in
+    let said = c.ask.ensures.memory (grind (arith, common_steps)) in (
+      said.0,
+      next_answered _ _ c.requires.window (rw c.in-Some.ensures.steps at was) (Ok said.0) said.1,
+    )
 
 pub loop-part-preserved : goal.loop-part-preserved
 loop-part-preserved g c =
@@ -42,10 +39,9 @@ loop-part-preserved g c =
     record {
       spelled =
           let lawful = g.met.K.PartialEnum.lawful in
-          let equal = g.met.V.Eq.laws in
-          let was = rw c.in-Some.ensures.steps at (c.loop-part.invariant.underway lawful equal) in
-          one_more_keeps_spelling lawful equal c.requires.window was g.K.Clone.is_clone
-          (clones lawful) c.ask.new.items.items done.0 done.2 c.loop-part.invariant.spelled;
+          let was = c.loop-part.invariant.underway lawful g.met.V.Eq.laws in
+          one_more_keeps_spelling lawful _ c.requires.window (rw c.in-Some.ensures.steps at was)
+          g.K.Clone.is_clone (clones lawful) c.ask.new.items.items done.0 done.2 c.loop-part.invariant.spelled;
       underway = λ lawful equal.
           let was = rw c.in-Some.ensures.steps at (c.loop-part.invariant.underway lawful equal) in
           one_more lawful equal c.requires.window was g.K.Clone.is_clone (clones lawful)
@@ -54,7 +50,5 @@ loop-part-preserved g c =
 
 pub returns-clause-ok : goal.returns-clause-ok
 returns-clause-ok g c =
-    let lawful = g.met.K.PartialEnum.lawful in
-    let equal = g.met.V.Eq.laws in
-    all_gathered lawful equal c.requires.window
-    (rw c.in_default.ensures.steps.0 at (c.loop-part.invariant.underway lawful equal))
+    let was = c.loop-part.invariant.underway g.met.K.PartialEnum.lawful g.met.V.Eq.laws in
+    all_gathered _ _ c.requires.window (rw c.in_default.ensures.steps.0 at was)
