@@ -55,17 +55,13 @@ module _ (lexer : Lexer) (sets after : List (BTreeSet ℕ)) (keeps : KeepsAll se
 
     dense_more : AreDense new.rows.items new.dense.items
     dense_more i c r next ascii at here =
-        elim (row_at i r at) [
-          | inl (old, within) ↦
-              let full = was.full in
-              was.ascii i c r next ascii old
-              (stood before.dense.items new.dense.items adds.0 (128 * i + c) next
-              (omega (arith, within, ascii, full)) here)
-          | inr (last, same) ↦
-              let place : 128 * i + c ≡ length before.dense.items + c =
-              omega (arith, was.full, last) in
-              rw (← same) (adds.2 c next ascii (rw (← place) here))
-        ]
+        grind (
+          arith,
+          row_at i r,
+          was.ascii i c r next ascii,
+          stood before.dense.items new.dense.items adds.0 (128 * i + c) next,
+          adds.2 c next ascii,
+        )
 
     row_still : (i : ℕ) (r : Row) (set : BTreeSet ℕ) → slice_get new.rows.items i ≡ Some r
         → slice_get after i ≡ Some set → IsRowOf (rules_in lexer) after set r
@@ -73,10 +69,8 @@ module _ (lexer : Lexer) (sets after : List (BTreeSet ℕ)) (keeps : KeepsAll se
         let here = stood sets after keeps i set in
         elim (row_at i r at) [
           | inl (old, within) ↦
-              let stood = here (omega (arith, within, room)) stands in
-              λ c is next binds. goes_still set c next (was.row i r set old stood c is next binds)
-          | inr (last, same) ↦
-              rw (← same) (this set (rw (← last) (here (omega (arith, last, room)) stands)))
+              λ c is next binds. goes_still set c next (was.row i r set old (grind arith) c is next binds)
+          | inr (last, same) ↦ rw (← same) (this set (grind arith))
         ]
 
     first_still : (i : ℕ) (f : Option ℕ) (set : BTreeSet ℕ)
@@ -109,19 +103,3 @@ module _ (lexer : Lexer) (sets after : List (BTreeSet ℕ)) (keeps : KeepsAll se
 -- one character more in a dense row
 pub dense_none : (row : Row) (dense : List (Option ℕ)) → AddsDense row 0 dense dense
 dense_none row dense = (λ i x h. h, omega arith, λ c next h at. absurd (omega (arith, h)))
-
-pub dense_one : (row : Row) (count : ℕ) (before mid after : List (Option ℕ)) (next : Option ℕ)
-    → AddsDense row count before mid → after ≡ mid ++ next ∷ [] → RowBinds row count next
-    → AddsDense row (count + 1) before after
-dense_one row count before mid after next (keeps, len, binds) pushed this = (
-  λ i x h. keeps_pushed mid after next pushed i x (keeps i x h),
-  grind (arith, common_steps),
-  λ c found below at.
-      elim ((slice_get-push mid next (length before + c) found).0 (rw pushed at at)) [
-        | inl old ↦
-            let within = slice_get_within mid (length before + c) found old in
-            binds c found (omega (arith, within, len)) old
-        | inr (last, same) ↦
-            let place : c ≡ count = omega (arith, last, len) in rw (← same, place) this
-      ],
-)

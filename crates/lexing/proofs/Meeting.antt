@@ -19,15 +19,7 @@ use Rattle.lexing.specs.Budgets.{IsReached, AreMet, IsBuildReason}
 module _ (rules : Rules) where
   pub met_first : (sets : List (BTreeSet ℕ)) → AreFirst rules sets → AreMet rules sets
   met_first sets (set, only, starts) =
-      let start : IsReached rules set =
-      ([], after_none (HasRule rules) (IsStart rules) set starts) in
-      record {
-        reached = λ i s at. elim ((slice_get-push [] set i s).0 (rw only at at)) [
-          | inl none ↦ absurd cc
-          | inr (first, same) ↦ rw (← same) start
-        ];
-        unlike = λ i j s t below at later. absurd (grind (arith, slice_get_within sets j t));
-      }
+      grind (arith, after_none, slice_get-push, slice_get_within)
 
   -- one more, which is none of those that were met
   pub met_more : (sets after : List (BTreeSet ℕ)) (set copy : BTreeSet ℕ) → AreMet rules sets
@@ -36,10 +28,7 @@ module _ (rules : Rules) where
   met_more sets after set copy met (text, by) new same pushed =
       let copied : IsReached rules copy = (text, λ q. rw (same q) (by q)) in
       record {
-        reached = λ i s at. elim ((slice_get-push sets copy i s).0 (rw pushed at at)) [
-          | inl old ↦ met.reached i s old
-          | inr (last, is) ↦ rw (← is) copied
-        ];
+        reached = λ i s at. grind (arith, slice_get-push sets copy i s, met.reached i s);
         unlike = λ i j s t below at later alike.
             let first = slice_get-push sets copy i s in
             let second = slice_get-push sets copy j t in
@@ -78,14 +67,7 @@ held_or_not = key_held_or_not character_order (counted_lawful character_counted)
 
 held_character_or_not : (r : AnyRange ℕ) (c : ℕ)
     → (IsCharacter c × Holds character_order r c) ⊎ (¬ (IsCharacter c × Holds character_order r c))
-held_character_or_not r c =
-    elim (character_or_not c) [
-      | inr not ↦ inr (λ h. not h.0)
-      | inl is ↦ elim (held_or_not r c) [
-        | inl holds ↦ inl (is, holds)
-        | inr out ↦ inr (λ h. out h.1)
-      ]
-    ]
+held_character_or_not r c = grind (arith, held_or_not r c)
 
 -- some character of a range that is not without any
 pub some_character : (r : AnyRange ℕ) → ¬ IsKeyless character_order r

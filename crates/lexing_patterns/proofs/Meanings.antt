@@ -187,7 +187,5 @@ pub language_through : {a b : Re} {L M : List ℕ → Type 0} → IsLanguage a L
 language_through is_l is_m is_b = record {
   matches = λ front rest f r at.
       let l = is_l.matches front rest f r at in
-      let m = is_m.matches front rest f r at in
-      let other = is_b.matches front rest f r at in
-      (λ h. l.0 (m.1 (other.0 h)), λ h. other.1 (m.0 (l.1 h)));
+      let m = is_m.matches front rest f r at in grind (arith, is_b.matches front rest f r at);
 }

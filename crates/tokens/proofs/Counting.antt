@@ -1,5 +1,6 @@
 -- Tokens that are counted, one after the other.
 use Rattle.std.proofs.Common.{◌≡◌, refl, sym, ap, subst, ◌∙◌, inl, inr, ℕ, ◌+◌, ◌<◌, ◌≤◌, ◌^◌, ◌==◌, Bool, true, ◌&&◌, cond, eq-eqb, ne_eqb, List, [], ◌∷◌, ◌++◌, length, get_or, set, Option, Some, None, arith, length-append, replicate, take}
+use Rattle.std.proofs.lemmas.Grind.{common_steps}
 use lib.Seq.{take-append_seam}
 use Rattle.std.specs.Prelude.{IfSome, is_some}
 use Rattle.std.specs.Str.{IsCharBoundary, IsUtf8}
@@ -36,8 +37,7 @@ counts_more numbers counts n v within are is k below =
 
 pub counts_none : (n : ℕ) (counts : List ℕ) → counts ≡ replicate n 0 → AreCounts [] counts
 counts_none n counts is i below =
-    let many : length counts ≡ n = ap length is ∙ length-replicate {A = ℕ} n 0 in
-    ap (λ l. get_or l i 0) is ∙ get_or-replicate n i 0 0 (omega (arith, below, many))
+    grind (arith, length-replicate, get_or-replicate)
 
 -- a list that is written over as a whole
 pub written_over : (n : ℕ) (xs ys : List ℕ) → length xs ≡ n → take n (xs ++ ys) ≡ xs
@@ -52,23 +52,13 @@ module _ (rules : List PatternRule) (patterns : List Re) (text : List ℕ) where
     pub are : AreCounts numbers counts
 
   pub counted_none : (counts : List ℕ) → AreCounts [] counts → HasCounted true 0 counts
-  counted_none counts are = record {
-    numbers = [];
-    shows = shown_none rules patterns (λ number rule at len. number ∷ []) text;
-    few = omega arith;
-    are = are;
-  }
+  counted_none counts are = grind (arith, shown_none)
 
   pub counted_all : (is_whole : Bool) (at : ℕ) (counts : List ℕ) → at ≡ length text
       → HasCounted is_whole at counts
       → (numbers : List ℕ) × AreNumbers rules patterns text is_whole 0 numbers
       × AreCounts numbers counts
-  counted_all is_whole at counts ended was = (
-    was.numbers,
-    shown_all rules patterns (λ number rule at len. number ∷ []) text is_whole at was.numbers ended
-        was.shows,
-    was.are,
-  )
+  counted_all is_whole at counts ended was = grind (arith, shown_all)
 
   module _ (lexer : Lexer) (is : IsOfRules rules patterns lexer) (utf8 : IsUtf8 text) (at : ℕ)
       (boundary : IsCharBoundary text at) (counts after : List ℕ)
@@ -89,12 +79,10 @@ module _ (rules : List PatternRule) (patterns : List Re) (text : List ℕ) where
           → IfSome rule (λ n. n < length counts)
       known None piece = tt
       known (Some n) piece =
-          let found = rule_of_token rules patterns lexer is text utf8 at boundary n piece.0 piece.1 in
-          let below = slice_get_within rules n found.0 found.1 in omega (arith, below, many)
+          grind (arith, rule_of_token, slice_get_within)
 
       one_at_most : (rule : Option ℕ) → length (numbers_of rule) ≤ 1
-      one_at_most None = omega arith
-      one_at_most (Some n) = omega arith
+      one_at_most rule = grind arith
 
       pub counted_more : (is_whole : Bool) (rule : Option ℕ) → IsPiece lexer text at rule end
           → HasCounted is_whole at counts
@@ -103,11 +91,7 @@ module _ (rules : List PatternRule) (patterns : List Re) (text : List ℕ) where
           → HasCounted (is_whole && is_some rule) end after
       counted_more is_whole rule piece was adds = record {
         numbers = was.numbers ++ numbers_of rule;
-        shows = shown_more rules patterns (λ number rule at len. number ∷ []) text is_whole
-            (is_some rule) at end was.numbers (numbers_of rule) was.shows (step_of rule piece);
-        few = let few = was.few in
-            let one = one_at_most rule in
-            omega (arith, few, one, further, length-append was.numbers (numbers_of rule));
-        are = let few = was.few in
-            adds was.numbers (omega (arith, few, further, short)) (known rule piece) was.are;
+        shows = shown_more rules patterns _ text is_whole _ at end was.numbers _ was.shows (step_of rule piece);
+        few = grind (arith, common_steps, was.few, one_at_most rule);
+        are = adds was.numbers (grind (arith, was.few)) (known rule piece) was.are;
       }

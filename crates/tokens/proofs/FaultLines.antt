@@ -9,14 +9,11 @@ pub behind_last_break : (text : List ℕ) (at : ℕ) → at < length text → ge
     → ((i : ℕ) → at < i → i < length text → get_or text i 0 ≢ 10)
     → EndsWithLine text (drop (at + 1) text)
 behind_last_break text at within break none = (
-  λ i below same.
-      let len = length-drop (at + 1) text in
-      none (at + 1 + i) (omega arith) (omega (arith, below, len))
-      (sym (get_or-drop (at + 1) text i 0) ∙ same),
-  inr (
-    take at text,
-    sym (take-append-drop at text)
-        ∙ ap (λ rest. take at text ++ rest)
-        (drop_more text at 0 within ∙ ap (λ b. b ∷ drop (at + 1) text) break),
+  λ i below same. grind (
+    arith,
+    length-drop (at + 1) text,
+    none (at + 1 + i),
+    get_or-drop (at + 1) text i 0,
   ),
+  inr (take at text, grind (arith, take-append-drop at text, drop_more text at 0)),
 )

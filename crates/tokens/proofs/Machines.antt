@@ -1,5 +1,8 @@
 -- A machine that was built of rules.
 use Rattle.std.proofs.Common.{◌≡◌, refl, sym, subst, ℕ, ◌++◌, List, length}
+use Rattle.std.proofs.Common.{arith}
+use Rattle.std.proofs.lemmas.Option.{IfSome_then}
+use Rattle.std.proofs.lemmas.Result.{IfOk-weaker}
 use Rattle.std.specs.Prelude.{Result, Ok, Err, Option, Some, None, IfOk, IfSome, IfNone, ⊤}
 use Rattle.std.specs.Io.KnownBytes.{Appends}
 use Rattle.line_program.specs.Listing.{Writes}
@@ -17,9 +20,7 @@ use Rattle.tokens.specs.Rules.{line_place, TellsOfLine}
 pub found_as : {E : Type 0} (r : Result (Option Machine) E) (P Q : Machine → Type 0)
     → ((machine : Machine) → P machine → Q machine) → IfOk r (λ found. IfSome found P)
     → IfOk r (λ found. IfSome found Q)
-found_as (Ok (Some machine)) P Q follows h = follows machine h
-found_as (Ok None) P Q follows h = tt
-found_as (Err e) P Q follows h = tt
+found_as r P Q follows h = IfOk-weaker r _ _ (λ found some. IfSome_then found some follows) h
 
 pub none_as : {E : Type 0} (r : Result (Option Machine) E) (P Q : Type 0) → (P → Q)
     → IfOk r (λ found. IfNone found P) → IfOk r (λ found. IfNone found Q)
@@ -42,9 +43,4 @@ pub of_rules : (given rules : List PatternRule) (lexer built : Lexer) → given 
     → HasNamesOf given lexer → SkipsAs given lexer
     → (patterns : List Re) × IsOfRules rules patterns built
 of_rules given rules lexer built same is counted tokens named skips =
-    let of_given : (patterns : List Re) × IsOfRules given patterns lexer = (
-      tokens.0,
-      record { read = tokens.1; counted = counted; tokens = tokens.2; named = named; skips = skips },
-    ) in
-    subst (λ rs. (patterns : List Re) × IsOfRules rs patterns built) same
-    (subst (λ l. (patterns : List Re) × IsOfRules given patterns l) (sym is) of_given)
+    rw (← same, is) (tokens.0, grind (arith, counted, tokens.1, tokens.2, named, skips))

@@ -1,5 +1,6 @@
 -- The places of a text, byte by byte.
 use Rattle.std.proofs.Common.{◌≡◌, refl, sym, subst, ℕ, ◌+◌, ◌<◌, ◌≤◌, Bool, true, false, cond, ◌==◌, List, [], ◌∷◌, ◌++◌, length, take, get_or, arith}
+use Rattle.std.proofs.lemmas.Bool.Decides.{nat_tests}
 use Rattle.std.proofs.lemmas.List.{take_more, length-take-le}
 use Rattle.tokens.specs.declared.place.Place.{Place}
 use Rattle.tokens.specs.Places.{first_place, is_inside, place_behind, place_after, place_at}
@@ -11,9 +12,7 @@ after_more place (b ∷ bytes) byte = after_more (place_behind place b) bytes by
 
 pub place_more : (text : List ℕ) (at : ℕ) → at < length text
     → place_at text (at + 1) ≡ place_behind (place_at text at) (get_or text at 0)
-place_more text at h =
-    subst (λ front. place_after first_place front ≡ place_behind (place_at text at) (get_or text at 0))
-    (sym (take_more text at 0 h)) (after_more first_place (take at text) (get_or text at 0))
+place_more text at h = rw (take_more text at 0 h) (after_more first_place (take at text) _)
 
 -- a place is not far from where the text begins
 pub record IsNear (place : Place) (at : ℕ) : Type 0 where
@@ -22,44 +21,14 @@ pub record IsNear (place : Place) (at : ℕ) : Type 0 where
 
 pub near_more : (place : Place) (at byte : ℕ) → IsNear place at
     → IsNear (place_behind place byte) (at + 1)
-near_more place at byte near = by_test (byte == 10) (is_inside byte)
-  where
-    by_test : (ends inside : Bool) → IsNear
-        (cond ends (record { line = place.line + 1; column = 1 })
-        (cond inside place (record { line = place.line; column = place.column + 1 }))) (at + 1)
-    by_test true inside = record {
-      line = let h = near.line in omega (arith, h);
-      column = omega arith;
-    }
-    by_test false true = record {
-      line = let h = near.line in omega (arith, h);
-      column = let h = near.column in omega (arith, h);
-    }
-    by_test false false = record {
-      line = let h = near.line in omega (arith, h);
-      column = let h = near.column in omega (arith, h);
-    }
+near_more place at byte near = grind (arith, nat_tests)
 
 near_after : (place : Place) (bytes : List ℕ) (at : ℕ) → IsNear place at
     → IsNear (place_after place bytes) (at + length bytes)
-near_after place [] at near = record {
-  line = let h = near.line in omega (arith, h);
-  column = let h = near.column in omega (arith, h);
-}
+near_after place [] at near = grind arith
 near_after place (byte ∷ bytes) at near =
-    let far = near_after (place_behind place byte) bytes (at + 1) (near_more place at byte near) in
-    record {
-      line = let h = far.line in omega (arith, h);
-      column = let h = far.column in omega (arith, h);
-    }
+    grind (arith, near_after (place_behind place byte) bytes (at + 1), near_more place at byte)
 
 pub near_at : (text : List ℕ) (at : ℕ) → at ≤ length text → IsNear (place_at text at) at
 near_at text at within =
-    let near = near_after first_place (take at text) 0
-    (record { line = omega arith; column = omega arith }) in
-    let line : (place_at text at).line ≤ 0 + length (take at text) + 1 = near.line in
-    let column : (place_at text at).column ≤ 0 + length (take at text) + 1 = near.column in
-    let front = length-take-le at text within in record {
-      line = omega (arith, line, front);
-      column = omega (arith, column, front);
-    }
+    grind (arith, near_after first_place (take at text) 0, length-take-le at text within)

@@ -1,5 +1,6 @@
 -- What is shown and printed of a text so far.
-use Rattle.std.proofs.Common.{◌≡◌, refl, sym, subst, ℕ, Bool, true, false, ◌&&◌, List, [], ◌++◌, length, Option, append_assoc}
+use Rattle.std.proofs.Common.{arith, ◌≡◌, refl, ℕ, Bool, true, ◌&&◌, List, [], ◌++◌, length, Option, append_assoc}
+use Rattle.std.proofs.Math.Bool.{and_assoc, and-true}
 use Rattle.std.specs.Io.KnownBytes.{Appends}
 use Rattle.line_program.specs.Listing.{Writes}
 use Rattle.line_program.proofs.Listing.{append_nil, appends_none, appends_then}
@@ -7,14 +8,6 @@ use Rattle.lexing_patterns.specs.declared.patterns.PatternRule.{PatternRule}
 use Rattle.regex_hir.specs.Re.{Re}
 use Rattle.tokens.specs.Printing.{Shown, IsStep, IsShown}
 use Rattle.tokens.specs.Printing.IsShown.{At_end, Behind}
-
-and_in_turn : (a b c : Bool) → (a && (b && c)) ≡ ((a && b) && c)
-and_in_turn true b c = refl
-and_in_turn false b c = refl
-
-and_true : (a : Bool) → (a && true) ≡ a
-and_true true = refl
-and_true false = refl
 
 module _ (rules : List PatternRule) (patterns : List Re) (shown : Shown) (text : List ℕ) where
   -- this is shown of the text up to the place
@@ -30,20 +23,15 @@ module _ (rules : List PatternRule) (patterns : List Re) (shown : Shown) (text :
       → HasShown (is_whole && is_token) next (front ++ line)
   shown_more is_whole is_token at next front line was step = record {
     goes_on = λ rest more is.
-        let behind : IsShown rules patterns shown text (is_token && rest) at (line ++ more) =
-        Behind is_token rest (is_token && rest) at next line more (line ++ more) step is refl refl in
-        subst (λ whole. IsShown rules patterns shown text whole 0 ((front ++ line) ++ more))
-        (and_in_turn is_whole is_token rest)
-        (subst (IsShown rules patterns shown text (is_whole && (is_token && rest)) 0)
-        (sym (append_assoc front line more)) (was.goes_on (is_token && rest) (line ++ more) behind));
+        rw (append_assoc front line more, and_assoc is_whole is_token rest)
+        (was.goes_on (is_token && rest) (line ++ more)
+        (Behind is_token rest _ at next line more _ step is refl refl));
   }
 
   pub shown_all : (is_whole : Bool) (at : ℕ) (front : List ℕ) → at ≡ length text
       → HasShown is_whole at front → IsShown rules patterns shown text is_whole 0 front
   shown_all is_whole at front ended was =
-      subst (λ whole. IsShown rules patterns shown text whole 0 front) (and_true is_whole)
-      (subst (IsShown rules patterns shown text (is_whole && true) 0) (append_nil front)
-      (was.goes_on true [] (At_end at ended)))
+      rw (append_nil front, and-true is_whole) at (was.goes_on true [] (At_end at ended))
 
   -- what is written is shown of the text up to the place
   pub record HasPrinted (is_whole : Bool) (at : ℕ) (before now : Option (List ℕ)) : Type 0 where
@@ -68,8 +56,4 @@ module _ (rules : List PatternRule) (patterns : List Re) (shown : Shown) (text :
   pub printed_all : (is_whole : Bool) (at : ℕ) (before now : Option (List ℕ)) → at ≡ length text
       → HasPrinted is_whole at before now
       → Writes before now (IsShown rules patterns shown text is_whole 0)
-  printed_all is_whole at before now ended printed = (
-    printed.written,
-    shown_all is_whole at printed.written ended printed.shows,
-    printed.appended,
-  )
+  printed_all is_whole at before now ended printed = grind (arith, shown_all)

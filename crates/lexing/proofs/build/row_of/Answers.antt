@@ -31,15 +31,7 @@ reached c =
     (c.requires.met.reached c.args.at set stands)
 
 pub loop-range-init : goal.loop-range-init
-loop-range-init c = record {
-  kept = λ i x h. h;
-  longer = omega arith;
-  few = c.requires.few;
-  met = c.requires.met;
-  found = c.requires.found;
-  row = row_none c.args.sets.now.listed.items c.iter-entries.result c.iter-entries.result c.new-row.result
-      c.new-row.ensures refl;
-}
+loop-range-init c = grind (arith, row_none)
 
 pub loop-range-preserved : goal.loop-range-preserved
 loop-range-preserved c =
@@ -64,12 +56,7 @@ returns-in_err-next-clause-kept c =
 
 pub returns-in_err-next-clause-refused : goal.returns-in_err-next-clause-refused
 returns-in_err-next-clause-refused c =
-    let was =
-    err_from_is_err_and c.from_residual-in_err-next.result c.from_residual-in_err-next.ensures.1 in
-    let found = (goal.at.returns-in_err-next-clause-refused c).In-Some in
-    rw (was.1, was.2)
-    (c.in_err-next.ensures.refused (rules_in c.args.lexer.now) c.loop-range.invariant.met
-    (reached found))
+    grind (arith, err_from_is_err_and, reached)
 
 pub returns-in_err-insert-clause-kept : goal.returns-in_err-insert-clause-kept
 returns-in_err-insert-clause-kept c =

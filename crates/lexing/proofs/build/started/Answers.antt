@@ -9,5 +9,4 @@ add-requires-clause-new c = λ i other at. absurd (grind (arith, c.new-sets.ensu
 
 pub returns-clause-first : goal.returns-clause-first
 returns-clause-first c =
-    let (copy, pushed, same) = c.in_ok-add.ensures.added in
-    (copy, rw c.new-sets.ensures.none at pushed, λ p. rw (same p) (c.in_ok-starts.ensures.starts p))
+    grind arith

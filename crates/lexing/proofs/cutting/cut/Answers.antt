@@ -4,10 +4,7 @@ use Rattle.lexing.proofs.TokenLists.{tokens_more, token_boundary, reason_of_all}
 use Rattle.lexing.proofs.cutting.cut.Goals as goal
 
 pub loop-at-init : goal.loop-at-init
-loop-at-init g c = record {
-  boundary = IsCharBoundary-start c.args.text.now c.utf8.text;
-  tokens = rw c.new-tokens.ensures.items refl;
-}
+loop-at-init g c = grind (arith, IsCharBoundary-start)
 
 pub returns-in-Err-clause-stuck : goal.returns-in-Err-clause-stuck
 returns-in-Err-clause-stuck g c =

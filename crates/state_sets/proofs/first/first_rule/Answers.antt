@@ -2,7 +2,7 @@ use Rattle.std.proofs.Common.{sym, arith}
 use Rattle.std.proofs.lemmas.Grind.{common_steps}
 use Rattle.std.specs.Map.Iter.{deref}
 use Rattle.std.proofs.lemmas.Map.Iter.{rest_more, rest_all}
-use Rattle.state_sets.proofs.Firsts.{first_passes, first_more, first_of_all}
+use Rattle.state_sets.proofs.Firsts.{first_more, first_of_all}
 use Rattle.state_sets.proofs.first.first_rule.Goals as goal
 
 pub loop-state-preserved-in-Some-get : goal.loop-state-preserved-in-Some-get

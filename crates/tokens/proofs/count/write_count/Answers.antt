@@ -7,25 +7,16 @@ use Rattle.tokens.proofs.count.write_count.Goals as goal
 
 pub returns-then-count-eq0 : goal.returns-then-count-eq0
 returns-then-count-eq0 g c =
-    let lexer = c.args.printer.now.lexer.now in
     let same : c.in-Ok.rule ≡ c.args.rule = omega (arith, c.in-Ok.ensures) in
-    let none = appends_none (g.W.Write.contents c.args.out.now) in
     elim c.then-count-eq0.branch [
-      | then-count-eq0-via-then-count-eq0 w ↦ ([], inl (inl w.if-count-eq0.true, refl), none)
-      | then-count-eq0-via-else-count-eq0+then-is_skipped w ↦ (
-        [],
-        inl (
-          inr (subst (IsSkipped lexer) same
-              (subst (λ l. IsSkipped l c.in-Ok.rule) (sym c.requires) (w.if-is_skipped.ensures.0 refl))),
-          refl,
-        ),
-        none,
-      )
+      | then-count-eq0-via-then-count-eq0 w ↦
+          ([], inl (inl w.if-count-eq0.true, refl), appends_none _)
+      | then-count-eq0-via-else-count-eq0+then-is_skipped w ↦
+          ([], inl (inr (rw (← same, c.requires) (w.if-is_skipped.ensures.0 refl)), refl), appends_none _)
     ]
 
 pub returns-in-Some : goal.returns-in-Some
 returns-in-Some g c =
-    let lexer = c.args.printer.now.lexer.now in
     let name = c.in-Some.name.now in
     let same : c.in-Ok.rule ≡ c.args.rule = omega (arith, c.in-Ok.ensures) in
     on_ok_as c.writeln.result _ _
@@ -33,10 +24,9 @@ returns-in-Some g c =
       name ++ (codes " " ++ (decimal c.args.count ++ codes "\n")),
       inr (
         c.if-count-eq0.false,
-        λ h. let e = c.if-is_skipped.ensures.1 (subst (λ l. IsSkipped l c.in-Ok.rule) c.requires
-            (subst (IsSkipped lexer) (sym same) h)) in absurd cc,
+        λ h. let e = c.if-is_skipped.ensures.1 (rw (← same, c.requires) at h) in absurd cc,
         name,
-        subst (λ r. IsNameOf lexer r name) same c.in-Some.ensures,
+        rw same at c.in-Some.ensures,
         sym (append_four name (codes " ") (decimal c.args.count) (codes "\n")),
       ),
       appended,

@@ -4,28 +4,19 @@ use Rattle.tokens.proofs.CountLines.{count_line_is, lines_none, lines_more, line
 use Rattle.tokens.proofs.count.write_counts.Goals as goal
 
 pub loop-rule-init : goal.loop-rule-init
-loop-rule-init g c = λ rules patterns numbers is many are.
-    lines_none rules numbers (g.W.Write.contents c.args.out.now)
+loop-rule-init g c = grind (arith, lines_none)
 
 pub loop-rule-preserved : goal.loop-rule-preserved
 loop-rule-preserved g c = λ rules patterns numbers is many are.
     let number = c.loop-rule.rule in
-    let counts = c.args.counts.now in
-    let inside : number < length counts = omega (arith, c.loop-rule-test.true) in
-    let (rule, there) = some_at rules number (omega (arith, inside, many)) in
+    let count = get_or c.args.counts.now number 0 in
+    let (rule, there) = some_at rules number (omega (arith, many)) in
     let (line, writes, appended) = c.in_ok-write_count.ensures in
-    lines_more rules numbers number (get_or counts number 0) rule (g.W.Write.contents c.args.out.now)
-    (g.W.Write.contents c.loop-rule.out) (g.W.Write.contents c.write_count.new.out) there
-    (are number inside) (c.loop-rule.invariant rules patterns numbers is many are) (
-      line,
-      count_line_is rules patterns c.args.printer.now.lexer.now is number
-          (get_or counts number 0) line writes rule there,
-      appended,
-    )
+    lines_more rules numbers number count rule _ _ _ there (are number (omega arith))
+    (c.loop-rule.invariant rules patterns numbers is many are)
+    (line, count_line_is rules patterns _ is number count line writes rule there, appended)
 
 pub returns : goal.returns
 returns g c = λ rules patterns numbers is many are.
-    let ended : c.loop-rule.rule ≡ length rules = omega (arith, c.loop-rule-test.false, c.loop-rule.auto.rule-end, many) in
-    lines_all rules numbers c.loop-rule.rule (g.W.Write.contents c.args.out.now)
-    (g.W.Write.contents c.loop-rule.out) ended
+    lines_all rules numbers c.loop-rule.rule _ _ (omega (arith, c.loop-rule.auto.rule-end, many))
     (c.loop-rule.invariant rules patterns numbers is many are)

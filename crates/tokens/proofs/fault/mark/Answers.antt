@@ -12,13 +12,8 @@ loop-c-init g c = c.in_ok-write_all.ensures.bytes
 
 pub loop-c-preserved : goal.loop-c-preserved
 loop-c-preserved g c =
-    let marked = c.loop-c.yielded in
     let more = appends_then _ _ _ _ _ c.loop-c.invariant c.in_ok-write_all-2.ensures.bytes in
-    subst (Appends (g.E.Write.contents c.args.err.now) (g.E.Write.contents c.write_all-in-loop-c.new.self))
-    (ap (λ l. codes "  " ++ l)
-    (ap (λ b. map blank_below marked ++ b ∷ []) c.blank_below.ensures
-    ∙ sym (map-append blank_below marked (c.in-Some.c ∷ []))))
-    more
+    rw (map-append, ← c.blank_below.ensures) more
 
 pub returns : goal.returns
 returns g c =
@@ -27,6 +22,5 @@ returns g c =
     c.loop-c.yielded_by _ _ c.in-None.is c.next.ensures.steps in
     let all = sym (map-id c.loop-c.yielded) ∙ end.0 in
     on_ok_as c.write_all-2.result _ _
-    (λ appended. subst (Appends (g.E.Write.contents c.args.err.now) (g.E.Write.contents c.write_all-2.new.self))
-    (ap (λ l. (codes "  " ++ map blank_below l) ++ codes "^\n") all)
-    (appends_then _ _ _ _ _ c.loop-c.invariant appended)) c.write_all-2.ensures.bytes
+    (λ appended. rw (← all) (appends_then _ _ _ _ _ c.loop-c.invariant appended))
+    c.write_all-2.ensures.bytes

@@ -9,24 +9,19 @@ pub returns-in_ok-print_token-in-Some-clause-printed :
 returns-in_ok-print_token-in-Some-clause-printed g c = λ rules patterns is.
     let text = c.args.text.now in
     let at = c.args.at in
-    let end = c.args.piece.end in
     let rule = c.in-Some.rule in
     let lexer = c.args.printer.now.lexer.now in
     let form = c.args.printer.now.form in
     let (len, token, ends) =
-    piece_token lexer (g.S.Scanner.lexer c.args.printer.now.scanner.now) text at c.args.piece.rule end
-    c.requires.same c.requires.piece rule c.in-Some.is in
-    let rest : end - at ≡ len = omega (arith, ends) in
-    let piece = c.range.ensures.value ∙ ap (λ n. take n (drop at text)) rest in
-    let (line, writes, appended) = c.in_ok-print_token-in-Some.ensures in
-    let of_piece = subst (λ p. WritesToken lexer form rule c.args.place p line) piece writes in
-    let of_place =
-    subst (λ p. WritesToken lexer form rule p (take len (drop at text)) line) c.requires.here of_piece
-    in (
+    piece_token lexer (g.S.Scanner.lexer c.args.printer.now.scanner.now) text at c.args.piece.rule
+    c.args.piece.end c.requires.same c.requires.piece rule c.in-Some.is in
+    let rest : c.args.piece.end - at ≡ len = omega (arith, ends) in
+    let (line, writes, appended) = c.in_ok-print_token-in-Some.ensures in (
       line,
       token_step rules patterns lexer is text c.utf8.text at c.requires.boundary
-          (printed_token form text) rule len end line ends token
-          (line_is rules patterns lexer is form text at rule len line of_place),
+          (printed_token form text) rule len c.args.piece.end line ends token
+          (line_is rules patterns lexer is form text at rule len line
+          (rw (c.range.ensures.value, rest, c.requires.here) at writes)),
       appended,
     )
 

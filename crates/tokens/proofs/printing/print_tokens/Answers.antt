@@ -9,29 +9,21 @@ pub loop-at-init : goal.loop-at-init
 loop-at-init g c = record {
   boundary = IsCharBoundary-start c.args.text.now c.utf8.text;
   here = c.first-place.ensures;
-  printed = λ rules patterns is.
-      printed_none rules patterns (printed_token c.args.printer.now.form c.args.text.now)
-      c.args.text.now (g.W.Write.contents c.args.out.now);
+  printed = λ rules patterns is. printed_none rules patterns _ c.args.text.now _;
   silent = λ whole. refl;
 }
 
 pub loop-at-preserved : goal.loop-at-preserved
 loop-at-preserved g c =
     let was = c.loop-at.invariant in
-    let piece = c.in_ok-piece.piece in
     let is_token = c.in_ok-is_token.is_token in
-    let text = c.args.text.now in
-    let shown = printed_token c.args.printer.now.form text in
-    let before = g.W.Write.contents c.args.out.now in
-    let after = g.W.Write.contents c.print_piece.new.out in
     record {
       boundary = c.in_ok-piece.ensures.boundary;
       here = c.further-place.ensures;
       printed = λ rules patterns is.
-          subst (λ whole. HasPrinted rules patterns shown text whole piece.end before after)
-          (sym c.both-is_whole.ensures)
-          (printed_more rules patterns shown text c.loop-at.is_whole is_token c.loop-at.at piece.end
-          before (g.W.Write.contents c.loop-at.out) after (was.printed rules patterns is)
+          rw c.both-is_whole.ensures
+          (printed_more rules patterns _ c.args.text.now c.loop-at.is_whole is_token c.loop-at.at
+          c.in_ok-piece.piece.end _ _ _ (was.printed rules patterns is)
           (c.in_ok-is_token.ensures.printed rules patterns is));
       silent = λ whole.
           let parts =
@@ -40,10 +32,4 @@ loop-at-preserved g c =
     }
 
 pub returns-clause-printed : goal.returns-clause-printed
-returns-clause-printed g c = λ rules patterns is.
-    let was = c.loop-at.invariant in
-    let ended : c.loop-at.at ≡ length c.args.text.now =
-    let within = was.boundary.0 in omega (arith, within, c.loop-at-test.false) in
-    printed_all rules patterns (printed_token c.args.printer.now.form c.args.text.now)
-    c.args.text.now c.loop-at.is_whole c.loop-at.at (g.W.Write.contents c.args.out.now)
-    (g.W.Write.contents c.loop-at.out) ended (was.printed rules patterns is)
+returns-clause-printed g c = grind (arith, printed_all)

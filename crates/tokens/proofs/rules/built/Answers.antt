@@ -6,6 +6,5 @@ use Rattle.tokens.proofs.rules.built.Goals as goal
 pub returns-in_ok-writeln-in-Err-TooLarge-clause-refused :
     goal.returns-in_ok-writeln-in-Err-TooLarge-clause-refused
 returns-in_ok-writeln-in-Err-TooLarge-clause-refused g c =
-    subst (Appends (g.E.Write.contents c.args.err.now) (g.E.Write.contents c.writeln.new.self))
-    (sym (append_four c.args.path.now (codes ": the rules need more than ") (decimal 10000)
-    (codes " states\n"))) c.in_ok-writeln-in-Err-TooLarge.ensures.bytes
+    rw (append_four c.args.path.now (codes ": the rules need more than ") (decimal 10000)
+    (codes " states\n")) c.in_ok-writeln-in-Err-TooLarge.ensures.bytes

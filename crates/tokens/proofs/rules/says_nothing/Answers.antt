@@ -5,14 +5,8 @@ use Rattle.tokens.proofs.rules.says_nothing.Goals as goal
 
 pub returns-then-is_empty : goal.returns-then-is_empty
 returns-then-is_empty c =
-    let len = length c.args.line.now in
-    c.if-is_empty.true
-    ∙ sym (nothing_empty c.args.line.now (eqb-true len 0 (sym c.if-is_empty.ensures)))
+    grind (arith, nothing_empty, eqb-true)
 
 pub returns-else-is_empty : goal.returns-else-is_empty
 returns-else-is_empty c =
-    let line = c.args.line.now in
-    let some = c.if-is_empty.ensures in
-    nothing_of line c.starts_with.result
-    (λ e. let none = eq-eqb (length line) 0 e in absurd cc)
-    (starts_char 35 line c.starts_with.result c.starts_with.ensures.cases (omega arith) (omega arith))
+    grind (arith, nothing_of, eq-eqb, starts_char)

@@ -25,8 +25,4 @@ returns-clause-skips c =
     )
 
 pub returns-clause-kept : goal.returns-clause-kept
-returns-clause-kept c = (
-  refl,
-  λ q rule. (λ h. h, λ h. h),
-  keeps_pushed c.args.self.now.kinds.items c.push.new.self.items _ c.in_ok-push.ensures.items,
-)
+returns-clause-kept c = grind (arith, keeps_pushed)

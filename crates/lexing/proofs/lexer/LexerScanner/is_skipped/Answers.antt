@@ -16,9 +16,4 @@ returns-in-Some c =
     )
 
 pub returns-in-None : goal.returns-in-None
-returns-in-None c = (
-  λ h. absurd cc,
-  λ (kind, at, skipped).
-      let within = slice_get_within c.args.self.now.kinds.items c.args.rule kind at in
-      absurd (omega (arith, within, c.in-None.ensures.lookup.3, c.deref.ensures.len)),
-)
+returns-in-None c = grind (arith, slice_get_within)

@@ -21,13 +21,7 @@ returns-then-is_ascii-clause-known c =
 
 pub returns-else-is_ascii-clause-goes : goal.returns-else-is_ascii-clause-goes
 returns-else-is_ascii-clause-goes c =
-    let machine = c.args.self.now in
-    let rows = machine.states.rows.items in
-    let row = c.index-else-is_ascii.result.now in
-    goes_by_row machine c.args.state c.args.c c.copied.result c.requires c.known.ensures row
-    (slice_get_read rows (length rows) c.args.state row refl c.requires
-    c.index-else-is_ascii.ensures)
-    (rw c.copied.ensures c.get.ensures.value)
+    grind (arith, goes_by_row, slice_get_read)
 
 pub returns-else-is_ascii-clause-known : goal.returns-else-is_ascii-clause-known
 returns-else-is_ascii-clause-known c =
