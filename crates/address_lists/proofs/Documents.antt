@@ -1,21 +1,21 @@
 -- Lists as JSON: their texts, and what is read of texts.
-use Rattle.std.proofs.Common.{◌≡◌, ℕ, Bool, false, ◌||◌, List, [], ◌∷◌, Option, None, Some, IfSome, Result, Ok, Err, IfErr, IfOk, inl, inr, refl, ap, sym, subst, ◌∙◌}
+use Rattle.std.proofs.Common.{◌≡◌, ℕ, Bool, false, ◌||◌, List, [], ◌∷◌, Option, None, Some, IfSome, Result, Ok, Err, IfErr, IfOk, inl, inr, refl, sym, subst}
 use Rattle.std.specs.declared.ops.Bound.{Bound}
 use Rattle.std.specs.declared.ops.Bound.TheVariants.{Included, Excluded, Unbounded}
 use Rattle.serde_json.specs.Data.{Data}
 use Rattle.serde_json.specs.Read.{read}
 use Rattle.serde_json.specs.Written.{has_float}
 use Rattle.btree_range_map.specs.AnyRange.{AnyRange}
-use Rattle.btree_range_map.specs.Holding.{box_items}
 use Rattle.btree_range_map.specs.Item.{Item}
 use Rattle.btree_range_map.specs.Shapes.{bound_shape, range_shape, set_shape}
-use Rattle.address_keys.specs.Json.{ipv4_shape, ipv6_shape, reads_ipv4, reads_ipv6}
+use Rattle.address_keys.specs.Json.{reads_ipv4, reads_ipv6}
 use Rattle.address_text.specs.declared.family.Family.TheVariants.{V4, V6}
 use Rattle.address_lists.specs.Json.{IsDocument, IsJsonReason, IsListRead, IsValueReason, list_shape, member_of, IsSetReason}
 use Rattle.address_lists.specs.declared.addresses.Addresses.{Addresses}
 use Rattle.address_lists.specs.declared.json.JsonFault.TheVariants.{Members, Set, Text}
 use Rattle.address_lists.specs.declared.read.ListError.{ListError}
 use Rattle.address_lists.specs.declared.read.ListError.TheVariants.{BadLine, Json, Memory, Unread}
+use Rattle.std.proofs.Common.{arith}
 
 neither_true : (a b : Bool) → a ≡ false → b ≡ false → (a || b) ≡ false
 neither_true a b p q = rw (p, q) refl
@@ -28,28 +28,17 @@ module _ {K : Type 0} (shape : K → Data)
   bound_has_no_float Unbounded = refl
 
   range_has_no_float : (r : AnyRange K) → has_float (range_shape shape r) ≡ false
-  range_has_no_float r =
-      let start = bound_shape shape r.start in
-      let end = bound_shape shape r.end in
-      neither_true (has_float start) (has_float end || false) (bound_has_no_float r.start)
-      (neither_true (has_float end) false (bound_has_no_float r.end) refl)
+  range_has_no_float r = grind (arith, neither_true, bound_has_no_float)
 
   set_has_no_float : (items : List (Item (AnyRange K) (Unit {0})))
       → has_float (set_shape shape items) ≡ false
   set_has_no_float [] = refl
   set_has_no_float (i ∷ items) =
-      neither_true (has_float (range_shape shape i.key)) _ (range_has_no_float i.key)
-      (set_has_no_float items)
+      grind (arith, neither_true, range_has_no_float, set_has_no_float items)
 
 -- what a list is written as has no float, so its text is known
 pub list_has_no_float : (list : Addresses) → has_float (list_shape list) ≡ false
-list_has_no_float list =
-    let v4 = set_shape ipv4_shape (box_items list.v4) in
-    let v6 = set_shape ipv6_shape (box_items list.v6) in
-    neither_true (has_float v4) (has_float v6 || false)
-    (set_has_no_float ipv4_shape (λ address. refl) (box_items list.v4))
-    (neither_true (has_float v6) false
-    (set_has_no_float ipv6_shape (λ address. refl) (box_items list.v6)) refl)
+list_has_no_float list = grind (arith, neither_true, set_has_no_float)
 
 pub if_ok_as : {A E : Type 0} (r : Result A E) (P Q : A → Type 0) → ((x : A) → P x → Q x) → IfOk r P
     → IfOk r Q
@@ -60,14 +49,12 @@ if_ok_as (Err e) P Q follows held = tt
 pub v4_unread : (d set : Data) (e : ListError) → member_of V4 d ≡ Some set
     → IsSetReason V4 reads_ipv4 set e → IsValueReason d e
 v4_unread d set e is (inl memory) = subst (IsValueReason d) (sym memory) tt
-v4_unread d set e is (inr (fault, same, found)) =
-    subst (IsValueReason d) (sym same) (set, is, found)
+v4_unread d set e is (inr (fault, same, found)) = grind arith
 
 pub v6_unread : (d set : Data) (e : ListError) → member_of V6 d ≡ Some set
     → IsSetReason V6 reads_ipv6 set e → IsValueReason d e
 v6_unread d set e is (inl memory) = subst (IsValueReason d) (sym memory) tt
-v6_unread d set e is (inr (fault, same, found)) =
-    subst (IsValueReason d) (sym same) (set, is, found)
+v6_unread d set e is (inr (fault, same, found)) = grind arith
 
 -- why the value of a text is not read
 pub value_unread : (bytes : List ℕ) (d : Data) (e : ListError) → read bytes ≡ Some d
@@ -84,8 +71,7 @@ pub document_read : {E : Type 0} (input : Option (List ℕ)) (text : List ℕ) (
     (result : Result Addresses E) → IfSome input (λ bytes. text ≡ bytes) → read text ≡ Some d
     → IfOk result (IsListRead d) → IfOk result (λ list. IfSome input (λ bytes. IsDocument bytes list))
 document_read None text d (Ok list) same is found = tt
-document_read (Some bytes) text d (Ok list) same is found =
-    (d, ap read (sym same) ∙ is, found)
+document_read (Some bytes) text d (Ok list) same is found = grind arith
 document_read input text d (Err e) same is found = tt
 
 pub document_unread : {A : Type 0} (input : Option (List ℕ)) (text : List ℕ) (d : Data)
@@ -94,8 +80,7 @@ pub document_unread : {A : Type 0} (input : Option (List ℕ)) (text : List ℕ)
     → IfErr result (λ e. IfSome input (λ bytes. IsJsonReason bytes e))
 document_unread input text d (Ok x) same is why = tt
 document_unread None text d (Err e) same is why = tt
-document_unread (Some bytes) text d (Err e) same is why =
-    value_unread bytes d e (ap read (sym same) ∙ is) why
+document_unread (Some bytes) text d (Err e) same is why = grind (arith, value_unread)
 
 pub text_unread : (input : Option (List ℕ)) (text : List ℕ) (e : ListError)
     → IfSome input (λ bytes. text ≡ bytes) → IsJsonReason text e

@@ -1,5 +1,5 @@
 -- Lists of either form.
-use Rattle.std.proofs.Common.{◌≡◌, ◌⊎◌, ℕ, Bool, true, false, List, [], Option, None, Some, IfSome, Result, Ok, Err, IfErr, inl, inr, refl, subst}
+use Rattle.std.proofs.Common.{◌≡◌, ◌⊎◌, ℕ, Bool, true, false, List, [], Option, None, Some, IfSome, Result, Ok, Err, IfErr, inl, refl, subst}
 use Rattle.std.specs.Io.KnownBytes.{Keeps}
 use Rattle.btree_range_map.specs.Holding.{box_items}
 use Rattle.btree_range_map.specs.KeySets.{HoldsKey}
@@ -17,6 +17,7 @@ use Rattle.address_lists.specs.declared.read.BadLines.{BadLines}
 use Rattle.address_lists.specs.declared.read.BadLines.TheVariants.{Refused, Skipped}
 use Rattle.address_lists.specs.declared.read.ListError.{ListError}
 use Rattle.address_lists.specs.declared.read.ListError.TheVariants.{Memory, Unread}
+use Rattle.std.proofs.Common.{arith}
 
 has_not : (list : Addresses) → box_items list.v4 ≡ [] → box_items list.v6 ≡ [] → (family : Family)
     (n : ℕ) → ¬ Has list family n
@@ -32,18 +33,8 @@ module _ (strict : Bool) where
       → (bad_lines ≡ Refused → others ≡ 0)
       → IfSome input (λ bytes. IsReadAs strict false bad_lines bytes list others)
   lines_read bad_lines None none list others v4 v6 read refused = tt
-  lines_read bad_lines (Some bytes) none list others v4 v6 (lines, said, read) refused = (
-    lines,
-    said,
-    λ family n h. let both = read family n h in (
-      λ has. elim (both.0 has) [
-        | inl had ↦ absurd (has_not none v4 v6 family n had)
-        | inr listed ↦ listed
-      ],
-      λ listed. both.1 (inr listed),
-    ),
-    refused,
-  )
+  lines_read bad_lines (Some bytes) none list others v4 v6 (lines, said, read) refused =
+      grind (arith, has_not)
 
   pub json_read : (bad_lines : BadLines) (input : Option (List ℕ)) (list : Addresses)
       → IfSome input (λ bytes. IsDocument bytes list)
@@ -59,9 +50,7 @@ module _ (strict : Bool) where
       → IfSome input (λ bytes. IsFile strict bad_lines bytes list others)
   file_read bad_lines None later told list others kept is found = tt
   file_read bad_lines (Some bytes) None told list others kept is found = absurd kept
-  file_read bad_lines (Some bytes) (Some more) told list others kept is found =
-      subst (λ t. IsReadAs strict t bad_lines bytes list others) is
-      (subst (λ b. IsReadAs strict told bad_lines b list others) kept found)
+  file_read bad_lines (Some bytes) (Some more) told list others kept is found = grind arith
 
   pub file_unread : (bad_lines : BadLines) (input later : Option (List ℕ)) (told : Bool)
       (error : ListError) → Keeps input later → IfSome input (λ bytes. told ≡ is_json bytes)
@@ -69,9 +58,7 @@ module _ (strict : Bool) where
       → IfSome input (λ bytes. IsFileReason strict bad_lines bytes error)
   file_unread bad_lines None later told error kept is why = tt
   file_unread bad_lines (Some bytes) None told error kept is why = absurd kept
-  file_unread bad_lines (Some bytes) (Some more) told error kept is why =
-      subst (λ t. IsReasonAs strict t bad_lines bytes error) is
-      (subst (λ b. IsReasonAs strict told bad_lines b error) kept why)
+  file_unread bad_lines (Some bytes) (Some more) told error kept is why = grind arith
 
   -- why lines are not read
   pub lines_refused : (bad_lines : BadLines) (input : Option (List ℕ)) (error : ListError)
@@ -89,9 +76,7 @@ module _ (strict : Bool) where
       (λ error. IfSome later (λ bytes. IsReasonAs strict false bad_lines bytes error))
       → IfErr result (λ error. IfSome input (λ bytes. IsFileReason strict bad_lines bytes error))
   lines_unread bad_lines input later told (Ok found) kept is lines why = tt
-  lines_unread bad_lines input later told (Err error) kept is lines why =
-      file_unread bad_lines input later false error kept
-      (subst (λ t. IfSome input (λ bytes. t ≡ is_json bytes)) lines is) why
+  lines_unread bad_lines input later told (Err error) kept is lines why = grind (arith, file_unread)
 
   any_unread : (told : Bool) (bad_lines : BadLines) (bytes : List ℕ)
       → IsReasonAs strict told bad_lines bytes Unread

@@ -1,5 +1,5 @@
 -- What lists of lines say, and lines that are put together.
-use Rattle.std.proofs.Common.{◌≡◌, ℕ, zero, suc, ◌+◌, ◌≤◌, ◌<◌, ◌^◌, ◌↔◌, ◌⊎◌, List, [], ◌∷◌, ◌++◌, length, get_or, map, inl, inr, refl, sym, ap, ◌∙◌, subst, arith}
+use Rattle.std.proofs.Common.{◌≡◌, ℕ, zero, suc, ◌+◌, ◌≤◌, ◌<◌, ◌^◌, ◌↔◌, ◌⊎◌, List, [], ◌∷◌, ◌++◌, length, get_or, map, inl, inr, refl, sym, subst, arith}
 use Rattle.std.proofs.lemmas.Bool.{cases_lt}
 use Rattle.std.proofs.lemmas.List.{map_push}
 use Rattle.std.proofs.lemmas.List.Sorted.{Contains-permutation, IsPermutation-sym}
@@ -19,17 +19,7 @@ use Rattle.address_lists.specs.declared.addresses.Addresses.{Addresses as Held}
 pub any_append : {X : Type 0} (P : X → Type 0) (xs ys : List X)
     → Any P (xs ++ ys) ↔ (Any P xs ⊎ Any P ys)
 any_append P [] ys = (λ h. inr h, λ h. elim h [ inl none ↦ absurd none | inr some ↦ some ])
-any_append P (x ∷ xs) ys =
-    let rest = any_append P xs ys in (
-      λ h. elim h [
-        | inl here ↦ inl (inl here)
-        | inr later ↦ elim (rest.0 later) [ inl left ↦ inl (inr left) | inr right ↦ inr right ]
-      ],
-      λ h. elim h [
-        | inl left ↦ elim left [ inl here ↦ inl here | inr later ↦ inr (rest.1 (inl later)) ]
-        | inr right ↦ inr (rest.1 (inr right))
-      ],
-    )
+any_append P (x ∷ xs) ys = grind (arith, any_append P xs ys)
 
 -- an element that is such stands in the list
 element_of : {X : Type 0} (P : X → Type 0) (xs : List X) → Any P xs
@@ -57,35 +47,15 @@ any_moved P xs ys moved some =
 -- a second span that starts in the first, or just after it
 pub spans_within : (start end from to : ℕ) → start ≤ from → to ≤ end
     → Spans start end from to start end
-spans_within start end from to starts within = record {
-  numbers = λ n. (
-    λ h. inl h,
-    λ e. elim e [ inl h ↦ h | inr h ↦ let a = h.0 in let b = h.1 in (omega arith, omega arith) ],
-  );
-  starts = refl;
-  ends = inl refl;
-}
+spans_within start end from to starts within = grind arith
 
 spans_after_numbers : (start end from to n : ℕ) → from ≤ end + 1 → (start ≤ n) × (n ≤ to)
     → ((start ≤ n) × (n ≤ end)) ⊎ ((from ≤ n) × (n ≤ to))
-spans_after_numbers start end from to n near (above, below) = elim (cases_lt end n) [
-  | inl later ↦ inr (omega arith, below)
-  | inr within ↦ inl (above, within)
-]
+spans_after_numbers start end from to n near (above, below) = grind (arith, cases_lt)
 
 pub spans_after : (start end from to : ℕ) → start ≤ from → from ≤ end + 1 → end < to
     → Spans start end from to start to
-spans_after start end from to starts near after = record {
-  numbers = λ n. (
-    spans_after_numbers start end from to n near,
-    λ e. elim e [
-      | inl h ↦ let a = h.0 in let b = h.1 in (omega arith, omega arith)
-      | inr h ↦ let a = h.0 in let b = h.1 in (omega arith, omega arith)
-    ],
-  );
-  starts = refl;
-  ends = inr refl;
-}
+spans_after start end from to starts near after = grind (arith, spans_after_numbers)
 
 neither : ⊥ ↔ (⊥ ⊎ ⊥)
 neither = (λ never. absurd never, λ e. elim e [ inl never ↦ never | inr never ↦ never ])
@@ -101,12 +71,10 @@ spans_together V6 start end from to first last spans V4 n = neither
 spans_together V6 start end from to first last spans V6 n = spans.numbers n
 
 pub nothing_first : (line : Line) → IsTogether Nothing line line
-nothing_first line family n =
-    (λ says. inr says, λ e. elim e [ inl never ↦ absurd never | inr says ↦ says ])
+nothing_first line family n = grind arith
 
 pub nothing_second : (line : Line) → IsTogether line Nothing line
-nothing_second line family n =
-    (λ says. inl says, λ e. elim e [ inl says ↦ says | inr never ↦ absurd never ])
+nothing_second line family n = grind arith
 
 -- lines that are added one after the other
 pub added_none : (list : Held) → HasJust list (HasOrSays list [])
@@ -116,22 +84,7 @@ pub added_more : (old now next : Held) (lines : List Line) (line : Line)
     → HasJust now (HasOrSays old lines)
     → HasJust next (λ family n. Has now family n ⊎ SaysAddress family n line)
     → HasJust next (HasOrSays old (lines ++ line ∷ []))
-added_more old now next lines line before more family n h =
-    let one = more family n h in
-    let sofar = before family n h in
-    let split = any_append (SaysAddress family n) lines (line ∷ []) in (
-      λ has. elim (one.0 has) [
-        | inl was ↦ elim (sofar.0 was) [ inl had ↦ inl had | inr said ↦ inr (split.1 (inl said)) ]
-        | inr says ↦ inr (split.1 (inr (inl says)))
-      ],
-      λ e. elim e [
-        | inl had ↦ one.1 (inl (sofar.1 (inl had)))
-        | inr said ↦ elim (split.0 said) [
-          | inl earlier ↦ one.1 (inl (sofar.1 (inr earlier)))
-          | inr last ↦ elim last [ inl says ↦ one.1 (inr says) | inr never ↦ absurd never ]
-        ]
-      ],
-    )
+added_more old now next lines line before more family n h = grind (arith, any_append)
 
 -- in another order
 pub added_moved : (old now : Held) (lines moved : List Line) → IsPermutation lines moved
@@ -176,41 +129,13 @@ pub put_first : (old now : Held) (lines : List Line) (line : Line)
     → HasJust now (HasOrSays old lines) → (family : Family) (n : ℕ) → n < 2 ^ width family
     → HasOrSays now (line ∷ []) family n
     ↔ (HasOrSays old lines family n ⊎ SaysAddress family n line)
-put_first old now lines line added family n h =
-    let one = added family n h in (
-      λ e. elim e [
-        | inl has ↦ inl (one.0 has)
-        | inr last ↦ elim last [ inl says ↦ inr says | inr never ↦ absurd never ]
-      ],
-      λ e. elim e [
-        | inl so_far ↦ inl (one.1 so_far)
-        | inr says ↦ inr (inl says)
-      ],
-    )
+put_first old now lines line added family n h = grind arith
 
 -- the last line and the next are one: of an address, H, the list has it; L, both say it; A, the
 -- last one does; N, the next one does; B and C, spans do
 pub taken_together : (H L A N B C : Type 0) → (L ↔ (A ⊎ N))
     → (H ⊎ (L ⊎ (B ⊎ C))) ↔ ((H ⊎ (A ⊎ (B ⊎ C))) ⊎ N)
-taken_together H L A N B C one = (
-  λ e. elim e [
-    | inl h ↦ inl (inl h)
-    | inr some ↦ elim some [
-      | inl l ↦ elim (one.0 l) [ inl a ↦ inl (inr (inl a)) | inr n ↦ inr n ]
-      | inr bc ↦ inl (inr (inr bc))
-    ]
-  ],
-  λ e. elim e [
-    | inl before ↦ elim before [
-      | inl h ↦ inl h
-      | inr some ↦ elim some [
-        | inl a ↦ inr (inl (one.1 (inl a)))
-        | inr bc ↦ inr (inr bc)
-      ]
-    ]
-    | inr n ↦ inr (inl (one.1 (inr n)))
-  ],
-)
+taken_together H L A N B C one = grind arith
 
 -- a span more waits, behind those before it or in their place
 pub put_then : {S : Type 0} (line : S → Line) (old mid : Held) (before kept after : List S)
@@ -221,16 +146,6 @@ pub put_then : {S : Type 0} (line : S → Line) (old mid : Held) (before kept af
     → HasOrSays mid (map line after) family n
     ↔ (HasOrSays old (map line before) family n ⊎ SaysAddress family n (line span))
 put_then line old mid before kept after span appended (inl (same, is)) family n h =
-    let all : map line after ≡ map line before ++ line span ∷ [] =
-    ap (map line) (appended ∙ ap (λ xs. xs ++ span ∷ []) is) ∙ map_push line before span in
-    subst (λ list. HasOrSays list (map line after) family n
-    ↔ (HasOrSays old (map line before) family n ⊎ SaysAddress family n (line span))) (sym same)
-    (subst (λ lines. HasOrSays old lines family n
-    ↔ (HasOrSays old (map line before) family n ⊎ SaysAddress family n (line span))) (sym all)
-    (put_more old (map line before) (line span) family n))
+    grind (arith, map_push, put_more)
 put_then line old mid before kept after span appended (inr (added, none)) family n h =
-    let all : map line after ≡ line span ∷ [] =
-    ap (map line) (appended ∙ ap (λ xs. xs ++ span ∷ []) none) in
-    subst (λ lines. HasOrSays mid lines family n
-    ↔ (HasOrSays old (map line before) family n ⊎ SaysAddress family n (line span))) (sym all)
-    (put_first old mid (map line before) (line span) added family n h)
+    grind (arith, put_first)

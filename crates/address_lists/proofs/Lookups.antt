@@ -1,5 +1,5 @@
 -- Addresses looked up one after the other.
-use Rattle.std.proofs.Common.{◌≡◌, ℕ, ◌+◌, ◌<◌, ◌^◌, ◌↔◌, Bool, true, false, Option, None, Some, MatchOption, List, [], ◌∷◌, length, drop, get_or, ap, refl, sym, ◌∙◌, add-one, arith, subst}
+use Rattle.std.proofs.Common.{◌≡◌, ℕ, ◌+◌, ◌<◌, ◌^◌, ◌↔◌, Bool, true, false, Option, None, Some, MatchOption, List, [], ◌∷◌, length, drop, get_or, refl, arith}
 use Rattle.std.specs.Prelude.{◌&&◌, IsTrue, is_some}
 use Rattle.std.specs.List.{AllByRecursion}
 use Rattle.std.specs.declared.net.ip_addr.IpAddr.{IpAddr}
@@ -18,8 +18,7 @@ use Rattle.std.proofs.lemmas.Bool.{false≢true}
 
 pub item_first : {X : Type 0} (xs : List X) (i : ℕ) (x : X) → i < length xs
     → drop i xs ≡ get_or xs i x ∷ drop (i + 1) xs
-item_first xs i x within =
-    drop-cons xs i x within ∙ ap (λ k. get_or xs i x ∷ drop k xs) (sym (add-one i))
+item_first xs i x within = grind (arith, drop-cons)
 
 module _ {X : Type 0} (P : X → Type 0) where
   -- all are so just where those before the ones that are left are, as is told, and these are
@@ -31,18 +30,9 @@ module _ {X : Type 0} (P : X → Type 0) where
 
   pub told_more : (all left : List X) (x : X) (told has : Bool) → AreTold all told (x ∷ left)
       → (IsTrue has ↔ P x) → AreTold all (told && has) left
-  told_more all left x true true before is = (
-    λ each. let both = before.0 each in (refl, both.1.1),
-    λ both. before.1 (refl, (is.0 refl, both.1)),
-  )
-  told_more all left x true false before is = (
-    λ each. absurd (false≢true (is.1 (before.0 each).1.0)),
-    λ both. absurd (false≢true both.0),
-  )
-  told_more all left x false has before is = (
-    λ each. absurd (false≢true (before.0 each).0),
-    λ both. absurd (false≢true both.0),
-  )
+  told_more all left x true true before is = grind arith
+  told_more all left x true false before is = grind (arith, false≢true)
+  told_more all left x false has before is = grind (arith, false≢true)
 
   pub told_all : (all : List X) (told : Bool) → AreTold all told []
       → IsTrue told ↔ AllByRecursion P all
@@ -60,25 +50,17 @@ module _ (list : Addresses) (address : IpAddr) where
       → MatchOption run (Unit {0}) (λ ends. (ends.0 < 2 ^ width (ip_family address))
       × (ends.1 < 2 ^ width (ip_family address)))
   run_fits None found = tt
-  run_fits (Some ends) found =
-      let from = found.0.0 in
-      let to = found.0.1 in
-      let fits = found.1.fits in
-      (omega (arith, from, to, fits), fits)
+  run_fits (Some ends) found = grind arith
 
 -- the run around an address, by its bits
 pub of_v4 : (list : Addresses) (address : Ipv4Addr) (bits : ℕ) (run : Option (ℕ × ℕ))
     → bits ≡ ipv4_bits address
     → MatchOption run (¬ Has list V4 bits) (λ ends. IsRunAround (Has list V4) (2 ^ 32) bits ends)
     → IsRunOf list (Ip.V4 address) run
-of_v4 list address bits run same found =
-    subst (λ n. MatchOption run (¬ Has list V4 n)
-    (λ ends. IsRunAround (Has list V4) (2 ^ 32) n ends)) same found
+of_v4 list address bits run same found = grind arith
 
 pub of_v6 : (list : Addresses) (address : Ipv6Addr) (bits : ℕ) (run : Option (ℕ × ℕ))
     → bits ≡ ipv6_bits address
     → MatchOption run (¬ Has list V6 bits) (λ ends. IsRunAround (Has list V6) (2 ^ 128) bits ends)
     → IsRunOf list (Ip.V6 address) run
-of_v6 list address bits run same found =
-    subst (λ n. MatchOption run (¬ Has list V6 n)
-    (λ ends. IsRunAround (Has list V6) (2 ^ 128) n ends)) same found
+of_v6 list address bits run same found = grind arith

@@ -1,5 +1,5 @@
 -- How far a list is read.
-use Rattle.std.proofs.Common.{◌≡◌, ℕ, suc, ◌+◌, ◌<◌, ◌≤◌, ◌^◌, ◌↔◌, ◌⊎◌, Bool, List, [], ◌∷◌, ◌++◌, length, Option, None, Some, IfSome, ap, ◌∙◌, inl, inr, refl, sym, subst, append_assoc, length-append, arith}
+use Rattle.std.proofs.Common.{◌≡◌, ℕ, suc, ◌+◌, ◌<◌, ◌≤◌, ◌^◌, ◌↔◌, ◌⊎◌, Bool, List, [], ◌∷◌, ◌++◌, length, Option, None, Some, IfSome, inl, inr, refl, sym, subst, append_assoc, length-append, arith}
 use Rattle.std.proofs.lemmas.List.{append-nil}
 use Rattle.std.specs.Io.BufRead.{drop_through, take_through}
 use Rattle.address_text.specs.Lines.{Says, SaysAddress}
@@ -35,22 +35,7 @@ IsTaken Before After line = (family : Family) (n : ℕ) → n < 2 ^ width family
 read_more : (old : Addresses) (Before After : Family → ℕ → Type 0) (lines : List Line)
     (line : Line) → AreRead old Before lines → IsTaken Before After line
     → AreRead old After (lines ++ line ∷ [])
-read_more old Before After lines line read taken family n h =
-    let one = taken family n h in
-    let before = read family n h in
-    let split = any_append (SaysAddress family n) lines (line ∷ []) in (
-      λ has. elim (one.0 has) [
-        | inl was ↦ elim (before.0 was) [ inl had ↦ inl had | inr said ↦ inr (split.1 (inl said)) ]
-        | inr here ↦ inr (split.1 (inr (inl here)))
-      ],
-      λ h. elim h [
-        | inl had ↦ one.1 (inl (before.1 (inl had)))
-        | inr said ↦ elim (split.0 said) [
-          | inl earlier ↦ one.1 (inl (before.1 (inr earlier)))
-          | inr last ↦ elim last [ inl here ↦ one.1 (inr here) | inr none ↦ absurd none ]
-        ]
-      ],
-    )
+read_more old Before After lines line read taken family n h = grind (arith, any_append)
 
 module _ (strict : Bool) where
   -- the lines of the input before the one of this number are read
@@ -69,19 +54,7 @@ module _ (strict : Bool) where
       → ((family : Family) (n : ℕ) → IsRead family n ↔ Has old family n)
       → IfSome input (λ bytes. IsReadTo bytes input 1 0 old IsRead)
   read_none None old IsRead same = tt
-  read_none (Some bytes) old IsRead same = record {
-    remaining = bytes;
-    left_is = refl;
-    lines = [];
-    count = refl;
-    goes_on =
-        λ more later rest said. let none : later ≡ 0 + later = omega arith in
-        subst (λ n. AreGood strict bytes more n rest) none said;
-    added = λ family n h. (
-      λ read. inl ((same family n).0 read),
-      λ e. elim e [ inl has ↦ (same family n).1 has | inr none ↦ absurd none ],
-    );
-  }
+  read_none (Some bytes) old IsRead same = grind arith
 
   good_read : (input : List ℕ) (left later : Option (List ℕ)) (number others : ℕ)
       (old : Addresses) (Before After : Family → ℕ → Type 0) (line : Line)
@@ -172,14 +145,7 @@ module _ (strict : Bool) where
       → IfSome input (λ bytes. (lines : List Line) × AreGood strict bytes lines others []
       × HasRead old next lines)
   all_added None others old next IsRead read added = tt
-  all_added (Some bytes) others old next IsRead (lines, good, read) added = (
-    lines,
-    good,
-    λ family n h.
-        let one = added family n h in
-        let before = read family n h in
-        (λ has. before.0 (one.0 has), λ said. one.1 (before.1 said)),
-  )
+  all_added (Some bytes) others old next IsRead (lines, good, read) added = grind arith
 
   fault_at : (bytes : List ℕ) (left : Option (List ℕ)) (number : ℕ) (old : Addresses)
       (IsRead : Family → ℕ → Type 0) (error : ListError)
@@ -202,20 +168,10 @@ module _ (strict : Bool) where
       → SaysNothingKnown strict seen → 1 ≤ column → column ≤ length again + 1
       → IsFault again column expected
       → IfSome left (λ bytes. IsBad strict bytes number (BadLine number column expected))
-  bad_found None start text seen again number column expected none some one other read nothing
-      first last wrong =
-      tt
-  bad_found (Some bytes) start text seen again number column expected none some one other read
-      nothing first last wrong =
-      let line : text ≡ take_through 10 bytes =
-      read ∙ ap (λ before. before ++ take_through 10 bytes) none in (
-        refl,
-        first,
-        subst (λ l. column ≤ length l + 1) (other ∙ line) last,
-        subst (λ l. IsFault l column expected) (other ∙ line) wrong,
-        λ ended. let empty = ap length (line ∙ ap (take_through 10) ended) in omega (arith, some, empty),
-        subst (SaysNothingKnown strict) (one ∙ line) nothing,
-      )
+  bad_found None start text seen again number column expected none some one other read nothing first last wrong =
+      grind arith
+  bad_found (Some bytes) start text seen again number column expected none some one other read nothing first last wrong =
+      grind arith
 
   -- all lines before a bad one were good
   pub fault_read : (input left : Option (List ℕ)) (number others : ℕ) (old : Addresses)

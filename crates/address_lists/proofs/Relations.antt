@@ -9,6 +9,7 @@ use Rattle.address_keys.specs.Addresses.{ipv4_at, ipv4_number, ipv4_order, ipv6_
 use Rattle.address_text.specs.declared.family.Family.TheVariants.{V4, V6}
 use Rattle.address_lists.specs.Lists.{Has, HasAllOf, HasJust, ShareNone}
 use Rattle.address_lists.specs.declared.addresses.Addresses.{Addresses}
+use Rattle.std.proofs.Common.{arith}
 
 module _ (list other : Addresses) where
   pub has_all : BindKeysOf ipv4_order (box_items other.v4) (box_items list.v4)
@@ -38,8 +39,7 @@ module _ (list other : Addresses) where
       → (IsTrue one → BindKeysOf ipv4_order (box_items other.v4) (box_items list.v4))
       → IsTrue both ↔ BindKeysOf ipv6_order (box_items other.v6) (box_items list.v6)
       → IsTrue both ↔ HasAllOf list other
-  all_then one both is v4 v6 =
-      (λ yes. has_all (v4 is) (v6.0 yes), λ all. v6.1 (all_v6 all))
+  all_then one both is v4 v6 = grind (arith, has_all, all_v6)
 
   pub all_else : (one : Bool) → one ≡ false
       → (BindKeysOf ipv4_order (box_items other.v4) (box_items list.v4) → IsTrue one)
@@ -50,8 +50,7 @@ module _ (list other : Addresses) where
       → (IsTrue one → ShareNoKey ipv4_order (box_items list.v4) (box_items other.v4))
       → IsTrue both ↔ ShareNoKey ipv6_order (box_items list.v6) (box_items other.v6)
       → IsTrue both ↔ ShareNone list other
-  none_then one both is v4 v6 =
-      (λ yes. share_none (v4 is) (v6.0 yes), λ none. v6.1 (none_v6 none))
+  none_then one both is v4 v6 = grind (arith, share_none, none_v6)
 
   pub none_else : (one : Bool) → one ≡ false
       → (ShareNoKey ipv4_order (box_items list.v4) (box_items other.v4) → IsTrue one)

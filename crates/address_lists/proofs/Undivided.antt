@@ -9,11 +9,11 @@ use Rattle.address_text.specs.declared.family.Family.{Family}
 use Rattle.address_lists.specs.Printed.{ArePrinted, IsPrinted, prefix_of}
 use Rattle.address_lists.specs.Split.{AreSplit, IsPrintedSplit, IsSplit, IsSplitText}
 use Rattle.address_lists.specs.declared.addresses.Addresses.{Addresses}
+use Rattle.std.proofs.Common.{rules}
 
 line_whole : (family : Family) (length network : ℕ) (text : List ℕ)
     → IsSplitText family 0 length network text → text ≡ prefix_line family network length
-line_whole family length network text (inl divided) =
-    let less = divided.0.0 in absurd (omega (arith, less))
+line_whole family length network text (inl divided) = grind arith
 line_whole family length network text (inr whole) = whole.1
 
 module _ {A : Type 0} (family : Family) (number : A → ℕ) where
@@ -21,27 +21,14 @@ module _ {A : Type 0} (family : Family) (number : A → ℕ) where
       → SpellsEach (IsSplit family number 0) prefixes text
       → SpellsEach (λ prefix line. line ≡ prefix_of family number prefix) prefixes text
   lines_whole [] text none = none
-  lines_whole (prefix ∷ prefixes) text (line, lines, one, rest, is) = (
-    line,
-    lines,
-    line_whole family prefix.length (number prefix.network) line one,
-    lines_whole prefixes lines rest,
-    is,
-  )
+  lines_whole (prefix ∷ prefixes) text (line, lines, one, rest, is) =
+      grind (arith, line_whole, lines_whole prefixes lines rest)
 
   set_whole : (order : KeyOrder A) (width : ℕ) (ranges : List (AnyRange A)) (text : List ℕ)
       → AreSplit family number 0 order width ranges text
       → ArePrinted family number order width ranges text
-  set_whole order width ranges text split = record {
-    prefixes = split.prefixes;
-    exact = split.exact;
-    whole = split.whole;
-    ascending = split.ascending;
-    fewest = split.fewest;
-    spelled = lines_whole split.prefixes text split.spelled;
-  }
+  set_whole order width ranges text split = grind (arith, lines_whole)
 
 pub printed_whole : (list : Addresses) (text : List ℕ) → IsPrintedSplit 0 list text
     → IsPrinted list text
-printed_whole list text (first, second, v4, v6, is) =
-    (first, second, set_whole _ _ _ _ _ first v4, set_whole _ _ _ _ _ second v6, is)
+printed_whole list text (first, second, v4, v6, is) = search (rules, set_whole)

@@ -1,8 +1,7 @@
 -- As many addresses are in runs as there are numbers in them.
-use Rattle.std.proofs.Common.{◌≡◌, ℕ, zero, suc, ◌+◌, ◌-◌, ◌^◌, ◌≤◌, ◌<◌, ◌++◌, ◌↔◌, ◌⊎◌, List, [], ◌∷◌, length, Option, None, Some, MatchOption, inl, inr, refl, sym, subst, ◌∙◌, arith, length-append}
+use Rattle.std.proofs.Common.{◌≡◌, ℕ, zero, suc, ◌+◌, ◌-◌, ◌^◌, ◌≤◌, ◌<◌, ◌++◌, ◌↔◌, ◌⊎◌, List, [], ◌∷◌, length, Option, None, Some, MatchOption, inl, inr, refl, sym, subst, arith, length-append}
 use Rattle.std.specs.Cmp.{ranked, nat_cmp_is}
 use Rattle.std.specs.List.{AllByRecursion}
-use Rattle.std.specs.declared.cmp.Ordering.TheVariants.{Equal}
 use Rattle.std.proofs.lemmas.Bool.{cases_lt}
 use Rattle.std.proofs.Math.Pow.{pow_mono}
 use Rattle.btree_range_map.specs.Intervals.{Any}
@@ -38,34 +37,22 @@ module _ {A : Type 0} {order : KeyOrder A} {number : A → ℕ} {at : ℕ → A}
   in_type : (n from : ℕ) → from + n ≤ 2 ^ width
       → AllByRecursion order.is_key (addresses_from n from)
   in_type zero from fits = tt
-  in_type (suc n) from fits =
-      let e = family.at_number from (omega (arith, fits)) in (
-        family.is_address (at from) (omega (arith, e, fits)),
-        in_type n (from + 1) (omega (arith, fits)),
-      )
+  in_type (suc n) from fits = grind (arith, in_type n (from + 1) (omega (arith, fits)))
 
   from_less : (b c : ℕ) (keys : List A) → c ≤ b → AreFrom b keys → AreFrom c keys
   from_less b c [] le all = tt
-  from_less b c (a ∷ keys) le all =
-      let here = all.0 in (omega (arith, here, le), from_less b c keys le all.1)
+  from_less b c (a ∷ keys) le all = grind (arith, from_less b c keys le all.1)
 
   from_append : (n from b : ℕ) (more : List A) → b ≤ from → from + n ≤ 2 ^ width
       → AreFrom (from + n) more → AreFrom b (addresses_from n from ++ more)
-  from_append zero from b more low fits later =
-      from_less (from + 0) b more (omega (arith, low)) later
+  from_append zero from b more low fits later = grind (arith, from_less)
   from_append (suc n) from b more low fits later =
-      let e = family.at_number from (omega (arith, fits)) in (
-        omega (arith, e, low),
-        from_append n (from + 1) b more (omega (arith, low)) (omega (arith, fits))
-            (from_less (from + suc n) (from + 1 + n) more (omega arith) later),
-      )
+      grind (arith, from_less, from_append n (from + 1) b more (omega (arith, low)) (omega (arith, fits)) (from_less (from + suc n) (from + 1 + n) more (omega arith) later))
 
   all_above : (a : A) (b : ℕ) (keys : List A) → number a < b → AreFrom b keys
       → AllByRecursion (Below order a) keys
   all_above a b [] less all = tt
-  all_above a b (k ∷ keys) less all =
-      let here = all.0 in
-      (number_below family a k (omega (arith, here, less)), all_above a b keys less all.1)
+  all_above a b (k ∷ keys) less all = grind (arith, number_below, all_above a b keys less all.1)
 
   rising_append : (n from : ℕ) (more : List A) → from + n ≤ 2 ^ width → AreFrom (from + n) more
       → AreRisingKeys order more → AreRisingKeys order (addresses_from n from ++ more)
@@ -83,41 +70,12 @@ module _ {A : Type 0} {order : KeyOrder A} {number : A → ℕ} {at : ℕ → A}
       ↔ ((from ≤ number k) × (number k < from + n))
   listed zero from k fits = (λ none. absurd none, λ h. absurd (omega (arith, h.0, h.1)))
   listed (suc n) from k fits =
-      let e = family.at_number from (omega (arith, fits)) in
-      let rest = listed n (from + 1) k (omega (arith, fits)) in (
-        λ h. elim h [
-          | inl same ↦
-              let s : number (at from) ≡ number k =
-              ranked (number (at from)) (number k) Equal (sym same ∙ family.by_number (at from) k) in
-              (omega (arith, e, s), omega (arith, e, s))
-          | inr later ↦
-              let l = rest.0 later in
-              (let low = l.0 in omega (arith, low), let high = l.1 in omega (arith, high))
-        ],
-        λ h. elim (cases_lt from (number k)) [
-          | inl less ↦ let high = h.1 in inr (rest.1 (omega (arith, less), omega (arith, high)))
-          | inr not ↦
-              let low = h.0 in
-              let s : number (at from) ≡ number k = omega (arith, e, not, low) in
-              inl (family.by_number (at from) k
-              ∙ sym (nat_cmp_is (number (at from)) (number k) Equal s))
-        ],
-      )
+      grind (arith, ranked, cases_lt, nat_cmp_is, listed n (from + 1) k (omega (arith, fits)))
 
   lists_append : (xs ys : List A) (k : A)
       → Lists order (xs ++ ys) k ↔ (Lists order xs k ⊎ Lists order ys k)
   lists_append [] ys k = (λ h. inr h, λ h. elim h [ inl none ↦ absurd none | inr some ↦ some ])
-  lists_append (x ∷ xs) ys k =
-      let rest = lists_append xs ys k in (
-        λ h. elim h [
-          | inl here ↦ inl (inl here)
-          | inr later ↦ elim (rest.0 later) [ inl left ↦ inl (inr left) | inr right ↦ inr right ]
-        ],
-        λ h. elim h [
-          | inl left ↦ elim left [ inl here ↦ inl here | inr later ↦ inr (rest.1 (inl later)) ]
-          | inr right ↦ inr (rest.1 (inr right))
-        ],
-      )
+  lists_append (x ∷ xs) ys k = grind (arith, lists_append xs ys k)
 
   -- those of all runs
   abbrev held_addresses : List (ℕ × ℕ) → List A
@@ -126,33 +84,18 @@ module _ {A : Type 0} {order : KeyOrder A} {number : A → ℕ} {at : ℕ → A}
 
   all_many : (runs : List (ℕ × ℕ)) → length (held_addresses runs) ≡ total runs
   all_many [] = refl
-  all_many (run ∷ runs) =
-      let n : ℕ = run.1 + 1 - run.0 in
-      let own = addresses_from n run.0 in
-      let here = many n run.0 in
-      let later = all_many runs in
-      let split = length-append own (held_addresses runs) in omega (arith, here, later, split)
+  all_many (run ∷ runs) = grind (arith, many, length-append, all_many runs)
 
   all_in_type : (runs : List (ℕ × ℕ)) → AreSpans width runs
       → AllByRecursion order.is_key (held_addresses runs)
   all_in_type [] spans = tt
-  all_in_type (run ∷ runs) spans =
-      let ordered = spans.0.0 in
-      let fits = spans.0.1 in
-      let n : ℕ = run.1 + 1 - run.0 in
-      all_append order.is_key (addresses_from n run.0) (held_addresses runs)
-      (in_type n run.0 (omega (arith, ordered, fits))) (all_in_type runs spans.1)
+  all_in_type (run ∷ runs) spans = grind (arith, all_append, in_type, all_in_type runs spans.1)
 
   all_from : (b : ℕ) (runs : List (ℕ × ℕ)) → AreSpans width runs → AreRising runs
       → StartFrom b runs → AreFrom b (held_addresses runs)
   all_from b [] spans rising low = tt
   all_from b (run ∷ runs) spans rising low =
-      let ordered = spans.0.0 in
-      let fits = spans.0.1 in
-      let n : ℕ = run.1 + 1 - run.0 in
-      from_append n run.0 b (held_addresses runs) low (omega (arith, ordered, fits))
-      (from_less (run.1 + 1) (run.0 + n) (held_addresses runs) (omega (arith, ordered))
-      (all_from (run.1 + 1) runs spans.1 rising.1 (later_start run runs rising)))
+      grind (arith, from_append, from_less, later_start, all_from (run.1 + 1) runs spans.1 rising.1 (later_start run runs rising))
 
   all_rising : (runs : List (ℕ × ℕ)) → AreSpans width runs → AreRising runs
       → AreRisingKeys order (held_addresses runs)
@@ -169,24 +112,7 @@ module _ {A : Type 0} {order : KeyOrder A} {number : A → ℕ} {at : ℕ → A}
   all_listed : (runs : List (ℕ × ℕ)) → AreSpans width runs → (k : A)
       → Any (IsIn (number k)) runs ↔ Lists order (held_addresses runs) k
   all_listed [] spans k = (λ h. h, λ h. h)
-  all_listed (run ∷ runs) spans k =
-      let ordered = spans.0.0 in
-      let fits = spans.0.1 in
-      let n : ℕ = run.1 + 1 - run.0 in
-      let own = addresses_from n run.0 in
-      let split = lists_append own (held_addresses runs) k in
-      let here = listed n run.0 k (omega (arith, ordered, fits)) in
-      let later = all_listed runs spans.1 k in (
-        λ h. split.1 (elim h [
-          | inl is ↦ let high = is.1 in inl (here.1 (is.0, omega (arith, high, ordered)))
-          | inr others ↦ inr (later.0 others)
-        ]),
-        λ h. elim (split.0 h) [
-          | inl mine ↦
-              let l = here.0 mine in let high = l.1 in inl (l.0, omega (arith, high, ordered))
-          | inr others ↦ inr (later.1 others)
-        ],
-      )
+  all_listed (run ∷ runs) spans k = grind (arith, lists_append, listed, all_listed runs spans.1 k)
 
   module _ (Q : A → Type 0) (runs : List (ℕ × ℕ)) (are : Runs family Q runs) where
     number_of : IsNumberOfKeys order Q (total runs)

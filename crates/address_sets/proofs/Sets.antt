@@ -1,8 +1,7 @@
 -- The stored ranges of a set, by the numbers of their addresses.
-use Rattle.std.proofs.Common.{◌≡◌, ℕ, ◌+◌, ◌-◌, ◌^◌, ◌≤◌, ◌<◌, ◌↔◌, List, [], ◌∷◌, true, inl, inr, ap, sym, ◌∙◌, arith}
+use Rattle.std.proofs.Common.{◌≡◌, ℕ, ◌+◌, ◌-◌, ◌^◌, ◌≤◌, ◌<◌, ◌↔◌, List, [], ◌∷◌, true, sym, ◌∙◌, arith}
 use Rattle.std.specs.Cmp.{ranked, nat_cmp_is}
 use Rattle.std.specs.List.{AllByRecursion}
-use Rattle.std.specs.Ordering.{is_gt}
 use Rattle.std.specs.declared.cmp.Ordering.TheVariants.{Less}
 use Rattle.std.specs.declared.ops.Bound.{Bound}
 use Rattle.std.specs.declared.ops.Bound.TheVariants.{Included, Excluded, Unbounded}
@@ -26,8 +25,7 @@ module _ {A : Type 0} {order : KeyOrder A} {number : A → ℕ} {at : ℕ → A}
   Coarse items = IsCoarse order (λ _ _. true) items
 
   pub coarse_rest : (i : Stored) (items : List Stored) → Coarse (i ∷ items) → Coarse items
-  coarse_rest i items c =
-      record { keyed = c.keyed.1; rising = c.rising.1; parted = c.parted.1 }
+  coarse_rest i items c = grind arith
 
   abbrev pub Known : List Stored → Type 0
   Known items = AllByRecursion (λ i. IsKnownRange order i.key) items
@@ -45,37 +43,26 @@ module _ {A : Type 0} {order : KeyOrder A} {number : A → ℕ} {at : ℕ → A}
   number_below a b h = family.by_number a b ∙ sym (nat_cmp_is (number a) (number b) Less h)
 
   pub not_above_number : (a b : A) → NotAbove order a b → number a ≤ number b
-  not_above_number a b h =
-      not_above_is (number a) (number b) (sym (ap is_gt (family.by_number a b)) ∙ h)
+  not_above_number a b h = grind (arith, not_above_is)
 
   pub number_not_above : (a b : A) → number a ≤ number b → NotAbove order a b
-  number_not_above a b h =
-      ap is_gt (family.by_number a b) ∙ is_not_above (number a) (number b) h
+  number_not_above a b h = grind (arith, is_not_above)
 
   start_holds : (b : Bound A) (a : A) → StartHolds order b a
       ↔ (start_number number b ≤ number a)
   start_holds (Included x) a = (not_above_number x a, number_not_above x a)
-  start_holds (Excluded x) a = (
-    λ h. let l = below_number x a h in omega (arith, l),
-    λ h. number_below x a (omega (arith, h)),
-  )
+  start_holds (Excluded x) a = grind (arith, below_number, number_below)
   start_holds Unbounded a = (λ h. omega arith, λ h. tt)
 
   end_holds : (b : Bound A) (a : A) → order.is_key a → EndHolds order b a
       ↔ (number a < past_number number width b)
-  end_holds (Included x) a key = (
-    λ h. let l = not_above_number a x h in omega (arith, l),
-    λ h. number_not_above a x (omega (arith, h)),
-  )
+  end_holds (Included x) a key = grind (arith, not_above_number, number_not_above)
   end_holds (Excluded x) a key = (below_number a x, number_below a x)
   end_holds Unbounded a key = (λ h. family.counted.in_size a key, λ h. tt)
 
   pub holds_is : (r : AnyRange A) (a : A) → order.is_key a
       → Holds order r a ↔ ((from_of r ≤ number a) × (number a < past_of r))
-  holds_is r a key = (
-    λ h. ((start_holds r.start a).0 h.0, (end_holds r.end a key).0 h.1),
-    λ h. ((start_holds r.start a).1 h.0, (end_holds r.end a key).1 h.1),
-  )
+  holds_is r a key = grind (arith, start_holds, end_holds)
 
   pub top_by : (b : Bound A) → IsKnownBound order b → past_number number width b ≤ 2 ^ width
   top_by (Included x) key = let h = family.counted.in_size x key in omega (arith, h)
@@ -83,11 +70,7 @@ module _ {A : Type 0} {order : KeyOrder A} {number : A → ℕ} {at : ℕ → A}
   top_by Unbounded key = omega arith
 
   pub some_by : (r : AnyRange A) → ¬ IsKeyless order r → from_of r < past_of r
-  some_by r keyed = elim (cases_lt (from_of r) (past_of r)) [
-    | inl less ↦ less
-    | inr not ↦ absurd (keyed (λ a key held.
-        let h = (holds_is r a key).0 held in omega (arith, h.0, h.1, not)))
-  ]
+  some_by r keyed = grind (arith, cases_lt, holds_is)
 
   pub last_held : (r : AnyRange A) → IsKnownRange order r → ¬ IsKeyless order r
       → (a : A) × order.is_key a × Holds order r a × (number a + 1 ≡ past_of r)
@@ -116,7 +99,5 @@ module _ {A : Type 0} {order : KeyOrder A} {number : A → ℕ} {at : ℕ → A}
   pub have_spans : (items : List Stored) → Known items → Coarse items
       → AllByRecursion (HasSpan number width) (item_ranges items)
   have_spans [] known coarse = tt
-  have_spans (i ∷ items) known coarse = (
-    (some_by i.key coarse.keyed.0, top_by i.key.end known.0.1),
-    have_spans items known.1 (coarse_rest i items coarse),
-  )
+  have_spans (i ∷ items) known coarse =
+      grind (arith, some_by, top_by, coarse_rest, have_spans items known.1 (coarse_rest i items coarse))

@@ -16,6 +16,7 @@ use Rattle.address_prefixes.specs.Runs.{AreRuns, IsIn, IsRun, IsRunAround}
 use Rattle.address_prefixes.specs.Spans.{HasSpan, span}
 use Rattle.address_prefixes.proofs.Runs.{same_address}
 use Rattle.address_sets.proofs.Sets.{Coarse, Known, Stored, below_number, coarse_rest, first_held, from_of, holds_is, last_held, not_above_number, number_not_above, past_of, some_by, top_by}
+use Rattle.std.proofs.Common.{rules}
 
 module _ {A : Type 0} {order : KeyOrder A} {number : A → ℕ} {at : ℕ → A} {width : ℕ}
     (family : IsFamily order number at width) where
@@ -26,8 +27,7 @@ module _ {A : Type 0} {order : KeyOrder A} {number : A → ℕ} {at : ℕ → A}
   is_range : (items : List (Stored family)) (r : AnyRange A) → Known family items
       → Coarse family items → IsStoredRange items r → IsKnownRange order r × ¬ IsKeyless order r
   is_range [] r known coarse none = absurd none
-  is_range (i ∷ items) r known coarse (inl same) =
-      subst (λ s. IsKnownRange order s × ¬ IsKeyless order s) same (known.0, coarse.keyed.0)
+  is_range (i ∷ items) r known coarse (inl same) = grind arith
   is_range (i ∷ items) r known coarse (inr later) =
       is_range items r known.1 (coarse_rest family i items coarse) later
 
@@ -35,9 +35,7 @@ module _ {A : Type 0} {order : KeyOrder A} {number : A → ℕ} {at : ℕ → A}
   pub has_span : (items : List (Stored family)) (r : AnyRange A) → Known family items
       → Coarse family items → IsStoredRange items r
       → HasSpan number width r
-  has_span items r known coarse at =
-      let is = is_range items r known coarse at in
-      (some_by family r is.1, top_by family r.end is.0.1)
+  has_span items r known coarse at = search (rules, is_range, some_by, top_by)
 
   in_set : (items : List (Stored family)) (r : AnyRange A) (k : A) → IsStoredRange items r
       → Holds order r k → HoldsKey order items k
@@ -71,8 +69,7 @@ module _ {A : Type 0} {order : KeyOrder A} {number : A → ℕ} {at : ℕ → A}
       → order.is_key a → IsStoredRange items r → Holds order r a → HoldsBoth items a b
       → Holds order r b
   same_range [] r coarse a b key none has both = absurd none
-  same_range (i ∷ items) r coarse a b key (inl same) has (inl here) =
-      subst (λ s. Holds order s b) same here.1
+  same_range (i ∷ items) r coarse a b key (inl same) has (inl here) = grind arith
   same_range (i ∷ items) r coarse a b key (inl same) has (inr later) =
       absurd (not_twice i items coarse a key (subst (λ s. Holds order s a) (sym same) has)
       (first_of_both items a b later))
@@ -192,8 +189,4 @@ module _ {A : Type 0} {order : KeyOrder A} {number : A → ℕ} {at : ℕ → A}
   -- the runs of a set are those of its stored ranges
   pub are_runs : (items : List (Stored family)) → Known family items → Coarse family items
       → AreRuns (λ n. HoldsKey order items (at n)) (2 ^ width) (Runs items)
-  are_runs items known coarse = record {
-    each = each_run items known coarse items known coarse (λ r at. at);
-    all = some_run items;
-    ascending = rising_runs items known coarse;
-  }
+  are_runs items known coarse = grind (arith, each_run, some_run, rising_runs)

@@ -1,9 +1,10 @@
-use Rattle.std.proofs.Common.{◌≡◌, ◌^◌, ℕ, List, [], ◌∷◌, ◌++◌, OnOk, ap, append_assoc, refl, subst, sym, ◌∙◌}
+use Rattle.std.proofs.Common.{◌≡◌, ◌^◌, ℕ, List, ◌++◌, OnOk, append_assoc, refl, subst}
 use Rattle.std.specs.Prelude.{codes, decimal}
 use Rattle.std.specs.Fmt.{digits}
 use Rattle.std.specs.Io.KnownBytes.{Appends}
 use Rattle.address_lists.specs.Counted.{count_line}
 use Rattle.address_lists.proofs.count.write_all.Goals as goal
+use Rattle.std.proofs.Common.{rules}
 
 all_digits : decimal (2 ^ 128) ≡ codes "340282366920938463463374607431768211456"
 unfolding digits
@@ -12,12 +13,7 @@ all_digits = refl
 -- what is written in parts, as one text
 whole_line : (before family : List ℕ) → before ++ (family
     ++ codes " 340282366920938463463374607431768211456\n") ≡ count_line before family (2 ^ 128)
-whole_line before family =
-    let digits = codes "340282366920938463463374607431768211456" in
-    sym (append_assoc before family (codes " " ++ (digits ++ 10 ∷ [])))
-    ∙ sym (append_assoc (before ++ family) (codes " ") (digits ++ 10 ∷ []))
-    ∙ sym (append_assoc ((before ++ family) ++ codes " ") digits (10 ∷ []))
-    ∙ ap (λ number. (((before ++ family) ++ codes " ") ++ number) ++ 10 ∷ []) (sym all_digits)
+whole_line before family = search (rules, append_assoc, all_digits)
 
 pub returns : goal.returns
 returns g c =

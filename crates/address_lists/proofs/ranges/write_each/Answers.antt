@@ -1,21 +1,14 @@
-use Rattle.std.proofs.Common.{◌+◌, ◌-◌, refl, lit<, arith}
+use Rattle.std.proofs.Common.{refl, lit<, arith}
 use Rattle.address_text.specs.Texts.{address_line}
 use Rattle.line_program.proofs.Listing.{on_ok_as}
 use Rattle.address_lists.proofs.Series.{all_written, none_written, one_written, within}
 use Rattle.address_lists.proofs.ranges.write_each.Goals as goal
 
 pub loop-number-init : goal.loop-number-init
-loop-number-init g c =
-    let ordered = c.requires.ordered in
-    none_written (address_line c.args.family) 1 (c.args.last + 1 - c.args.first) c.args.first
-    c.args.last c.args.first (g.W.Write.contents c.args.out.now) refl (omega (arith, ordered))
-    (omega (arith, ordered))
+loop-number-init g c = grind (arith, none_written)
 
 pub write_address_line-requires : goal.write_address_line-requires
-write_address_line-requires g c =
-    let below = within _ _ (lit< tt) _ _ _ _ _ _ c.loop-number.invariant in
-    let fits = c.requires.fits in
-    omega (arith, below, fits)
+write_address_line-requires g c = grind (arith, within)
 
 pub loop-number-preserved : goal.loop-number-preserved
 loop-number-preserved g c =
@@ -26,10 +19,7 @@ loop-number-preserved g c =
     (omega (arith, more)) c.in_ok-write_address_line.ensures
 
 pub write_address_line-requires-2 : goal.write_address_line-requires-2
-write_address_line-requires-2 g c =
-    let below = within _ _ (lit< tt) _ _ _ _ _ _ c.loop-number.invariant in
-    let fits = c.requires.fits in
-    omega (arith, below, fits)
+write_address_line-requires-2 g c = grind (arith, within)
 
 pub returns : goal.returns
 returns g c =

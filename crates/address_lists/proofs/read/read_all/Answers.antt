@@ -1,4 +1,4 @@
-use Rattle.std.proofs.Common.{◌≡◌, ℕ, ◌+◌, Ok, IfSome, ◌∙◌, inl, inr, ap, refl, subst, sym, arith}
+use Rattle.std.proofs.Common.{◌≡◌, ℕ, ◌+◌, Ok, IfSome, ◌∙◌, inr, ap, subst, sym, arith}
 use Rattle.std.proofs.lemmas.Result.{err_from_is_err_and}
 use Rattle.address_text.specs.Lines.{AreAddresses}
 use Rattle.address_lists.specs.Reading.{IsFound}
@@ -10,13 +10,7 @@ use Rattle.address_lists.proofs.read.read_all.Goals as goal
 use Rattle.address_lists.proofs.read.read_all.Goals.{in-Good+in_ok-take-in-Good, in-Other}
 
 pub loop-number-init : goal.loop-number-init
-loop-number-init g c = (
-  omega arith,
-  λ e. refl,
-  c.requires.last,
-  read_none c.args.strict (g.R.Read.remaining c.args.input.now) c.args.list.now
-      (HasSoFar c.args.list.now c.args.waiting.now) c.requires.none,
-)
+loop-number-init g c = grind (arith, read_none)
 
 pub returns-in_err-line-clause-bad : goal.returns-in_err-line-clause-bad
 returns-in_err-line-clause-bad g c =
@@ -47,8 +41,7 @@ returns-in-End-clause-read g c =
 
 as_before : {A B C : Type 0} (P : A → B → C → Type 0) (a a' : A) (b b' : B) (c c' : C) → a ≡ a'
     → b ≡ b' → c ≡ c' → P a' b' c' → P a b c
-as_before P a a' b b' c c' p q r h =
-    subst (λ x. P x b c) (sym p) (subst (λ y. P a' y c) (sym q) (subst (λ z. P a' b' z) (sym r) h))
+as_before P a a' b b' c c' p q r h = grind arith
 
 pub loop-number-preserved : goal.loop-number-preserved
 loop-number-preserved g c =
@@ -96,5 +89,4 @@ loop-number-preserved g c =
     ]
 
 pub returns-clause-bad : goal.returns-clause-bad
-returns-clause-bad g c =
-    other_fault c.args.strict (g.R.Read.remaining c.args.input.now) _ (inl refl)
+returns-clause-bad g c = grind (arith, other_fault)

@@ -1,20 +1,14 @@
 use Rattle.std.proofs.Common.{inr}
 use Rattle.std.proofs.lemmas.Result.{err_from_is_err_and}
-use Rattle.address_lists.specs.Waiting.{HasSoFar}
 use Rattle.address_lists.proofs.Reading.{all_added, other_fault}
 use Rattle.address_lists.proofs.read.read_list.Goals as goal
+use Rattle.std.proofs.Common.{arith}
 
 pub read_all-requires : goal.read_all-requires
-read_all-requires g c = record {
-  last = c.new-waiting.ensures.last;
-  none = c.new-waiting.ensures.none c.args.list.now;
-}
+read_all-requires g c = grind arith
 
 pub returns-clause-read : goal.returns-clause-read
-returns-clause-read g c =
-    all_added c.args.strict (g.R.Read.remaining c.args.input.now) c.in_ok-others.others
-    c.args.list.now c.add_all.new.list (HasSoFar c.read_all.new.list c.read_all.new.waiting)
-    c.in_ok-others.ensures.read c.in_ok-add_all.ensures.added
+returns-clause-read g c = grind (arith, all_added)
 
 pub returns-in_err-add_all-clause-bad : goal.returns-in_err-add_all-clause-bad
 returns-in_err-add_all-clause-bad g c =

@@ -1,5 +1,5 @@
 use Rattle.address_lists.proofs.sets.is_disjoint.Goals as goal
+use Rattle.std.proofs.Common.{arith}
 
 pub returns : goal.returns
-returns g c =
-    (c.is_disjoint.ensures.held, c.is_disjoint.ensures.complete g.met.A.Complete.complete)
+returns g c = grind arith

@@ -1,20 +1,13 @@
-use Rattle.std.proofs.Common.{◌≡◌, ℕ, ◌+◌, ◌-◌, ◌^◌, ap, refl, ◌∙◌, arith}
+use Rattle.std.proofs.Common.{◌≡◌, ℕ, ◌+◌, ◌-◌, ◌^◌, ap, ◌∙◌, arith}
 use Rattle.std.proofs.lemmas.Nat.{pow_pos}
 use Rattle.address_text.specs.Texts.{prefix_line, width}
 use Rattle.line_program.proofs.Listing.{on_ok_as}
 use Rattle.address_lists.proofs.Series.{all_written, blocks_are, none_written, one_written}
 use Rattle.address_lists.proofs.split.write_parts.Goals as goal
+use Rattle.std.proofs.Common.{rules}
 
 pub loop-network-init : goal.loop-network-init
-loop-network-init g c =
-    let bits = width c.args.family in
-    let length = c.args.length in
-    let shorter = c.args.shorter in
-    none_written (λ n. prefix_line c.args.family n length) (2 ^ (bits - length))
-    (2 ^ (length - shorter)) c.args.ends.0 c.args.ends.1 c.args.ends.0
-    (g.W.Write.contents c.args.out.now) refl (pow_pos (length - shorter))
-    (blocks_are bits shorter length c.args.ends.0 c.args.ends.1 c.requires.longer c.requires.short
-    c.requires.whole)
+loop-network-init g c = search (rules, none_written, pow_pos, blocks_are)
 
 pub loop-network-preserved : goal.loop-network-preserved
 loop-network-preserved g c =

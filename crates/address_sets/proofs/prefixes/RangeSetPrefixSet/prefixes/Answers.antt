@@ -5,12 +5,10 @@ use Rattle.address_prefixes.proofs.FewestOfRuns.{are_fewest}
 use Rattle.address_prefixes.proofs.RunTiles.{are_ascending, are_prefixes, have_just}
 use Rattle.address_prefixes.proofs.Runs.{are_spans}
 use Rattle.address_sets.proofs.prefixes.RangeSetPrefixSet.prefixes.Goals as goal
+use Rattle.std.proofs.Common.{arith}
 
 pub invariant_of-result : goal.invariant_of-result
-invariant_of-result g c = (
-  tt,
-  are_spans _ g.A.Address.WIDTH c.runs_of.result c.runs_of.ensures,
-)
+invariant_of-result g c = grind (arith, are_spans)
 
 pub returns : goal.returns
 returns g c =

@@ -1,9 +1,5 @@
-use Rattle.std.proofs.Common.{map, ap, sym, ◌∷◌, ◌∙◌}
-use Rattle.address_prefixes.specs.Spans.{span}
 use Rattle.address_sets.proofs.runs.RunsIterator.next.Goals as goal
+use Rattle.std.proofs.Common.{arith}
 
 pub returns-clause-steps : goal.returns-clause-steps
-returns-clause-steps g c =
-    let shown = map (span g.A.Address.number g.A.Address.WIDTH) in
-    sym c.self.view_is ∙ ap shown c.in_ok-range.ensures.steps
-    ∙ ap (λ run. run ∷ shown c.next.new.self) (sym c.span_of.ensures)
+returns-clause-steps g c = grind arith
