@@ -1,9 +1,8 @@
 -- A conversation, seen in other states.
-use Rattle.std.proofs.Common.{◌⊎◌, ℕ, List, Option, IfSome}
+use Rattle.std.proofs.Common.{◌⊎◌, ℕ, List, Option, IfSome, arith}
 use Rattle.line_program.specs.Conversation.{Conversation}
 use Rattle.line_program.specs.Listing.{Writes}
 use Rattle.line_program.specs.Conversation.Conversation.{Ended, Answered}
-use Rattle.std.proofs.Common.{arith}
 
 module _ {S T : Type 0} (Answers : S → List ℕ → List ℕ → S → Type 0)
     (Others : T → List ℕ → List ℕ → T → Type 0) (see : S → T)
@@ -28,3 +27,10 @@ pub stopped_as : (Silent : Type 0) (input before after : Option (List ℕ))
     → Silent ⊎ IfSome input (λ bytes. (rest : List ℕ)
     × Writes before after (λ text. Answers bytes text rest))
 stopped_as Silent input before after Talks Answers follows stopped = grind (arith, follows)
+
+-- and what was answered
+pub answered_as : (input before after : Option (List ℕ)) (Talks Answers : List ℕ → List ℕ → Type 0)
+    → ((bytes text : List ℕ) → Talks bytes text → Answers bytes text)
+    → IfSome input (λ bytes. Writes before after (λ text. Talks bytes text))
+    → IfSome input (λ bytes. Writes before after (λ text. Answers bytes text))
+answered_as input before after Talks Answers follows answered = grind (arith, follows)

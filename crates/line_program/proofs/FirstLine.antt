@@ -1,6 +1,5 @@
 -- The first line of bytes of which a front is shown that has the line's end.
-use Rattle.std.proofs.Common.{◌≡◌, ◌≢◌, ℕ, zero, suc, ◌+◌, ◌<◌, List, [], ◌∷◌, length, take, drop, get_or, Option, None, IfSome, ap, ◌∙◌, arith, eq-eqb, eqb-true, Some, ◌≤◌}
-use Rattle.std.proofs.Common.{add-one, refl, rules}
+use Rattle.std.proofs.Common.{◌≡◌, ◌≢◌, ℕ, zero, suc, ◌+◌, ◌<◌, List, [], ◌∷◌, length, take, drop, get_or, Option, None, IfSome, ap, ◌∙◌, arith, eq-eqb, eqb-true, Some, ◌≤◌, add-one, refl, rules}
 use Rattle.std.proofs.lemmas.Bool.Decides.{nat_tests}
 use Rattle.std.proofs.lemmas.Option.{IfSome_then}
 use Rattle.std.specs.Io.{StartsWith}

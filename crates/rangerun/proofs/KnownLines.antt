@@ -33,16 +33,4 @@ module _ {K : Type 0} (order : KeyOrder K) (as_number : K → ℤ) (shape : K �
   reads_fields line word fields None cut found none =
       none_by_fields order.is_key as_number line word fields cut none
   reads_fields line word fields (Some known) cut found none =
-      inr (fields, found.0, cut.0 ∙ ap (λ w. w ++ 32 ∷ fields) found.1)
-
-  -- a line that loads no text is answered as its command is
-  pub answers_known : (items next : List (Item (AnyRange K) ℤ)) (levels : ℕ) (line : List ℕ)
-      (command : Option (CommandLine K)) (before now : Option (List ℕ))
-      → ((json : List ℕ) → line ≢ load_line json)
-      → IsRead order as_number shape reads is_read line command
-      → Writes before now (λ text.
-      Answers order as_number shape reads is_read items levels command text next)
-      → Writes before now (λ text.
-      AnswersLine order as_number shape reads is_read items levels line text next)
-  answers_known items next levels line command before now none read (text, answer, more) =
-      (text, inr (none, command, read, answer), more)
+      inr (fields, found.0, rw found.1 at cut.0)

@@ -1,5 +1,5 @@
 -- The commands among the lines of a conversation are runs.
-use Rattle.std.proofs.Common.{◌≡◌, ℕ, ℤ, Bool, List, [], ◌∷◌, ◌++◌, inl, inr, refl}
+use Rattle.std.proofs.Common.{◌≡◌, ℕ, ℤ, Bool, List, [], ◌∷◌, ◌++◌, inl, inr, refl, subst, sym}
 use Rattle.std.specs.Prelude.{Option, None, Some, IfSome}
 use Rattle.std.proofs.lemmas.Cmp.{int_eq_equiv}
 use Rattle.std.specs.Io.BufRead.{first_line, drop_through}
@@ -29,19 +29,14 @@ module _ {K : Type 0} (order : KeyOrder K) where
       → IsStep order int_eq IsAnswerOf middle command reply last
       → IsRun order int_eq IsAnswerOf items (commands ++ command ∷ []) (replies ++ reply ∷ []) last
   one_more items middle last [] [] command reply run step = (last, rw run at step, refl)
-  one_more items middle last [] (r ∷ replies) command reply run step = absurd run
-  one_more items middle last (c ∷ commands) [] command reply run step = absurd run
   one_more items middle last (c ∷ commands) (r ∷ replies) command reply run step =
       (run.0, run.1, one_more run.0 middle last commands replies command reply run.2 step)
+  one_more items middle last commands replies command reply run step = absurd run
 
 module _ {K : Type 0} (order : KeyOrder K) (as_number : K → ℤ) (shape : K → Data)
     (reads : Data → Bool) (is_read : Data → K → Type 0) where
   abbrev IsChain : Commands K → List (Item (AnyRange K) ℤ) → Type 0
   IsChain done last = IsRun order int_eq IsAnswerOf done.first done.commands done.replies last
-
-  unchanged_list_keeps_chain : (done : Commands K) (items next : List (Item (AnyRange K) ℤ))
-      → next ≡ items → IsChain done items → IsChain done next
-  unchanged_list_keeps_chain done items next same chain = rw same chain
 
   chain_after : (done : Commands K) (items : List (Item (AnyRange K) ℤ)) (levels : ℕ)
       (line answer : List ℕ) (next : List (Item (AnyRange K) ℤ))
@@ -51,28 +46,12 @@ module _ {K : Type 0} (order : KeyOrder K) (as_number : K → ℤ) (shape : K �
       said) next
   chain_after done items levels line answer next (inl (json, is, inl loaded)) chain = refl
   chain_after done items levels line answer next
-      (inl (json, is, inr (cause, why, text_is, same))) chain =
-      unchanged_list_keeps_chain done items next same chain
-  chain_after done items levels line answer next (inr (none, None, read, (text_is, same))) chain =
-      unchanged_list_keeps_chain done items next same chain
-  chain_after done items levels line answer next
-      (inr (none, Some Show, read, (text_is, same))) chain =
-      unchanged_list_keeps_chain done items next same chain
-  chain_after done items levels line answer next
-      (inr (none, Some Gaps, read, (text_is, same))) chain =
-      unchanged_list_keeps_chain done items next same chain
-  chain_after done items levels line answer next
-      (inr (none, Some Len, read, (text_is, same))) chain =
-      unchanged_list_keeps_chain done items next same chain
-  chain_after done items levels line answer next
-      (inr (none, Some Levels, read, (text_is, same))) chain =
-      unchanged_list_keeps_chain done items next same chain
-  chain_after done items levels line answer next
-      (inr (none, Some Save, read, (text_is, same))) chain =
-      unchanged_list_keeps_chain done items next same chain
-  chain_after done items levels line answer next
       (inr (none, Some (Run command), read, (reply, step, text_is))) chain =
       one_more order done.first items next done.commands done.replies command reply chain step
+  chain_after done items levels line answer next (inr (none, other, read, said)) chain =
+      subst (IsChain done) (sym said.1) chain
+  chain_after done items levels line answer next (inl (json, is, inr (cause, why, text_is, same)))
+      chain = subst (IsChain done) (sym same) chain
 
   module _ (lawful : IsLawful order) where
     one_run : (done : Commands K) (items : List (Item (AnyRange K) ℤ)) → IsChain done items
@@ -99,21 +78,12 @@ module _ {K : Type 0} (order : KeyOrder K) (as_number : K → ℤ) (shape : K �
               (chain_after done items levels (first_line input) answer next said chain) talk,
         )
 
-    -- so what answers known input answers it by runs
-    pub answers_runs : (input before after : Option (List ℕ)) (rest : List ℕ)
-        → IfSome input (λ bytes.
-        Writes before after (λ text.
-        IsConversation order as_number shape reads is_read bytes text rest))
-        → IfSome input (λ bytes.
-        Writes before after (λ text.
-        AnswersRuns order as_number shape reads is_read bytes text rest))
-    answers_runs None before after rest answered = tt
-    answers_runs (Some bytes) before after rest (text, said, appended) = (
-      text,
-      (
-        said.last,
-        said.talk,
-        conversation_is_runs (no_commands []) [] bytes text rest said.last refl said.talk,
-      ),
-      appended,
+    -- so what answers input answers it by runs
+    pub answers_runs : (input text rest : List ℕ)
+        → IsConversation order as_number shape reads is_read input text rest
+        → AnswersRuns order as_number shape reads is_read input text rest
+    answers_runs input text rest said = (
+      said.last,
+      said.talk,
+      conversation_is_runs (no_commands []) [] input text rest said.last refl said.talk,
     )

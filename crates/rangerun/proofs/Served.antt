@@ -17,33 +17,12 @@ module _ {K P : Type 0} (order : KeyOrder K) (as_number : K → ℤ) (shape : K 
     AnswersProgram old line text new =
         AnswersStored order as_number shape reads is_read (stored old) line text (stored new)
 
-    pub conversation_served : (first last : P) (input before after : Option (List ℕ))
-        (rest : List ℕ) → stored first ≡ []
-        → IfSome input (λ bytes. Writes before after
-        (λ text. Conversation AnswersProgram first bytes text rest last))
-        → IfSome input (λ bytes. Writes before after
-        (λ text. IsConversation order as_number shape reads is_read bytes text rest))
-    conversation_served first last None before after rest empty served = tt
-    conversation_served first last (Some bytes) before after rest empty (text, talk, appended) = (
-      text,
-      record {
-        last = stored last;
-        talk =
-            subst (λ items. Conversation (AnswersStored order as_number shape reads is_read) items
-            bytes text rest (stored last)) empty
-            (conversation_seen AnswersProgram (AnswersStored order as_number shape reads is_read)
-            stored (λ state line text next answers. answers) first bytes text rest last talk);
-      },
-      appended,
-    )
-
-    pub conversation_stopped : (first last : P) (input before after : Option (List ℕ))
-        (Silent : Type 0) → stored first ≡ []
-        → Silent ⊎ IfSome input (λ bytes. (rest : List ℕ) × Writes before after
-        (λ text. Conversation AnswersProgram first bytes text rest last))
-        → Silent ⊎ IfSome input (λ bytes. (rest : List ℕ) × Writes before after
-        (λ text. IsConversation order as_number shape reads is_read bytes text rest))
-    conversation_stopped first last input before after Silent empty (inl silent) = inl silent
-    conversation_stopped first last None before after Silent empty (inr stopped) = inr tt
-    conversation_stopped first last (Some bytes) before after Silent empty (inr (rest, written)) =
-        inr (rest, conversation_served first last (Some bytes) before after rest empty written)
+    pub conversation_served : {first last : P} {bytes text rest : List ℕ} → stored first ≡ []
+        → Conversation AnswersProgram first bytes text rest last
+        → IsConversation order as_number shape reads is_read bytes text rest
+    conversation_served {last = last} empty talk = record {
+      last = stored last;
+      talk = rw empty at (conversation_seen AnswersProgram
+          (AnswersStored order as_number shape reads is_read) stored
+          (λ state line text next answers. answers) _ _ _ _ _ talk);
+    }

@@ -1,21 +1,12 @@
 -- Gaps, and ranges of cloned keys.
-use Rattle.std.proofs.Common.{◌≡◌, ap}
+use Rattle.std.proofs.Common.{◌≡◌, arith}
 use Rattle.std.specs.declared.ops.Bound.{Bound}
-use Rattle.std.specs.declared.ops.Bound.TheVariants.{Included, Excluded, Unbounded}
 use Rattle.btree_range_map.specs.AnyRange.{AnyRange}
 use Rattle.btree_range_map.specs.Clones.{IsBoundClone, IsRangeClone}
 
 module _ {K : Type 0} (is_clone : K → K → Type 0) (same : (x y : K) → is_clone x y → x ≡ y) where
   bound_same : (b c : Bound K) → IsBoundClone is_clone b c → b ≡ c
-  bound_same (Included a) (Included b) h = ap (λ k. Included k) (same a b h)
-  bound_same (Excluded a) (Excluded b) h = ap (λ k. Excluded k) (same a b h)
-  bound_same Unbounded Unbounded h = λ i. Unbounded
-  bound_same (Included a) (Excluded b) h = absurd h
-  bound_same (Included a) Unbounded h = absurd h
-  bound_same (Excluded a) (Included b) h = absurd h
-  bound_same (Excluded a) Unbounded h = absurd h
-  bound_same Unbounded (Included b) h = absurd h
-  bound_same Unbounded (Excluded b) h = absurd h
+  bound_same b c h = grind (arith, same)
 
   pub clone_same : (r s : AnyRange K) → IsRangeClone is_clone r s → r ≡ s
   clone_same r s h =

@@ -1,12 +1,8 @@
-use Rattle.std.proofs.Common.{rules}
-use Rattle.rangerun.proofs.LineWords.{none_alone}
+use Rattle.std.proofs.Common.{arith, rules}
 use Rattle.rangerun.proofs.command_line.alone.Goals as goal
 
 pub returns-in_default-clause-none : goal.returns-in_default-clause-none
-returns-in_default-clause-none g c =
-    none_alone g.K.MaybeBounded.order.is_key g.K.NumberKey.as_number c.args.word.now
-    c.in_default.not-count c.in_default.not-show c.in_default.not-gaps c.in_default.not-len
-    c.in_default.not-levels c.in_default.not-save
+returns-in_default-clause-none g c = λ known alone e. grind arith
 
 pub returns-in-count-clause-found : goal.returns-in-count-clause-found
 returns-in-count-clause-found g c = search rules
