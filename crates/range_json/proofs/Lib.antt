@@ -1,3 +1,4 @@
+pub mod Common
 pub mod Exact
 pub mod FoundMeetings
 pub mod Keeping

@@ -1,4 +1,5 @@
 pub mod BoundElements
+pub mod Common
 pub mod ElementLoop
 pub mod MapReading
 pub mod WritingLoop

@@ -1,5 +1,6 @@
 pub mod Altered
 pub mod CallHistories
+pub mod Common
 pub mod Filled
 pub mod Keeping
 pub mod Pairing
