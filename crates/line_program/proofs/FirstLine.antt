@@ -25,8 +25,8 @@ first_shown byte (b ∷ bs) (x ∷ xs) (suc at) starts inside found before =
     let other = before 0 (omega arith) in
     rw add-one (grind (arith, nat_tests, rw add-one at later, other))
 
--- a line that lies in what a reader shows is the first of the bytes that it has left, and taken, and
--- the answer to it is one to the first line
+-- a line that lies in what a reader shows is the first of the bytes that it has left, and taken,
+-- and the answer to it is one to the first line
 pub first_answered : {P : Type 0} (Answers : P → List ℕ → List ℕ → P → Type 0)
     (old kept new before after : Option (List ℕ)) (limit : Option ℕ) (shown : List ℕ) (at : ℕ)
     (program next ended : P) → IfSome old (λ bytes. StartsWith bytes shown) → Keeps old kept
@@ -38,15 +38,16 @@ pub first_answered : {P : Type 0} (Answers : P → List ℕ → List ℕ → P �
     → IfSome old (λ bytes. (bytes ≢ []) × (new ≡ Some (drop_through 10 bytes))
     × IsUtf8 (first_line bytes)
     × Writes before after (λ text. Answers program (first_line bytes) text ended))
-first_answered Answers None kept new before after limit shown at program next ended starts keeps fits
-    drops first same written = tt
+first_answered Answers None kept new before after limit shown at program next ended starts keeps
+    fits drops first same written = tt
 first_answered Answers (Some bytes) None new before after limit shown at program next ended starts
     keeps fits drops first same written = absurd keeps
 first_answered Answers (Some bytes) (Some held) new before after limit shown at program next ended
     starts keeps fits drops (none_before, found) same (text, (is_text, answers), appended) =
     let (taken, left, some) = first_shown 10 bytes shown at starts none_before.high
     (eqb-true _ _ found) (λ k less is. none_before.before k (omega arith) less (eq-eqb _ _ is)) in
-    let is_first : line_content (take (at + 1) shown) ≡ first_line bytes = ap line_content taken in (
+    let is_first : line_content (take (at + 1) shown) ≡ first_line bytes =
+    ap line_content taken in (
       some,
       drops (IfSome_then limit fits (λ most fit. omega (arith, none_before.high, fit)))
           ∙ rw (keeps, left) refl,

@@ -43,7 +43,8 @@ module _ {X : Type 0} (SpellsOne : X → List ℕ → Type 0) where
   shown_more all left x before now next shown (line, spelled, more) = record {
     written = shown.written ++ line;
     appended = grind (arith, appends_then);
-    goes_on = λ lines rest. rw append_assoc (shown.goes_on (line ++ lines) (line, lines, spelled, rest, refl));
+    goes_on = λ lines rest. rw append_assoc
+        (shown.goes_on (line ++ lines) (line, lines, spelled, rest, refl));
   }
 
   pub shown_all : (all : List X) (before now : Option (List ℕ)) → HasShown all [] before now
@@ -70,7 +71,8 @@ module _ {X : Type 0} (SpellsOne : X → List ℕ → Type 0) where
   -- all is listed, and the line of an empty listing follows where there was nothing
   pub listed : {all left : List X} {before now : Option (List ℕ)} (next : Option (List ℕ))
       (none : List ℕ) (is_empty : Bool) → IsListing all left before now is_empty → left ≡ []
-      → Appends now next (cond is_empty none []) → Writes before next (SpellsLines SpellsOne none all)
+      → Appends now next (cond is_empty none [])
+      → Writes before next (SpellsLines SpellsOne none all)
   listed next none true listing ended appended = (none, grind arith, grind arith)
   listed next none false listing ended appended = let (text, each, written) =
       shown_all _ _ _ (rw ended at listing.shown) in

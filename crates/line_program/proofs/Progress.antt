@@ -45,7 +45,8 @@ module _ {S : Type 0} (Answers : S → List ℕ → List ℕ → S → Type 0) (
         left_is = later_is;
         written = answered.written ++ text;
         appended = appends_then before now next answered.written text answered.appended more;
-        goes_on = λ others rest last held. rw append_assoc (answered.goes_on (text ++ others) rest last
+        goes_on = λ others rest last held. rw append_assoc
+            (answered.goes_on (text ++ others) rest last
             (Answered _ _ _ _ _ _ _ _ some is_text answer held refl));
       }
 

@@ -26,7 +26,8 @@ module _ {K : Type 0} (IsKey : K → Type 0) (as_number : K → ℤ) where
       → ((range : AnyRange K) (value : ℤ) → SpellsBinding IsKey as_number fields range value → ⊥)
       → (known : CommandLine K) → SpellsFields IsKey as_number fields known
       → text ≡ word_text known → ⊥
-  none_of_binding text fields is none (Run (Insert range value)) spelled e = none range value spelled
+  none_of_binding text fields is none (Run (Insert range value)) spelled e =
+      none range value spelled
   none_of_binding text fields is none (Run (InsertDisconnected range value)) spelled e =
       none range value spelled
   none_of_binding text fields is none known _ e = grind arith

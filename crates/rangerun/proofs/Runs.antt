@@ -67,7 +67,8 @@ module _ {K : Type 0} (order : KeyOrder K) (as_number : K → ℤ) (shape : K �
     conversation_is_runs : (done : Commands K) (items : List (Item (AnyRange K) ℤ))
         (input text rest : List ℕ) (last : List (Item (AnyRange K) ℤ)) → IsChain done items
         → (talk : Conversation (AnswersStored order as_number shape reads is_read) items input text
-        rest last) → AreRuns order as_number shape reads is_read done items input text rest last talk
+        rest last)
+        → AreRuns order as_number shape reads is_read done items input text rest last talk
     conversation_is_runs done items input text rest last chain (Ended _ _) =
         one_run done items chain
     conversation_is_runs done items input text rest last chain

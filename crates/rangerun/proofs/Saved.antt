@@ -32,7 +32,8 @@ module _ {K : Type 0} (shape : K → Data)
       → items_have_float (items_of
       (map (λ i. pair_shape (range_shape shape i.key) (signed_shape i.value)) items)) ≡ false
   items_have_no_float [] = refl
-  items_have_no_float (i ∷ items) = grind (arith, neither_true, item_has_no_float i, items_have_no_float items)
+  items_have_no_float (i ∷ items) =
+      grind (arith, neither_true, item_has_no_float i, items_have_no_float items)
 
   pub map_has_no_float : (items : List (Item (AnyRange K) ℤ))
       → has_float (map_shape shape signed_shape items) ≡ false

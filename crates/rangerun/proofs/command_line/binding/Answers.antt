@@ -11,13 +11,15 @@ pub returns-in_err-range-clause-none : goal.returns-in_err-range-clause-none
 returns-in_err-range-clause-none g c = if_none c.from_residual-in_err-range.result _
     (λ range value spelled. c.in_err-range.ensures.none range
     (parted (λ t. SpellsRange g.K.MaybeBounded.order.is_key g.K.NumberKey.as_number t range)
-    (λ t. SpellsNumber t value) (λ t. range_lacks _ _ t range) _ _ _ c.in_ok-spelled.ensures spelled).0)
+    (λ t. SpellsNumber t value) (λ t. range_lacks _ _ t range) _ _ _ c.in_ok-spelled.ensures
+    spelled).0)
 
 pub returns-in_err-value-clause-none : goal.returns-in_err-value-clause-none
 returns-in_err-value-clause-none g c = if_none c.from_residual-in_err-value.result _
     (λ range value spelled. c.in_err-value.ensures.none value
     (parted (λ t. SpellsRange g.K.MaybeBounded.order.is_key g.K.NumberKey.as_number t range)
-    (λ t. SpellsNumber t value) (λ t. range_lacks _ _ t range) _ _ _ c.in_ok-spelled.ensures spelled).1)
+    (λ t. SpellsNumber t value) (λ t. range_lacks _ _ t range) _ _ _ c.in_ok-spelled.ensures
+    spelled).1)
 
 pub returns-clause-found : goal.returns-clause-found
 returns-clause-found g c = search rules

@@ -16,11 +16,13 @@ returns-in_err-value-in-set-clause-none c = if_none c.from_residual-in_err-value
 
 pub returns-in_err-value-in-fill-clause-none : goal.returns-in_err-value-in-fill-clause-none
 returns-in_err-value-in-fill-clause-none c = if_none c.from_residual-in_err-value-in-fill.result _
-    (none_of_fill _ _ (rw c.in-fill.is at c.in_ok-word.ensures.0) c.in_err-value-in-fill.ensures.none)
+    (none_of_fill _ _ (rw c.in-fill.is at c.in_ok-word.ensures.0)
+    c.in_err-value-in-fill.ensures.none)
 
 pub returns-in_err-value-in-fail-clause-none : goal.returns-in_err-value-in-fail-clause-none
 returns-in_err-value-in-fail-clause-none c = if_none c.from_residual-in_err-value-in-fail.result _
-    (none_of_fail _ _ (rw c.in-fail.is at c.in_ok-word.ensures.0) c.in_err-value-in-fail.ensures.none)
+    (none_of_fail _ _ (rw c.in-fail.is at c.in_ok-word.ensures.0)
+    c.in_err-value-in-fail.ensures.none)
 
 pub returns-in_ok-value-in-fail-clause-found : goal.returns-in_ok-value-in-fail-clause-found
 returns-in_ok-value-in-fail-clause-found c =

@@ -15,12 +15,14 @@ returns-in_err-range-in-try-clause-none g c = if_none c.from_residual-in_err-ran
     c.in_err-range-in-try.ensures.none)
 
 pub returns-in_err-range-in-remove-clause-none : goal.returns-in_err-range-in-remove-clause-none
-returns-in_err-range-in-remove-clause-none g c = if_none c.from_residual-in_err-range-in-remove.result _
+returns-in_err-range-in-remove-clause-none g c =
+    if_none c.from_residual-in_err-range-in-remove.result _
     (none_of_range g.K.MaybeBounded.order.is_key g.K.NumberKey.as_number _ _ (inl c.in-remove.is)
     c.in_err-range-in-remove.ensures.none)
 
 pub returns-in_err-range-in-update-clause-none : goal.returns-in_err-range-in-update-clause-none
-returns-in_err-range-in-update-clause-none g c = if_none c.from_residual-in_err-range-in-update.result _
+returns-in_err-range-in-update-clause-none g c =
+    if_none c.from_residual-in_err-range-in-update.result _
     (none_of_update g.K.MaybeBounded.order.is_key g.K.NumberKey.as_number _ _ c.in-update.is
     c.in_err-range-in-update.ensures.none)
 
@@ -33,7 +35,8 @@ returns-in_err-key-in-has-clause-none g c = if_none c.from_residual-in_err-key-i
     (λ known spelled e. grind (arith, c.in-has.is, c.in_err-key-in-has.ensures.none))
 
 pub returns-in_err-range-in-meets-clause-none : goal.returns-in_err-range-in-meets-clause-none
-returns-in_err-range-in-meets-clause-none g c = if_none c.from_residual-in_err-range-in-meets.result _
+returns-in_err-range-in-meets-clause-none g c = if_none c.from_residual-in_err-range-in-meets.result
+    _
     (none_of_range g.K.MaybeBounded.order.is_key g.K.NumberKey.as_number _ _ (inr c.in-meets.is)
     c.in_err-range-in-meets.ensures.none)
 

@@ -13,12 +13,14 @@ loop-gap-init g c = record {
 pub loop-gap-preserved : goal.loop-gap-preserved
 loop-gap-preserved g c = record {
   nonempty = (rw c.in-Some.ensures.steps at c.loop-gap.invariant.nonempty).1;
-  listing = listing_more _ c.loop-gap.invariant.listing c.in-Some.ensures.steps c.in_ok-write_gap.ensures;
+  listing = listing_more _ c.loop-gap.invariant.listing c.in-Some.ensures.steps
+      c.in_ok-write_gap.ensures;
 }
 
 pub returns-then-is_full : goal.returns-then-is_full
 returns-then-is_full g c = on_ok_weaker c.write_all.result
-    (listed _ _ _ _ (rw c.if-is_full.true at c.loop-gap.invariant.listing) c.in_default.ensures.steps.0)
+    (listed _ _ _ _ (rw c.if-is_full.true at c.loop-gap.invariant.listing)
+    c.in_default.ensures.steps.0)
     c.write_all.ensures.bytes
 
 pub returns : goal.returns
