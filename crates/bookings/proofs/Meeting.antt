@@ -1,5 +1,5 @@
 -- The bookings that meet some minutes are all that have some of them.
-use Rattle.std.proofs.Common.{◌≡◌, ◌⊎◌, inl, inr, ℕ, List, [], ◌∷◌, ◌++◌, refl, sym, subst, arith}
+use Rattle.std.proofs.Common.{◌≡◌, ◌⊎◌, inl, inr, ℕ, List, [], ◌∷◌, ◌++◌, refl, sym, subst}
 use Rattle.std.specs.List.{AllByRecursion as Every}
 use Rattle.std.specs.String.{string_eq}
 use Rattle.std.specs.declared.cmp.Ordering.{Ordering}
@@ -17,21 +17,23 @@ use Rattle.bookings.specs.Calendars.{AreInTheWay, Booking, Bookings, HasSomeOf}
 use Rattle.bookings.proofs.Minutes.{not_before, not_empty, share_minute}
 
 module _ {X : Type 0} where
-  is_among : (x : X) (before after : List X) → Any (λ y. y ≡ x) (before ++ x ∷ after)
-  is_among x [] after = inl refl
-  is_among x (y ∷ before) after = inr (is_among x before after)
+  is_among_later : (x : X) (xs ys : List X) → Any (λ y. y ≡ x) ys → Any (λ y. y ≡ x) (xs ++ ys)
+  is_among_later x [] ys among = among
+  is_among_later x (z ∷ xs) ys among = inr (is_among_later x xs ys among)
 
-  each_inside : (P : X → Type 0) (before xs after : List X) → Every P (before ++ (xs ++ after))
-      → Every P xs
-  each_inside P [] [] after each = tt
-  each_inside P [] (x ∷ xs) after each = (each.0, each_inside P [] xs after each.1)
-  each_inside P (y ∷ before) xs after each = each_inside P before xs after each.1
+  is_among_earlier : (x : X) (xs ys : List X) → Any (λ y. y ≡ x) xs → Any (λ y. y ≡ x) (xs ++ ys)
+  is_among_earlier x [] ys among = absurd among
+  is_among_earlier x (z ∷ xs) ys (inl here) = inl here
+  is_among_earlier x (z ∷ xs) ys (inr later) = inr (is_among_earlier x xs ys later)
 
-  each_with : (P Q R S : X → Type 0) (xs : List X) → ((x : X) → P x → Q x → R x → S x)
-      → Every P xs → Every Q xs → Every R xs → Every S xs
-  each_with P Q R S [] follows one two three = tt
-  each_with P Q R S (x ∷ xs) follows one two three =
-      (follows x one.0 two.0 three.0, each_with P Q R S xs follows one.1 two.1 three.1)
+  each_follows : (P Q : X → Type 0) (all xs : List X)
+      → ((x : X) → Any (λ y. y ≡ x) xs → Any (λ y. y ≡ x) all)
+      → ((x : X) → Any (λ y. y ≡ x) all → P x → Q x) → Every P xs → Every Q xs
+  each_follows P Q all [] within follows each = tt
+  each_follows P Q all (x ∷ xs) within follows (here, later) = (
+    follows x (within x (inl refl)) here,
+    each_follows P Q all xs (λ y among. within y (inr among)) follows later,
+  )
 
   each_of_two : (P : X → Type 0) (xs ys : List X) → Every P xs → Every P ys → Every P (xs ++ ys)
   each_of_two P [] ys one other = other
@@ -41,8 +43,19 @@ module _ {X : Type 0} where
   each_as P Q [] follows each = tt
   each_as P Q (x ∷ xs) follows each = (follows x each.0, each_as P Q xs follows each.1)
 
+  each_is : (P : X → Type 0) (xs : List X) → ((x : X) → P x) → Every P xs
+  each_is P [] all = tt
+  each_is P (x ∷ xs) all = (all x, each_is P xs all)
+
+  of_all : (P : X → Type 0) (x : X) (xs : List X) → Every P xs → Any (λ y. y ≡ x) xs → P x
+  of_all P x [] all among = absurd among
+  of_all P x (y ∷ xs) all (inl here) = subst P here all.0
+  of_all P x (y ∷ xs) all (inr later) = of_all P x xs all.1 later
+
 greater_or_not : (o : Ordering) → (o ≡ Greater) ⊎ (¬ (o ≡ Greater))
-greater_or_not o = grind arith
+greater_or_not Less = inr (λ e. absurd cc)
+greater_or_not Equal = inr (λ e. absurd cc)
+greater_or_not Greater = inl refl
 
 -- what meets the minutes has some of them, and all other bookings have none
 pub are_in_the_way : (bookings met : Bookings) (minutes : AnyRange ℕ)
@@ -58,25 +71,22 @@ are_in_the_way bookings met minutes stored known none some =
         bookings,
         subst (λ (l : Bookings). bookings ≡ l ++ bookings) (sym (none empty)) refl,
         subst (Every (HasSomeOf minutes)) (sym (none empty)) tt,
-        each_as (λ (b : Booking). IsKnownRange u32_order b.key)
-            (λ (b : Booking). ¬ HasSomeOf minutes b) bookings
-            (λ b its (m, key, holds, wanted).
-            not_empty minutes.start minutes.end m key wanted empty) stored.known,
+        each_is (λ (b : Booking). ¬ HasSomeOf minutes b) bookings
+            (λ b (m, key, holds, wanted). not_empty minutes.start minutes.end m key wanted empty),
       )
       | inr full ↦
           let are = some full in (
             are.before,
             are.after,
             are.split,
-            each_with (λ (b : Booking). IsKnownRange u32_order b.key)
-                (λ (b : Booking). ¬ IsEmptyRange u32_order b.key)
-                (λ (b : Booking). Overlap u32_order b.key minutes) (HasSomeOf minutes) met
-                (λ b its some' overlap. share_minute b.key minutes its known some' full overlap)
-                (each_inside (λ (b : Booking). IsKnownRange u32_order b.key) are.before met are.after
-                (subst (Every (λ (b : Booking). IsKnownRange u32_order b.key)) are.split stored.known))
-                (each_inside (λ (b : Booking). ¬ IsEmptyRange u32_order b.key) are.before met are.after
-                (subst (Every (λ (b : Booking). ¬ IsEmptyRange u32_order b.key)) are.split
-                stored.nonempty))
+            each_follows (λ i. Overlap u32_order i.key minutes) (HasSomeOf minutes) bookings met
+                (λ i among. subst (Any (λ j. j ≡ i)) (sym are.split)
+                (is_among_later i are.before (met ++ are.after)
+                (is_among_earlier i met are.after among)))
+                (λ i among overlap. share_minute i.key minutes
+                (of_all (λ j. IsKnownRange u32_order j.key) i bookings stored.known among) known
+                (of_all (λ j. ¬ IsEmptyRange u32_order j.key) i bookings stored.nonempty among) full
+                overlap)
                 are.meet,
             each_of_two (λ (b : Booking). ¬ HasSomeOf minutes b) are.before are.after
                 (each_as (λ (b : Booking). LiesBefore u32_order b.key minutes) _ are.before
@@ -92,5 +102,8 @@ are_in_the_way bookings met minutes stored known none some =
 pub first_in_the_way : (bookings : Bookings) (minutes : AnyRange ℕ) (booking : Booking)
     (others : Bookings) → AreInTheWay bookings minutes (booking ∷ others)
     → Any (λ i. i ≡ booking) bookings × HasSomeOf minutes booking
-first_in_the_way bookings minutes booking others (before, after, split, some, none) =
-    (rw split (is_among booking before (others ++ after)), some.0)
+first_in_the_way bookings minutes booking others (before, after, split, some, none) = (
+  subst (Any (λ i. i ≡ booking)) (sym split)
+      (is_among_later booking before ((booking ∷ others) ++ after) (inl refl)),
+  some.0,
+)

@@ -17,14 +17,21 @@ use Rattle.bookings.proofs.Minutes.{end_held, end_holds, first_of, start_held, s
 is_booked : (bookings : Bookings) (booking : Booking) (m : ℕ) → Any (λ i. i ≡ booking) bookings
     → Holds u32_order booking.key m → IsBound u32_order bookings m
 is_booked [] booking m among holds = absurd among
-is_booked (i ∷ rest) booking m among holds = grind (arith, is_booked rest booking m)
+is_booked (i ∷ rest) booking m (inl here) holds =
+    inl (subst (λ (b : Booking). Holds u32_order b.key m) (sym here) holds)
+is_booked (i ∷ rest) booking m (inr later) holds = inr (is_booked rest booking m later holds)
 
 -- a minute that is booked leaves no room round it
 no_room_at : (bookings : Bookings) (within : Range ℕ) (size start m : ℕ)
     → m ≤ 4294967295 → IsBound u32_order bookings m → start ≤ m → m < start + size
     → ¬ IsRoom bookings within size start
-no_room_at bookings within size start m key bound low high room = grind
-    (arith, start_holds, end_holds)
+no_room_at bookings within size start m key bound low high (inside, ends, free) =
+    free (
+      m,
+      key,
+      (start_holds (Included start) m low, end_holds (Excluded (start + size)) m high),
+      bound,
+    )
 
 -- a booking that has one of so many minutes leaves no room for as many from a later start on,
 -- unless that start lies past it
@@ -59,16 +66,19 @@ module _ (bookings : Bookings) (within : Range ℕ) (size first : ℕ)
   pub none_before : (past : ℕ)
       → ((start : ℕ) → first ≤ start → start < past → ¬ IsRoom bookings within size start)
       → (start : ℕ) → start < past → ¬ IsRoom bookings within size start
-  none_before past later start before = elim (cases_lt start first) [
-    | inl earlier ↦ none start earlier
-    | inr reached ↦ later start reached before
-  ]
+  none_before past later start before = beside (cases_lt start first)
+    where
+      beside : (start < first) ⊎ (first ≤ start) → ¬ IsRoom bookings within size start
+      beside (inl earlier) = none start earlier
+      beside (inr reached) = later start reached before
 
   pub none_later : within.end < first + size → (start : ℕ) → ¬ IsRoom bookings within size start
-  none_later short start room = elim (cases_lt start first) [
-    | inl earlier ↦ none start earlier room
-    | inr reached ↦ let ends = room.1 in absurd (omega (arith, short, reached, ends))
-  ]
+  none_later short start = beside (cases_lt start first)
+    where
+      beside : (start < first) ⊎ (first ≤ start) → ¬ IsRoom bookings within size start
+      beside (inl earlier) = none start earlier
+      beside (inr reached) =
+          λ room. let ends = room.1 in absurd (omega (arith, short, reached, ends))
 
 -- what is free among the bookings of two calendars is free in both
 module _ (bookings others both : Bookings)

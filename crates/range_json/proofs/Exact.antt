@@ -1,9 +1,25 @@
 -- A map that is read has no fault, where a JSON value is read as equal keys.
 use Rattle.std.proofs.Common.{◌≡◌, refl, sym, ap, subst, ◌∙◌, inl, inr, List, [], ◌∷◌, ◌++◌, Bool, Option, Some, None, arith}
-use Rattle.range_json.proofs.Common.{alike_right, AllZip, Equal, Bound, Included, same_Some, none-some, Data, KeyOrder, IsLawful, start_position, end_position, position_cmp, AnyRange, any_right, IsBoundClone, range_clone, range_cmp, Item, JsonError, first_fault, ArePartsRead, IsRangeRead, element_fault, HasOneReading, IsElementRead, MeetNonempty, MeetsOne, AreApart, AreRead, IsFirstFault, IsMapRead, IsMapFault}
+use Rattle.std.specs.Cmp.{alike_right}
+use Rattle.std.specs.List.{AllZip}
+use Rattle.std.specs.declared.cmp.Ordering.TheVariants.{Equal}
+use Rattle.std.specs.declared.ops.Bound.{Bound}
+use Rattle.std.specs.declared.ops.Bound.TheVariants.{Included, Excluded, Unbounded}
+use Rattle.std.proofs.lemmas.Option.{same_Some, none-some}
+use Rattle.serde_json.specs.Data.{Data}
+use Rattle.range_keys.specs.Order.{KeyOrder, IsLawful}
+use Rattle.range_keys.specs.Position.{start_position, end_position, position_cmp}
 use Rattle.range_keys.specs.PositionOrder.{position_total}
 use Rattle.range_keys.specs.declared.inner.position.Position.{Position}
 use Rattle.range_keys.proofs.Orderings.{both_equal}
+use Rattle.range_algebra.specs.declared.any.AnyRange.{AnyRange}
+use Rattle.range_algebra.proofs.Lists.{any_right}
+use Rattle.range_algebra.specs.Clones.{IsBoundClone, range_clone}
+use Rattle.range_algebra.specs.RangeOrder.{range_cmp}
+use Rattle.range_store.specs.declared.storage.Item.{Item}
+use Rattle.range_json.specs.declared.error.JsonError.{JsonError}
+use Rattle.range_json.specs.Faults.{first_fault, ArePartsRead, IsRangeRead}
+use Rattle.range_json.specs.MapFaults.{element_fault, HasOneReading, IsElementRead, MeetNonempty, MeetsOne, AreApart, AreRead, IsFirstFault, IsMapRead, IsMapFault}
 use Rattle.range_json.proofs.Reading.{fault_first}
 
 -- the place of an element among those that are read
@@ -59,19 +75,23 @@ module _ {K : Type 0} (order : KeyOrder K) (lawful : IsLawful order) where
     parts_one : (p : Option (Bound Data)) (b c : Bound K) → ArePartsRead is_read p b
         → ArePartsRead is_read p c → IsBoundClone Alike b c
     parts_one (Some (Included d)) (Included k) (Included l) h g = one d k l h g
+    parts_one (Some (Excluded d)) (Excluded k) (Excluded l) h g = one d k l h g
+    parts_one (Some Unbounded) Unbounded Unbounded h g = tt
     parts_one p b c h g = grind arith
 
     pub range_one : (d : Data) (r s : AnyRange K) → IsRangeRead is_read d r
         → IsRangeRead is_read d s
         → range_cmp order r s ≡ Equal
     range_one d r s (ds, e, starts, ends) (es, f, other_starts, other_ends) =
+        let same : es ≡ ds = same_Some es ds (sym f ∙ e) in
         range_clone order lawful Alike (λ a b h. h) r s (grind (arith, parts_one))
 
     module _ {V : Type 0} (value_is_read : Data → V → Type 0) where
       element_one : (d : Data) (x y : Item (AnyRange K) V) → IsElementRead is_read value_is_read d x
           → IsElementRead is_read value_is_read d y → range_cmp order x.key y.key ≡ Equal
       element_one d x y (ds, e, range, value) (es, f, other, other_value) =
-          grind (arith, same_Some es ds (sym f ∙ e), range_one ds.0 x.key y.key range)
+          let same : es ≡ ds = same_Some es ds (sym f ∙ e) in
+          range_one ds.0 x.key y.key range (subst (λ p. IsRangeRead is_read p.0 y.key) same other)
 
       one_too : (front : List Data) (xs ys : List (Item (AnyRange K) V)) (r s : AnyRange K)
           → AllZip (IsElementRead is_read value_is_read) front xs

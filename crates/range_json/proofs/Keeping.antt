@@ -1,14 +1,24 @@
 -- A list in a map's form is stored as it was read.
-use Rattle.std.proofs.Common.{append_assoc, ◌≡◌, refl, inl, inr, List, [], ◌∷◌, ◌++◌, Bool, IsTrue, arith}
-use Rattle.range_json.proofs.Common.{IsEquivalence, Every, Bound, Included, Excluded, Unbounded, KeyOrder, IsLawful, start_position, end_position, AnyRange, every_left, every_right, Le, Lt, IsKnownRange, Item}
+use Rattle.std.proofs.Common.{append_assoc, ◌≡◌, refl, ◌∙◌, inl, inr, List, [], ◌∷◌, ◌++◌, Bool, IsTrue, arith}
 use Rattle.std.proofs.lemmas.List.{append-nil}
+use Rattle.std.specs.Cmp.{IsEquivalence}
+use Rattle.std.specs.List.{AllByRecursion as Every}
+use Rattle.std.specs.declared.ops.Bound.{Bound}
+use Rattle.std.specs.declared.ops.Bound.TheVariants.{Included, Excluded, Unbounded}
+use Rattle.range_keys.specs.Order.{KeyOrder, IsLawful}
+use Rattle.range_keys.specs.Position.{start_position, end_position}
 use Rattle.range_keys.proofs.Orderings.{eq_is_equal}
+use Rattle.range_algebra.specs.declared.any.AnyRange.{AnyRange}
+use Rattle.range_algebra.proofs.Lists.{every_left, every_right}
 use Rattle.range_runs.specs.Chains.{line_of, Leads}
 use Rattle.range_runs.proofs.Chains.{chain_before, chain_left, chain_right}
 use Rattle.range_algebra.specs.Compared.{starts_at_end}
 use Rattle.range_algebra.specs.Cuts.{past, lower, upper}
+use Rattle.range_algebra.specs.Intervals.{Le, Lt}
 use Rattle.range_runs.proofs.PlaceOrder.{eq_le, le_trans, lt_le, lt_not_le}
+use Rattle.range_algebra.specs.Range.{IsKnownRange}
 use Rattle.range_algebra.proofs.Places.{flipped_bound_is_past}
+use Rattle.range_store.specs.declared.storage.Item.{Item}
 use Rattle.range_runs.specs.Frames.{IsInsertionFrame, JoinsOrMeets}
 use Rattle.range_runs.specs.Stored.{item_lower, item_upper, IsStored}
 use Rattle.range_runs.proofs.Forms.{places, before_is, touches_is, Chained, Known, stored_chain, stored_known, chain_stored}
@@ -111,7 +121,8 @@ module _ {K V : Type 0} (order : KeyOrder K) (lawful : IsLawful order) (same : V
   pub apart_from_last : (xs : List (Item (AnyRange K) V)) (x : Item (AnyRange K) V)
       → IsStored order same (xs ++ x ∷ [])
       → Every (λ i. ¬ JoinsOrMeets order same x.key x.value i) xs
-  apart_from_last xs x whole = grind (arith, parts_of, none_joined)
+  apart_from_last xs x whole =
+      let (good, leads, known, own) = parts_of xs x whole in none_joined xs x good known own leads
 
   -- a list in the form stands as it is, where its last item is put to the others
   pub stands_last : (xs new : List (Item (AnyRange K) V)) (x : Item (AnyRange K) V)
@@ -123,13 +134,14 @@ module _ {K V : Type 0} (order : KeyOrder K) (lawful : IsLawful order) (same : V
       no_item (JoinsOrMeets order same x.key x.value) frame.front frame.run frame.behind
       (rw frame.before at (apart_from_last xs x whole)) frame.such.concerned in
       let split : xs ≡ frame.front ++ frame.behind = rw (empty, append-nil) at frame.before in
-      grind (
-        arith,
-        append_assoc,
-        none_behind,
-        every_right,
-        stored_chain order lawful same equal new stored,
-      )
+      let after : new ≡ frame.front ++ x ∷ frame.behind =
+      rw (frame.such.whole empty, append_assoc frame.front (x ∷ []) frame.behind) at frame.after in
+      let behind : frame.behind ≡ [] =
+      none_behind frame.front frame.behind x
+      (every_right _ frame.front frame.behind (rw split at good)) own
+      (every_right (λ i. LeadsTo i x) frame.front frame.behind (rw split at leads))
+      (rw after at (stored_chain order lawful same equal new stored)) in
+      after ∙ rw (split, behind, append-nil frame.front) refl
 
   -- the front of a list in the form is in the form
   pub stored_front : (xs ys : List (Item (AnyRange K) V)) → IsStored order same (xs ++ ys)

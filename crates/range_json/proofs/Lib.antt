@@ -1,4 +1,3 @@
-pub mod Common
 pub mod Exact
 pub mod FoundMeetings
 pub mod Keeping

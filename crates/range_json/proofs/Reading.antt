@@ -1,16 +1,22 @@
 -- What is read of a list while a loop goes over it.
-use Rattle.std.proofs.Common.{◌≡◌, sym, ap, ◌∙◌, ℕ, suc, ◌+◌, ◌<◌, List, [], ◌∷◌, ◌++◌, map, length, take, drop, get_or, Option, Some, None, arith}
-use Rattle.std.proofs.lemmas.List.{length-map}
-use Rattle.range_algebra.proofs.Lists.{parts_at}
-use Rattle.range_json.proofs.Common.{map-append, take_more, length-take-le, none-some, AllZip, Data, view, items_view, elements_of, before, first_fault, JsonError, list_back}
+use Rattle.std.proofs.Common.{◌≡◌, refl, sym, ap, ◌∙◌, ℕ, suc, ◌+◌, List, [], ◌∷◌, ◌++◌, map, length, Option, Some, None, append_assoc, arith, rules}
+use Rattle.std.proofs.lemmas.Option.{none-some}
+use Rattle.std.specs.List.{AllZip}
+use Rattle.serde_json.specs.Data.{Data, array}
 use Rattle.serde_json.specs.Find.{as_array}
+use Rattle.serde_json.specs.View.{view, items_of, items_view}
 use Rattle.serde_json.specs.declared.value.Value.{Value}
+use Rattle.range_json.specs.Shapes.{list_of, elements_of}
+use Rattle.range_json.specs.Faults.{before, first_fault}
+use Rattle.range_json.specs.declared.error.JsonError.{JsonError}
+use Rattle.range_json.specs.SetReadBack.{list_back}
 
 abbrev MaybeFault : Type 0
 MaybeFault = Option JsonError
 
 pub before_none : (f g : MaybeFault) → before f g ≡ None → (f ≡ None) × (g ≡ None)
-before_none option g h = grind (arith, none-some)
+before_none None g h = (refl, h)
+before_none (Some e) g h = absurd (none-some e (sym h))
 
 module _ (fault : ℕ → Data → MaybeFault) where
   -- where the elements before have no fault, the first is one of those after
@@ -30,7 +36,8 @@ module _ (fault : ℕ → Data → MaybeFault) where
   pub fault_first : (ds : List Data) (d : Data) (more : List Data) (e : JsonError)
       → first_fault fault 0 ds ≡ None → fault (length ds) d ≡ Some e
       → first_fault fault 0 (ds ++ d ∷ more) ≡ Some e
-  fault_first ds d more e h at = grind (arith, from_start)
+  fault_first ds d more e h at =
+      from_start ds (d ∷ more) h ∙ ap (λ f. before f (first_fault fault (suc (length ds)) more)) at
 
   -- an element without fault after such elements
   pub no_fault_more : (ds : List Data) (d : Data) → first_fault fault 0 ds ≡ None
@@ -38,30 +45,24 @@ module _ (fault : ℕ → Data → MaybeFault) where
   no_fault_more ds d h at = from_start ds (d ∷ []) h ∙ ap (λ f. before f None) at
 
 -- one more is read after those that are
-pub read_more : {D X : Type 0} (R : D → X → Type 0) (ds : List D) (xs : List X) (d : D) (x : X)
-    → AllZip R ds xs → R d x → AllZip R (ds ++ d ∷ []) (xs ++ x ∷ [])
+pub read_more : {X : Type 0} (R : Data → X → Type 0) (ds : List Data) (xs : List X) (d : Data)
+    (x : X) → AllZip R ds xs → R d x → AllZip R (ds ++ d ∷ []) (xs ++ x ∷ [])
 read_more R [] [] d x h k = (k, tt)
 read_more R (e ∷ ds) (y ∷ xs) d x h k = (h.0, read_more R ds xs d x h.1 k)
 read_more R ds xs d x h k = absurd h
 
+pub same_length : (vs : List Value) → length (map view vs) ≡ length vs
+same_length [] = refl
+same_length (v ∷ vs) = ap suc (same_length vs)
+
 -- an array's elements are its list
 pub array_has_elements : (d : Data) (vs : List Value) → as_array d ≡ Some (items_view vs)
     → elements_of d ≡ Some (map view vs)
-array_has_elements d vs e = grind (arith, list_back, none-some)
+array_has_elements (array ds) vs e =
+    let same : ds ≡ items_of (map view vs) = search (rules, e) in
+    ap (λ is. Some (list_of is)) same ∙ ap (λ l. Some l) (list_back (map view vs))
+array_has_elements d vs e = absurd (none-some _ e)
 
--- a list of values at an index, and the views of its values
-module _ (vs : List Value) (n : ℕ) (v : Value) (within : n < length vs) (at : v ≡ get_or vs n v)
-  where
-    pub parted : vs ≡ take n vs ++ v ∷ drop (n + 1) vs
-    parted = parts_at vs n v within ∙ ap (λ w. take n vs ++ w ∷ drop (n + 1) vs) (sym at)
-
-    pub place : length (map view (take n vs)) ≡ n
-    place = length-map (take n vs) view ∙ length-take-le n vs (omega (arith, within))
-
-    pub views_parted : map view vs ≡ map view (take n vs) ++ view v ∷ map view (drop (n + 1) vs)
-    views_parted = ap (map view) parted ∙ map-append view (take n vs) (v ∷ drop (n + 1) vs)
-
-    pub views_more : map view (take (n + 1) vs) ≡ map view (take n vs) ++ view v ∷ []
-    views_more =
-        ap (map view) (take_more vs n v within ∙ ap (λ w. take n vs ++ w ∷ []) (sym at))
-        ∙ map-append view (take n vs) (v ∷ [])
+pub append_one_more : (xs : List Value) (v : Value) (more : List Value)
+    → (xs ++ v ∷ []) ++ more ≡ xs ++ v ∷ more
+append_one_more xs v more = append_assoc xs (v ∷ []) more

@@ -1,14 +1,38 @@
 -- What is written is read back as an equal range or map.
-use Rattle.std.proofs.Common.{append_assoc, ◌≡◌, refl, sym, ap, ◌∙◌, ◌&&◌, ◌++◌, inl, inr, length, ℕ, List, [], ◌∷◌, map, Bool, true, IsTrue, None, arith}
-use Rattle.range_json.proofs.Common.{IsKnownRange, IsEquivalence, AllZip, is_eq, Equal, Bound, same_Some, none-some, Data, KeyOrder, IsLawful, AnyRange, IsBoundClone, range_cmp, Item, bound_shape, range_shape, pair_shape, map_shape, key_fault, bound_fault, range_fault, IsBoundRead, IsRangeRead, JsonError, element_fault, IsElementRead, IsMapRead, IsFirstFault, MeetNonempty, any_none, every_more, list_back}
+use Rattle.std.proofs.Common.{append_assoc, ◌≡◌, refl, sym, ap, ◌∙◌, ◌&&◌, ◌++◌, inl, inr, length, ℕ, List, [], ◌∷◌, map, Bool, true, IsTrue, None, Ok, arith}
 use Rattle.std.proofs.lemmas.List.Elements.{All-from_recursion}
+use Rattle.std.specs.Cmp.{IsEquivalence}
+use Rattle.std.specs.List.{AllZip}
+use Rattle.std.specs.Ordering.{is_eq}
+use Rattle.std.specs.declared.cmp.Ordering.TheVariants.{Equal}
+use Rattle.std.specs.declared.ops.Bound.{Bound}
+use Rattle.std.specs.declared.ops.Bound.TheVariants.{Included, Excluded, Unbounded}
+use Rattle.std.proofs.lemmas.Option.{same_Some, none-some}
+use Rattle.serde_json.specs.Data.{Data}
+use Rattle.range_keys.specs.Order.{KeyOrder, IsLawful}
+use Rattle.range_algebra.specs.declared.any.AnyRange.{AnyRange}
+use Rattle.range_algebra.specs.Clones.{IsBoundClone}
+use Rattle.range_algebra.specs.Range.{IsKnownRange}
+use Rattle.range_algebra.specs.RangeOrder.{range_cmp}
+use Rattle.range_store.specs.declared.storage.Item.{Item}
 use Rattle.range_reads.specs.ListOrder.{same_list}
 use Rattle.range_runs.specs.Stored.{IsStored}
 use Rattle.range_map.proofs.CloneLists.{equal_items_are_copy, copy_stored, item_clone}
+use Rattle.range_json.specs.Shapes.{bound_shape, range_shape, pair_shape, map_shape}
+use Rattle.range_json.specs.Faults.{key_fault, bound_fault, range_fault, IsBoundRead, IsRangeRead}
+use Rattle.range_json.specs.declared.error.JsonError.{JsonError}
+use Rattle.range_json.specs.MapFaults.{element_fault, IsElementRead, IsMapRead, IsFirstFault, MeetNonempty}
 use Rattle.range_json.specs.Values.{IsBoundValue, IsRangeValue, AreItemValues}
 use Rattle.range_json.proofs.Keeping.{apart_from_last, stored_front}
-use Rattle.range_json.proofs.Reading.{read_more}
+use Rattle.range_algebra.proofs.Lists.{any_none, every_more}
 use Rattle.range_runs.specs.Frames.{JoinsOrMeets}
+use Rattle.range_json.specs.SetReadBack.{list_back}
+
+zip_last : {X : Type 0} (R : X → X → Type 0) (xs ys : List X) (x y : X) → AllZip R xs ys → R x y
+    → AllZip R (xs ++ x ∷ []) (ys ++ y ∷ [])
+zip_last R [] [] x y h r = (r, tt)
+zip_last R (z ∷ xs) (w ∷ ys) x y h r = (h.0, zip_last R xs ys x y h.1 r)
+zip_last R xs ys x y h r = absurd h
 
 module _ {K : Type 0} (order : KeyOrder K) (shape : K → Data) (reads : Data → Bool)
     (is_value : K → Type 0) (is_read : Data → K → Type 0) where
@@ -18,7 +42,9 @@ module _ {K : Type 0} (order : KeyOrder K) (shape : K → Data) (reads : Data �
 
     bound_sound : (i : ℕ) (b : Bound K) → IsBoundValue is_value b
         → bound_fault reads i (bound_shape shape b) ≡ None
-    bound_sound i bound v = grind (arith, key_sound)
+    bound_sound i (Included k) v = key_sound i k v
+    bound_sound i (Excluded k) v = key_sound i k v
+    bound_sound i Unbounded v = refl
 
     -- a written range has no fault
     pub range_sound : (i : ℕ) (r : AnyRange K) → IsRangeValue is_value r
@@ -31,7 +57,10 @@ module _ {K : Type 0} (order : KeyOrder K) (shape : K → Data) (reads : Data �
 
     bound_back : (b c : Bound K) → IsBoundValue is_value b
         → IsBoundRead is_read (bound_shape shape b) c → IsBoundClone Alike b c
-    bound_back b c v h = grind arith
+    bound_back (Included k) (Included l) v h = back k l v h
+    bound_back (Excluded k) (Excluded l) v h = back k l v h
+    bound_back Unbounded Unbounded v h = tt
+    bound_back b c v h = h
 
     -- a written range is read with equal bounds
     pub bounds_back : (r s : AnyRange K) → IsRangeValue is_value r
@@ -84,15 +113,17 @@ module _ {K : Type 0} (order : KeyOrder K) (shape : K → Data) (reads : Data �
             → IsMapRead order reads value_reads is_read value_is_read same
             (map_shape shape value_shape items) others → IsTrue (same_list order same others items)
         map_back value_reads items others v stored h =
-            grind (
-              arith,
-              list_back (map pair items),
-              elements_back,
-              copy_stored,
-              equal_items_are_copy lawful,
-              All-from_recursion,
-              same_copies,
-            )
+            let whole = ap Ok (sym (list_back (map pair items))) ∙ h.whole in
+            let listed : map pair items ≡ h.ds = cc in
+            let copies =
+            elements_back items h.elements v
+            (rw listed h.read.read) in
+            let form =
+            copy_stored lawful equal h.elements items
+            (equal_items_are_copy lawful equal items h.elements copies)
+            (All-from_recursion (λ i. IsKnownRange order i.key) h.elements h.read.known)
+            stored in
+            rw (h.kept form) (same_copies items h.elements copies)
 
 -- a list of what is made of items, cut at a place, is what is made of the items cut there
 record IsCutAt {X : Type 0} (f : X → Data) (items : List X) (front : List Data)
@@ -139,7 +170,9 @@ module _ {K V : Type 0} (order : KeyOrder K) (shape : K → Data) (reads : Data 
     element_sound : (i : ℕ) (x : Item (AnyRange K) V)
         → IsRangeValue is_value x.key × value_is_value x.value
         → element_fault reads value_reads i (shown x) ≡ None
-    element_sound i x v = grind (arith, range_sound)
+    element_sound i x v =
+        rw (range_sound order shape reads is_value is_read written i x.key v.0)
+        (rw (value_written x.value v.1) refl)
 
     value_parts : (xs : List (Item (AnyRange K) V)) (x : Item (AnyRange K) V)
         (ys : List (Item (AnyRange K) V)) → AreItemValues is_value value_is_value (xs ++ x ∷ ys)
@@ -173,7 +206,7 @@ module _ {K V : Type 0} (order : KeyOrder K) (shape : K → Data) (reads : Data 
               value_shape value_is_value value_is_read value_back cut.x y values.1
               (rw (← cut.at) at met.0.1.1) in
               let copies =
-              read_more (Copied order shape reads is_value is_read back lawful same equal)
+              zip_last (Copied order shape reads is_value is_read back lawful same equal)
               cut.xs first.earlier cut.x y front last in
               let whole =
               stored_front order lawful same equal (cut.xs ++ cut.x ∷ []) cut.ys
@@ -182,7 +215,9 @@ module _ {K V : Type 0} (order : KeyOrder K) (shape : K → Data) (reads : Data 
               copy_stored lawful equal (first.earlier ++ y ∷ [])
               (cut.xs ++ cut.x ∷ []) (equal_items_are_copy lawful equal
               (cut.xs ++ cut.x ∷ []) (first.earlier ++ y ∷ []) copies)
-              (grind (arith, All-from_recursion, every_more)) whole in
+              (All-from_recursion (λ i. IsKnownRange order i.key) (first.earlier ++ y ∷ [])
+              (every_more (λ i. IsKnownRange order i.key) first.earlier y first.fine.known
+              met.0.1.2)) whole in
               any_none (λ i. MeetNonempty order i.key y.key)
               (λ i. ¬ JoinsOrMeets order same y.key y.value i) first.earlier
               (apart_from_last order lawful same equal first.earlier y form)

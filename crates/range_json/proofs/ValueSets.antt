@@ -1,15 +1,23 @@
 -- What a loop has read of an array of values.
-use Rattle.std.proofs.Common.{◌≡◌, ◌||◌, Bool, true, false, IsTrue, List, [], ◌∷◌, ◌++◌, map, cond, arith}
-use Rattle.range_json.proofs.Common.{map-append, IsTotalOrder, eq_by_cmp_equiv, AllZip, list_all, eq_by_cmp, Data, view}
+use Rattle.std.proofs.Common.{◌≡◌, refl, ◌||◌, Bool, true, false, IsTrue, List, [], ◌∷◌, ◌++◌, map, cond, arith}
+use Rattle.std.proofs.lemmas.List.{map-append}
 use Rattle.std.proofs.lemmas.List.Folds.{list_all-append, list_any-append}
 use Rattle.std.specs.BTreeSet.{BTreeSet, IsOrdered, IsFromIterResult, Updates}
+use Rattle.std.specs.Cmp.{IsTotalOrder, eq_by_cmp_equiv}
+use Rattle.std.specs.List.{AllZip, list_all}
+use Rattle.std.specs.Ordering.{eq_by_cmp}
 use Rattle.std.specs.declared.cmp.Ordering.{Ordering}
 use Rattle.std.proofs.lemmas.Bool.{and_from}
+use Rattle.serde_json.specs.Data.{Data}
+use Rattle.serde_json.specs.View.{view}
 use Rattle.serde_json.specs.declared.value.Value.{Value}
 use Rattle.range_json.proofs.Reading.{read_more}
 
 either_is : (a b : Bool) → cond a true b ≡ (b || (a || false))
-either_is test other_test = grind arith
+either_is true true = refl
+either_is true false = refl
+either_is false true = refl
+either_is false false = refl
 
 module _ {V : Type 0} (cmp : V → V → Ordering) (reads : Data → Bool)
     (is_read : Data → V → Type 0) where

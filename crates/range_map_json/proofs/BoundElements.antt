@@ -1,14 +1,18 @@
 -- That a list binds what elements that do not meet bind, with one element more.
 use Rattle.std.proofs.Common.{◌≡◌, ◌⊎◌, ◌↔◌, inl, inr, List, [], ◌∷◌, ◌++◌, Bool, Option, Some, None, arith}
-use Rattle.range_map_json.proofs.Common.{KeyOrder, IsLawful, AnyRange, Holds, IsEmptyRange, IsKnownRange, Item, MeetNonempty, MeetsOne, AreApart}
+use Rattle.range_keys.specs.Order.{KeyOrder, IsLawful}
+use Rattle.range_algebra.specs.declared.any.AnyRange.{AnyRange}
+use Rattle.range_algebra.specs.Range.{Holds, IsEmptyRange, IsKnownRange}
 use Rattle.range_algebra.proofs.Lists.{any_left, any_right, any_split}
 use Rattle.range_algebra.proofs.Pieces.{empty_or_not}
 use Rattle.range_algebra.proofs.Meeting.{held_or_not}
+use Rattle.range_store.specs.declared.storage.Item.{Item}
 use Rattle.range_runs.specs.Bindings.{BindsTo, Binds, BindAlike, IsBoundAfter}
 use Rattle.range_runs.specs.Frames.{IsInsertionFrame}
 use Rattle.range_runs.specs.Lookups.{MeetsSome, MeetAlso}
 use Rattle.range_runs.proofs.Overlaps.{binding_meets, binds_bound}
 use Rattle.range_map.proofs.BoundKeys.{bound_split, binds_split}
+use Rattle.range_json.specs.MapFaults.{MeetNonempty, MeetsOne, AreApart}
 
 module _ {K V : Type 0} (order : KeyOrder K) where
   -- an element's range met no stored one, and its keys were bound
@@ -31,7 +35,11 @@ module _ {K V : Type 0} (order : KeyOrder K) where
     pub apart : AreApart order elements
 
   pub none_bound : {same : V → V → Bool} → IsBoundAlike same [] []
-  none_bound = grind arith
+  none_bound = record {
+    alike = λ k key b. (λ h. h, λ h. h);
+    meets = λ s known full. (λ h. h, λ h. h);
+    apart = tt;
+  }
 
   -- one more that meets none of those before
   apart_more : (xs : List (Item (AnyRange K) V)) (x : Item (AnyRange K) V) → AreApart order xs
@@ -50,7 +58,8 @@ module _ {K V : Type 0} (order : KeyOrder K) where
   one_full : (s : AnyRange K) (xs : List (Item (AnyRange K) V)) → MeetsOne order s xs
       → ¬ IsEmptyRange order s
   one_full s [] h = absurd h
-  one_full s (y ∷ xs) either = grind (arith, one_full s xs)
+  one_full s (y ∷ xs) (inl here) = here.1
+  one_full s (y ∷ xs) (inr later) = one_full s xs later
 
   module _ (lawful : IsLawful order) (same : V → V → Bool) (old new xs : List (Item (AnyRange K) V))
       (x : Item (AnyRange K) V) (was : IsBoundAlike same old xs) (put : IsPut same old new x) where
@@ -94,13 +103,24 @@ module _ {K V : Type 0} (order : KeyOrder K) where
 
       range_alike : (IsEmptyRange order x.key) ⊎ (¬ IsEmptyRange order x.key)
           → MeetsSome order new s ↔ MeetsOne order s (xs ++ x ∷ [])
-      range_alike (inl empty) = grind (arith, any_left Meets xs, any_split Meets xs)
+      range_alike (inl empty) = rw (put.unchanged empty) (
+        λ h. any_left Meets xs (x ∷ []) ((was.meets s known full).0 h),
+        λ h. elim (any_split Meets xs (x ∷ []) h) [
+          | inl one ↦ (was.meets s known full).1 one
+          | inr (inl last) ↦ absurd (last.0 empty)
+          | inr (inr none) ↦ absurd none
+        ],
+      )
       range_alike (inr nonempty) = let also = put.meets nonempty s known full in (
         λ h. elim (also.0 h) [
           | inl here ↦ any_right Meets xs (x ∷ []) (inl (nonempty, full, here))
           | inr one ↦ any_left Meets xs (x ∷ []) ((was.meets s known full).0 one)
         ],
-        grind (arith, any_split Meets xs),
+        λ h. elim (any_split Meets xs (x ∷ []) h) [
+          | inl one ↦ also.1 (inr ((was.meets s known full).1 one))
+          | inr (inl last) ↦ also.1 (inl last.2)
+          | inr (inr none) ↦ absurd none
+        ],
       )
 
     -- one more was put to them

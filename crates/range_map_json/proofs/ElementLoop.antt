@@ -1,16 +1,22 @@
 -- What is read of a list of JSON values while a loop goes over it, and what is stored meanwhile.
 use Rattle.std.specs.Cmp.{IsEquivalence}
 use Rattle.std.specs.List.{AllByRecursion, AllZip}
-use Rattle.std.proofs.Common.{◌≡◌, subst, ℕ, ◌+◌, ◌<◌, ◌≤◌, List, [], ◌∷◌, ◌++◌, map, take, drop, length, get_or, Bool, Option, Some, None, arith}
-use Rattle.range_map_json.proofs.Common.{Data, view, Value, KeyOrder, IsLawful, AnyRange, IsEmptyRange, IsKnownRange, Item}
-use Rattle.std.proofs.lemmas.List.{take_all}
-use Rattle.range_algebra.proofs.Lists.{every_more}
+use Rattle.std.proofs.Common.{◌≡◌, refl, sym, ap, subst, ◌∙◌, ℕ, ◌+◌, ◌<◌, ◌≤◌, List, [], ◌∷◌, ◌++◌, map, take, drop, length, get_or, Bool, Option, Some, None, arith}
+use Rattle.std.proofs.lemmas.List.{map-append, take_more, take_all, length-take-le}
+use Rattle.serde_json.specs.Data.{Data}
+use Rattle.serde_json.specs.View.{view}
+use Rattle.serde_json.specs.declared.value.Value.{Value}
+use Rattle.range_keys.specs.Order.{KeyOrder, IsLawful}
+use Rattle.range_algebra.specs.declared.any.AnyRange.{AnyRange}
+use Rattle.range_algebra.specs.Range.{IsEmptyRange, IsKnownRange}
+use Rattle.range_algebra.proofs.Lists.{every_more, parts_at}
+use Rattle.range_store.specs.declared.storage.Item.{Item}
 use Rattle.range_runs.specs.Frames.{IsInsertionFrame}
 use Rattle.range_runs.specs.Stored.{IsStored}
 use Rattle.range_json.specs.Faults.{first_fault}
 use Rattle.range_json.specs.declared.error.JsonError.{JsonError}
 use Rattle.range_json.proofs.Keeping.{of_last, stored_before, stands_last}
-use Rattle.range_json.proofs.Reading.{fault_first, no_fault_more, place, read_more, views_more, views_parted}
+use Rattle.range_json.proofs.Reading.{fault_first, no_fault_more, read_more, same_length}
 
 module _ {K V X : Type 0} (order : KeyOrder K) (same : V → V → Bool)
     (listed : List X → List (Item (AnyRange K) V)) (item : X → Item (AnyRange K) V)
@@ -32,19 +38,37 @@ module _ {K V X : Type 0} {order : KeyOrder K} {same : V → V → Bool}
     {AreBound : List (Item (AnyRange K) V) → List X → Type 0} where
   pub reading_begun : {items : List (Item (AnyRange K) V)} → items ≡ [] → listed [] ≡ []
       → AreBound [] [] → IsReadSoFar order same listed item fault IsRead AreBound [] items
-  reading_begun none empty bound = grind arith
+  reading_begun none empty bound = subst (IsReadSoFar order same listed item fault IsRead AreBound []) (sym none) (record {
+    elements = [];
+    sound = refl;
+    read = tt;
+    known = tt;
+    bound = bound;
+    form = record { known = tt; nonempty = tt; rising = tt };
+    kept = λ _. sym empty;
+  })
 
   pub reading_ended : (vs : List Value) (n : ℕ) {items : List (Item (AnyRange K) V)}
       → length vs ≤ n → IsReadSoFar order same listed item fault IsRead AreBound (take n vs) items → IsReadSoFar order same listed item fault IsRead AreBound vs items
-  reading_ended vs n {items} ended so_far = grind (arith, take_all)
+  reading_ended vs n {items} ended so_far =
+      subst (λ ws. IsReadSoFar order same listed item fault IsRead AreBound ws items) (take_all n vs ended) so_far
 
   module _ (vs : List Value) (n : ℕ) (v : Value) (within : n < length vs) (at : v ≡ get_or vs n v)
       {items : List (Item (AnyRange K) V)} (so_far : IsReadSoFar order same listed item fault IsRead AreBound (take n vs) items) where
+    pub place : length (map view (take n vs)) ≡ n
+    place = same_length (take n vs) ∙ length-take-le n vs (omega (arith, within))
+
+    pub parted : map view vs ≡ map view (take n vs) ++ view v ∷ map view (drop (n + 1) vs)
+    parted =
+        ap (map view) (parts_at vs n v within)
+        ∙ map-append view (take n vs) (get_or vs n v ∷ drop (n + 1) vs)
+        ∙ ap (λ w. map view (take n vs) ++ view w ∷ map view (drop (n + 1) vs)) (sym at)
+
     pub one_fails : {e : JsonError} → fault n (view v) ≡ Some e
         → first_fault fault 0 (map view vs) ≡ Some e
     one_fails {e} own =
-        rw (views_parted vs n v within at) (fault_first fault (map view (take n vs)) (view v)
-        (map view (drop (n + 1) vs)) e so_far.sound (rw (place vs n v within at) own))
+        rw parted (fault_first fault (map view (take n vs)) (view v) (map view (drop (n + 1) vs)) e
+        so_far.sound (rw place own))
 
     pub one_read : (lawful : IsLawful order) (equal : IsEquivalence same)
         {new : List (Item (AnyRange K) V)} (x : X)
@@ -56,11 +80,11 @@ module _ {K V X : Type 0} {order : KeyOrder K} {same : V → V → Bool}
         → IsReadSoFar order same listed item fault IsRead AreBound (take (n + 1) vs) new
     one_read lawful equal {new} x last own is_read known frame form bound =
         let done = map view (take n vs) in
-        let more = views_more vs n v within at in record {
+        let more : map view (take (n + 1) vs) ≡ done ++ view v ∷ [] =
+        ap (map view) (take_more vs n v within) ∙ map-append view (take n vs) (get_or vs n v ∷ [])
+        ∙ ap (λ w. done ++ view w ∷ []) (sym at) in record {
           elements = so_far.elements ++ x ∷ [];
-          sound =
-              rw more (no_fault_more fault done (view v) so_far.sound
-              (rw (place vs n v within at) own));
+          sound = rw more (no_fault_more fault done (view v) so_far.sound (rw place own));
           read = rw more (read_more IsRead done so_far.elements (view v) x so_far.read is_read);
           known = every_more (λ y. IsKnownRange order (item y).key) so_far.elements x so_far.known known;
           bound = bound;
@@ -69,5 +93,8 @@ module _ {K V X : Type 0} {order : KeyOrder K} {same : V → V → Bool}
               let front = listed so_far.elements in
               let whole = subst (IsStored order same) last stored in
               let full = of_last (λ i. ¬ IsEmptyRange order i.key) front (item x) whole.nonempty in
-              grind (arith, stored_before, stands_last);
+              let was = so_far.kept (stored_before order lawful same equal front (item x) whole) in
+              stands_last order lawful same equal front new (item x) whole form
+              (subst (λ is. IsInsertionFrame order same is new (item x).key (item x).value) was
+              (frame full)) ∙ sym last;
         }

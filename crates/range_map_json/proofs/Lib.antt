@@ -1,5 +1,4 @@
 pub mod BoundElements
-pub mod Common
 pub mod ElementLoop
 pub mod MapReading
 pub mod WritingLoop

@@ -1,13 +1,19 @@
 -- What is read of a map's elements while a loop goes over them.
-use Rattle.std.proofs.Common.{arith, ◌≡◌, sym, subst, ◌⊎◌, inl, inr, ℕ, ◌<◌, List, map, take, get_or, length, Bool, Some, None, Result, Ok, Err}
-use Rattle.range_map_json.proofs.Common.{Data, view, Value, KeyOrder, AnyRange, IsEmptyRange, IsKnownRange, Item, element_fault, map_elements, AreRead, IsElementRead, IsMapFault, MeetsEarlier}
+use Rattle.std.proofs.Common.{◌≡◌, sym, subst, ◌⊎◌, inl, inr, ℕ, ◌+◌, ◌<◌, List, map, take, drop, get_or, length, Bool, Some, None, Result, Ok, Err}
 use Rattle.std.specs.Prelude.{IfErr}
+use Rattle.serde_json.specs.Data.{Data}
+use Rattle.serde_json.specs.View.{view}
+use Rattle.serde_json.specs.declared.value.Value.{Value}
+use Rattle.range_keys.specs.Order.{KeyOrder}
+use Rattle.range_algebra.specs.declared.any.AnyRange.{AnyRange}
+use Rattle.range_algebra.specs.Range.{IsEmptyRange, IsKnownRange}
+use Rattle.range_store.specs.declared.storage.Item.{Item}
 use Rattle.range_runs.specs.Lookups.{MeetsSome}
 use Rattle.range_json.specs.declared.error.JsonError.{JsonError}
 use Rattle.range_json.specs.declared.error.JsonError.TheVariants.{Memory, Meets}
+use Rattle.range_json.specs.MapFaults.{element_fault, map_elements, AreRead, IsElementRead, IsFaultOf, IsMapFault, MeetsEarlier}
 use Rattle.range_map_json.proofs.BoundElements.{IsBoundAlike}
-use Rattle.range_json.proofs.Reading.{place, views_parted}
-use Rattle.range_map_json.proofs.ElementLoop.{IsReadSoFar}
+use Rattle.range_map_json.proofs.ElementLoop.{parted, place, IsReadSoFar}
 
 module _ {K V : Type 0} (order : KeyOrder K) (key_reads value_reads : Data → Bool)
     (key_is_read : Data → K → Type 0) (value_is_read : Data → V → Type 0)
@@ -24,7 +30,8 @@ module _ {K V : Type 0} {order : KeyOrder K} {key_reads value_reads : Data → B
   pub are_read : {vs : List Value} {items : List (Item (AnyRange K) V)}
       (h : IsMapSoFar order key_reads value_reads key_is_read value_is_read same vs items)
       → AreRead order key_reads value_reads key_is_read value_is_read (map view vs) h.elements
-  are_read h = grind arith
+  are_read h =
+      record { sound = h.sound; read = h.read; known = h.known; apart = h.bound.apart }
 
 module _ {K V : Type 0} {order : KeyOrder K} (key_reads value_reads : Data → Bool)
     {key_is_read : Data → K → Type 0} (value_is_read : Data → V → Type 0)
@@ -38,7 +45,16 @@ module _ {K V : Type 0} {order : KeyOrder K} (key_reads value_reads : Data → B
         (MeetsEarlier order key_reads value_reads key_is_read value_is_read n (view v) h.elements
         × (e ≡ Meets n)) → IsMapFault order key_reads value_reads key_is_read value_is_read d e
     first_fault_at fault =
-        grind (arith, views_parted vs n v within, are_read h, place vs n v within)
+        subst (λ es. IsFaultOf order key_reads value_reads key_is_read value_is_read es e)
+        (sym found) (record {
+          front = map view (take n vs);
+          d = view v;
+          rest = map view (drop (n + 1) vs);
+          earlier = h.elements;
+          split = parted vs n v within at h;
+          fine = are_read h;
+          fault = rw (place vs n v within at h) fault;
+        })
 
     -- the result of a call that ends with this error
     module _ {A : Type 0} (result : Result A JsonError) (is : result ≡ Err e) where
@@ -52,7 +68,8 @@ module _ {K V : Type 0} {order : KeyOrder K} (key_reads value_reads : Data → B
 
       pub map_fails : (e ≡ Memory) ⊎ (element_fault key_reads value_reads n (view v) ≡ Some e)
           → IfErr result IsToldOf
-      map_fails either = grind (arith, told_of, first_fault_at)
+      map_fails (inl memory) = told_of (inl memory)
+      map_fails (inr own) = told_of (inr (first_fault_at (inl own)))
 
       pub map_meets : (x : Item (AnyRange K) V)
           → element_fault key_reads value_reads n (view v) ≡ None

@@ -1,7 +1,9 @@
 -- What a copy of a set has once a value is put into it or taken out of it.
-use Rattle.std.proofs.Common.{◌≡◌, Bool, true, IsTrue, Option, Some, arith}
-use Rattle.range_multimaps.proofs.Common.{IsEquivalence, IsAsAnswered, HasNone, HaveSame, HasAlso, HasAllBut, among}
+use Rattle.std.proofs.Common.{◌≡◌, sym, ◌∙◌, Bool, true, IsTrue, Option, Some, None, arith}
 use Rattle.std.specs.Prelude.{IfSome}
+use Rattle.std.specs.Cmp.{IsEquivalence}
+use Rattle.range_runs.specs.Answers.{IsAsAnswered}
+use Rattle.range_multimaps.specs.Members.{HasNone, HaveSame, HasAlso, HasAllBut, among}
 
 module _ {S V : Type 0} (has : S → V → Bool) where
   -- the copy has what the set has, if there is one
@@ -40,10 +42,12 @@ module _ {S V : Type 0} (has : S → V → Bool) where
   pub had_in_copy : (same : S → S → Bool) → ((s t : S) → IsTrue (same s t) → HaveSame has s t)
       → (old : Option S) (copy : S) (v : V) → IfSome old (λ s. IsTrue (same s copy))
       → IsTrue (among has old v) → has copy v ≡ true
-  had_in_copy same respects option copy v equal here = grind arith
+  had_in_copy same respects None copy v equal here = cc
+  had_in_copy same respects (Some s) copy v equal here = sym (respects s copy equal v) ∙ here
 
   -- a set that has the value is answered by each that equals it
   pub answered_by_copy : (same : S → S → Bool) (old : Option S) (copy : S) (v : V)
       → IfSome old (λ s. IsTrue (same s copy)) → IsTrue (among has old v)
       → IsAsAnswered same old (Some copy)
-  answered_by_copy same option copy v equal here = grind arith
+  answered_by_copy same None copy v equal here = cc
+  answered_by_copy same (Some s) copy v equal here = equal

@@ -1,7 +1,10 @@
 -- The last unrefused call on a pair says whether it is there.
-use Rattle.std.proofs.Common.{[], Bool, List, ◌∷◌, ◌↔◌, ◌⊎◌, arith}
-use Rattle.range_multimaps.proofs.Common.{KeyOrder, IsLawful, AnyRange, Item, HasPair}
+use Rattle.std.proofs.Common.{Bool, List, [], ◌∷◌, ◌↔◌, ◌⊎◌, arith}
+use Rattle.range_keys.specs.Order.{KeyOrder, IsLawful}
+use Rattle.range_algebra.specs.declared.any.AnyRange.{AnyRange}
+use Rattle.range_store.specs.declared.storage.Item.{Item}
 use Rattle.range_multimaps.specs.Calls.{Call, Inserted, Removed, Refused, IsInsertion, IsOn, HasNoneOn, WasInserted, IsCallBetween, AreCallsBetween}
+use Rattle.range_multimaps.specs.Pairs.{HasPair}
 use Rattle.range_algebra.proofs.Meeting.{held_or_not}
 
 module _ {K : Type 0} (order : KeyOrder K) (lawful : IsLawful order) {S V : Type 0}

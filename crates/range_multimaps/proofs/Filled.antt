@@ -1,6 +1,13 @@
 -- No stored set is empty after a nonempty one was put in.
 use Rattle.std.proofs.Common.{◌≡◌, Bool, IsTrue, List, ◌++◌, Result, Ok, Err, OnOk, OnErr, arith}
-use Rattle.range_multimaps.proofs.Common.{Every, KeyOrder, any_none, every_append, every_left, every_right, every_weaker, IsEmptyRange, AnyRange, Item, IsSpliceFrame, IsInsertionFrame, IsNewItem, HasNoEmptySet}
+use Rattle.std.specs.List.{AllByRecursion as Every}
+use Rattle.range_keys.specs.Order.{KeyOrder}
+use Rattle.range_algebra.proofs.Lists.{any_none, every_append, every_left, every_right, every_weaker}
+use Rattle.range_algebra.specs.Range.{IsEmptyRange}
+use Rattle.range_algebra.specs.declared.any.AnyRange.{AnyRange}
+use Rattle.range_store.specs.declared.storage.Item.{Item}
+use Rattle.range_runs.specs.Frames.{IsSpliceFrame, IsInsertionFrame, IsNewItem}
+use Rattle.range_multimaps.specs.Pairs.{HasNoEmptySet}
 use Rattle.range_keys.proofs.Orderings.{greater_or_not}
 
 -- what holds of each item holds of each after a run gave way to others, where it holds of those

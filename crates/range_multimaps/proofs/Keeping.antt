@@ -1,10 +1,18 @@
 -- What an update of sets leaves as it was, by what each of its answers is.
 use Rattle.std.proofs.Common.{Bool, IsTrue, List, Option, Some, None, Result, Ok, arith}
-use Rattle.range_multimaps.proofs.Common.{IsEquivalence, Every, KeyOrder, AnyRange, every_weaker, Item, Answered, IsAsAnswered, IsGivenBy, MayAnswer, IsUpdated, IsMergeFrame, HaveSame, HasAlso, HasAllBut}
 use denote.Ref.{Bor}
 use Rattle.std.specs.Fn.{Shared}
+use Rattle.std.specs.Cmp.{IsEquivalence}
+use Rattle.std.specs.List.{AllByRecursion as Every}
+use Rattle.range_keys.specs.Order.{KeyOrder}
+use Rattle.range_algebra.specs.declared.any.AnyRange.{AnyRange}
+use Rattle.range_algebra.proofs.Lists.{every_weaker}
+use Rattle.range_store.specs.declared.storage.Item.{Item}
+use Rattle.range_runs.specs.Answers.{Answered, IsAsAnswered, IsGivenBy, MayAnswer, IsUpdated}
+use Rattle.range_runs.specs.Frames.{IsMergeFrame}
 use Rattle.range_runs.proofs.RangePieces.{any_use}
 use Rattle.range_edit.proofs.MergedItems.{way_follows}
+use Rattle.range_multimaps.specs.Members.{HaveSame, HasAlso, HasAllBut}
 
 module _ {S V : Type 0} {same : S → S → Bool} {has : S → V → Bool}
     (respects : (s t : S) → IsTrue (same s t) → HaveSame has s t)

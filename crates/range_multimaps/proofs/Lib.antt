@@ -1,6 +1,5 @@
 pub mod Altered
 pub mod CallHistories
-pub mod Common
 pub mod Filled
 pub mod Keeping
 pub mod Pairing

@@ -1,17 +1,27 @@
 -- Which pairs a list with sets has, read off what it binds, and what an update makes of them.
-use Rattle.std.proofs.Common.{[], ◌≡◌, refl, ◌↔◌, ◌⊎◌, inl, inr, Bool, not, ◌&&◌, ◌||◌, IsTrue, List, ◌∷◌, Option, Some, None, Result, Ok, Err, OnOk, arith}
-use Rattle.range_multimaps.proofs.Common.{Every, IsEquivalence, KeyOrder, IsLawful, Holds, IsEmptyRange, AnyRange, Item, IsAsAnswered, MayAnswer, IsUpdated, HasValue, HasNone, HaveSame, HasAlso, HasAllBut, among, HasNoEmptySet, HasPair, IsUnpaired, AreValuesAt, HasPairsAlso, HasPairsWithout, StayBound, every_weaker}
+use Rattle.std.proofs.Common.{◌≡◌, refl, ◌∙◌, ◌↔◌, ◌⊎◌, inl, inr, Bool, not, ◌&&◌, ◌||◌, IsTrue, List, [], ◌∷◌, Option, Some, None, Result, Ok, Err, OnOk, arith}
 use Rattle.std.specs.Prelude.{IfSome, IsNone}
 use denote.Ref.{Bor}
+use Rattle.std.specs.List.{AllByRecursion as Every}
 use Rattle.std.specs.Option.{option_copied}
 use Rattle.std.specs.Fn.{Shared}
+use Rattle.std.specs.Cmp.{IsEquivalence}
+use Rattle.range_keys.specs.Order.{KeyOrder, IsLawful}
 use Rattle.range_keys.specs.Position.{position_cmp, start_position, end_position}
 use Rattle.range_keys.proofs.Orderings.{greater_or_not}
+use Rattle.range_algebra.specs.Range.{Holds, IsEmptyRange}
+use Rattle.range_algebra.specs.declared.any.AnyRange.{AnyRange}
+use Rattle.range_store.specs.declared.storage.Item.{Item}
+use Rattle.range_runs.specs.Answers.{IsAsAnswered, MayAnswer, IsUpdated}
 use Rattle.range_runs.specs.Bindings.{IsBound, IsItemFor, BindsTo, Binds}
 use Rattle.range_reads.specs.ListOrder.{IsCopyOf}
+use Rattle.range_runs.specs.Frames.{HasValue}
 use Rattle.range_map.specs.Rebinding.{AreRebound}
+use Rattle.range_multimaps.specs.Members.{HasNone, HaveSame, HasAlso, HasAllBut, among}
+use Rattle.range_multimaps.specs.Pairs.{HasNoEmptySet, HasPair, IsUnpaired, AreValuesAt, HasPairsAlso, HasPairsWithout, StayBound}
 use Rattle.range_multimaps.proofs.Filled.{each_after}
 use Rattle.range_multimaps.proofs.Keeping.{gave_way_to_such}
+use Rattle.range_algebra.proofs.Lists.{every_weaker}
 use Rattle.range_algebra.proofs.Meeting.{held_or_not}
 use Rattle.range_runs.proofs.RangePieces.{any_use}
 use Rattle.range_runs.proofs.Overlaps.{binds_bound}
@@ -45,8 +55,9 @@ module _ {K : Type 0} (order : KeyOrder K) {S V : Type 0} {same : S → S → Bo
 
     pub values_at : (items : Items) (b : Option S) → IsOnce items k → Binds order same items k b
         → AreValuesAt order has items k b
-    values_at items option once bound w =
-        grind (arith, pair_bound, pair_is_in_bound_set, bound_set_gives_pair)
+    values_at items None once bound w = grind (arith, pair_bound items w)
+    values_at items (Some s) once bound w =
+        grind (arith, respects, pair_is_in_bound_set items w, bound_set_gives_pair items s w)
 
     -- a stored range that holds the key binds it to its set
     item_binds : (items : Items) (i : Item (AnyRange K) S) → IsItemFor order items k i
@@ -67,7 +78,8 @@ module _ {K : Type 0} (order : KeyOrder K) {S V : Type 0} {same : S → S → Bo
         bound_set_gives_pair others s w (alike (Some s) b) m
 
     as_itself : (answer : Option S) → IsAsAnswered same answer answer
-    as_itself option = grind (arith, equal.refl)
+    as_itself None = refl
+    as_itself (Some s) = equal.refl s
 
     -- what a key is bound to is equal to what it was found bound to
     bound_as : (items : Items) (old b : Option S) → IsOnce items k → Binds order same items k old
@@ -84,7 +96,10 @@ module _ {K : Type 0} (order : KeyOrder K) {S V : Type 0} {same : S → S → Bo
 
     as_too : (a b c : Option S) → IsAsAnswered same a b → IsAsAnswered same b c
         ↔ IsAsAnswered same a c
-    as_too option b c e = grind arith
+    as_too None b c e = rw e ((λ h. h, λ h. h))
+    as_too (Some s) None c e = absurd e
+    as_too (Some s) (Some t) None e = (λ h. h, λ h. h)
+    as_too (Some s) (Some t) (Some u) e = grind arith
 
   module _ {E : Type 0} {may : Option S → Result (Option S) E → Type 0} {items next : Items}
       {r : AnyRange K} (now : AreRebound order same may items next r) (lawful : IsLawful order)
@@ -158,7 +173,8 @@ module _ {K : Type 0} (order : KeyOrder K) {S : Type 0} {same : S → S → Bool
 
   from_answer : (answer : Option S) (s : S) → IfSome answer (λ t. ¬ is_void t)
       → IsAsAnswered same answer (Some s) → ¬ is_void s
-  from_answer option s full e void = grind (arith, equal.symm)
+  from_answer None s full e void = cc
+  from_answer (Some t) s full e void = full (void_equal s t (equal.symm s t ∙ e) void)
 
   others_full : (run others : List (Item (AnyRange K) S)) → HasNoEmptySet is_void run
       → Every (λ j. HasValue order same run j.value ⊎ ¬ is_void j.value) others
@@ -184,7 +200,8 @@ module _ {K : Type 0} (order : KeyOrder K) {S : Type 0} {same : S → S → Bool
       ]
 
 pub not_refused : {A E P : Type 0} (r : Result A E) → OnOk r P → ((e : E) → r ≡ Err e → ⊥) → P
-not_refused answer h never = grind arith
+not_refused (Ok x) h never = h
+not_refused (Err e) h never = absurd (never e refl)
 
 module _ {K : Type 0} (order : KeyOrder K) {S : Type 0} {same : S → S → Bool}
     (equal : IsEquivalence same) {is_void : S → Type 0}
@@ -197,11 +214,13 @@ module _ {K : Type 0} (order : KeyOrder K) {S : Type 0} {same : S → S → Bool
   pub full_at : (items : List (Item (AnyRange K) S)) → HasNoEmptySet is_void items
       → (result : Option (Bor S)) → Binds order same items k (option_copied result)
       → IfSome result (λ s. ¬ is_void s.now)
-  full_at items full option h = grind (arith, full_bound)
+  full_at items full None h = tt
+  full_at items full (Some s) h = full_bound items s.now full h
 
   pub full_some : (items : List (Item (AnyRange K) S)) → HasNoEmptySet is_void items
       → (b : Option S) → Binds order same items k b → IfSome b (λ s. ¬ is_void s)
-  full_some items full option h = grind (arith, full_bound)
+  full_some items full None h = tt
+  full_some items full (Some s) h = full_bound items s full h
 
 module _ {K : Type 0} (order : KeyOrder K) {S : Type 0} (same : S → S → Bool) (is_void : S → Type 0)
     (void_equal : (s t : S) → IsTrue (same s t) → is_void s → is_void t) where

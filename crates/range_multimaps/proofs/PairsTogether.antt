@@ -1,8 +1,15 @@
 -- Which pairs a multimap has while those of another are added to it, or taken from it.
-use Rattle.std.proofs.Common.{[], ◌≡◌, ◌↔◌, ◌⊎◌, Bool, IsTrue, List, ◌∷◌, ◌++◌, arith}
-use Rattle.range_multimaps.proofs.Common.{KeyOrder, IsLawful, Holds, AnyRange, every_right, Item, HaveSame, HasNoEmptySet, HasPair, HasAllPairsAlso, HasAllPairsWithout, HasPairsOfEither, HasPairsOfFirstAlone, IsPartWay}
+use Rattle.std.proofs.Common.{◌≡◌, ◌↔◌, ◌⊎◌, Bool, IsTrue, List, [], ◌∷◌, ◌++◌, arith}
+use Rattle.range_keys.specs.Order.{KeyOrder, IsLawful}
+use Rattle.range_algebra.specs.Range.{Holds}
+use Rattle.range_algebra.specs.declared.any.AnyRange.{AnyRange}
 use Rattle.range_algebra.proofs.Canonical.{equal_is_same}
+use Rattle.range_algebra.proofs.Lists.{every_right}
+use Rattle.range_store.specs.declared.storage.Item.{Item}
 use Rattle.range_reads.specs.ListOrder.{IsCopyOf}
+use Rattle.range_multimaps.specs.Members.{HaveSame}
+use Rattle.range_multimaps.specs.Pairs.{HasNoEmptySet, HasPair, HasAllPairsAlso, HasAllPairsWithout, HasPairsOfEither, HasPairsOfFirstAlone}
+use Rattle.range_map.proofs.PartWay.{IsPartWay}
 
 module _ {K : Type 0} (order : KeyOrder K) {S V : Type 0} (has : S → V → Bool) where
   abbrev Items : Type 0
@@ -51,4 +58,6 @@ pub next_is_full : {K S : Type 0} (is_void : S → Type 0)
     (P : List (Item (AnyRange K) S) → Type 0) (all rest others : List (Item (AnyRange K) S))
     (i : Item (AnyRange K) S) → HasNoEmptySet is_void all → rest ≡ i ∷ others
     → IsPartWay P all rest → ¬ is_void i.value
-next_is_full is_void P all rest others i full came way = grind (arith, every_right)
+next_is_full is_void P all rest others i full came way =
+    (every_right (λ j. ¬ is_void j.value) way.done (i ∷ others)
+    (rw (← way.split, came) at full)).0

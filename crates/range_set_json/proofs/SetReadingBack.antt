@@ -1,10 +1,10 @@
 -- What is written of a set is read back as an equal one.
-use Rattle.std.proofs.Common.{arith, ◌≡◌, refl, sym, ap, subst, ◌∙◌, ℕ, suc, List, [], ◌∷◌, map, Bool, true, IsTrue, Some, None}
-use Rattle.range_set_json.proofs.Common.{Data, range_shape, set_shape, AreRangeValues, first_fault, range_fault, range_items, set_fault, IsRangeRead, IsSetRead}
+use Rattle.std.proofs.Common.{◌≡◌, refl, sym, ap, subst, ◌∙◌, ℕ, suc, List, [], ◌∷◌, map, Bool, true, IsTrue, Some, None}
 use Rattle.std.proofs.lemmas.List.Elements.{All-from_recursion}
 use Rattle.std.proofs.lemmas.Option.{same_Some}
 use Rattle.std.specs.List.{AllByRecursion, AllZip}
 use Rattle.std.specs.declared.cmp.Ordering.TheVariants.{Equal}
+use Rattle.serde_json.specs.Data.{Data}
 use Rattle.range_keys.specs.Order.{KeyOrder, IsLawful}
 use Rattle.range_algebra.specs.declared.any.AnyRange.{AnyRange}
 use Rattle.range_algebra.specs.Range.{IsKnownRange}
@@ -16,7 +16,10 @@ use Rattle.range_sets.proofs.Likeness.{same_sets}
 use Rattle.range_sets.specs.KeySets.{IsStoredSet}
 use Rattle.range_sets.specs.SetOrder.{same_ranges}
 use Rattle.range_json.specs.SetReadBack.{list_back}
+use Rattle.range_json.specs.Shapes.{range_shape, set_shape}
+use Rattle.range_json.specs.Values.{AreRangeValues}
 use Rattle.range_json.proofs.ReadingBack.{Copied, item_back, range_sound, same_copies}
+use Rattle.range_set_json.specs.Faults.{first_fault, range_fault, range_items, set_fault, IsRangeRead, IsSetRead}
 
 module _ {K : Type 0} (order : KeyOrder K) (shape : K → Data) (reads : Data → Bool)
     (is_value : K → Type 0) (is_read : Data → K → Type 0) where
@@ -25,13 +28,16 @@ module _ {K : Type 0} (order : KeyOrder K) (shape : K → Data) (reads : Data �
       → first_fault (range_fault reads) i (map (range_shape shape) (item_ranges items)) ≡ None
   ranges_sound written i [] v = refl
   ranges_sound written i (x ∷ xs) v =
-      grind (arith, range_sound, ranges_sound written (suc i) xs v.1)
+      rw (range_sound order shape reads is_value is_read written i x.key v.0)
+      (ranges_sound written (suc i) xs v.1)
 
   -- a written set has no fault
   pub set_sound : (written : (x : K) → is_value x → IsTrue (reads (shape x)))
       (items : List (Item (AnyRange K) (Unit {0}))) → AreRangeValues is_value items
       → set_fault reads (set_shape shape items) ≡ None
-  set_sound written items v = grind (arith, list_back, ranges_sound)
+  set_sound written items v =
+      ap (λ ds. first_fault (range_fault reads) 0 ds)
+      (list_back (map (range_shape shape) (item_ranges items))) ∙ ranges_sound written 0 items v
 
   module _ (back : (x y : K) → is_value x → is_read (shape x) y → order.cmp x y ≡ Equal)
       (lawful : IsLawful order) where
@@ -42,7 +48,8 @@ module _ {K : Type 0} (order : KeyOrder K) (shape : K → Data) (reads : Data �
         → AreRangeValues is_value items
         → AllZip (IsRangeRead is_read) (map (range_shape shape) (item_ranges items)) ranges
         → AllZip Same items (range_items ranges)
-    sets_back [] list v h = grind arith
+    sets_back [] [] v h = tt
+    sets_back [] (r ∷ rs) v h = absurd h
     sets_back (x ∷ xs) [] v h = absurd h
     sets_back (x ∷ xs) (r ∷ rs) v h = (
       item_back order shape reads is_value is_read back lawful (λ _ _. true) all_equal x

@@ -1,14 +1,34 @@
 -- The gaps of the gaps of a stored list are its ranges.
-use Rattle.std.proofs.Common.{◌≡◌, Some, None, true, IsTrue, List, [], ◌∷◌, inl, inr, arith}
-use Rattle.range_sets.proofs.Common.{AllZip, Every, Equal, Unbounded, KeyOrder, IsLawful, not_both_greater_and_not, not_greater, AnyRange, every_weaker, Any, range_cmp, range_total, LiesBefore, unbounded_start, Item, full_range, AreGaps, free_from, same_list, LiesIn, IsFreePart, IsPiece, Overlap, Pairs, stored_known, stored_list_is_listed, IsStoredSet}
+use Rattle.std.proofs.Common.{◌≡◌, refl, ap, ◌∙◌, Some, None, true, ◌&&◌, IsTrue, List, [], ◌∷◌, inl, inr, arith}
+use Rattle.std.specs.List.{AllZip, AllByRecursion as Every}
+use Rattle.std.specs.declared.cmp.Ordering.TheVariants.{Equal}
+use Rattle.std.specs.declared.ops.Bound.TheVariants.{Unbounded}
+use Rattle.std.specs.Ordering.{is_eq, eq_by_cmp}
 use Rattle.std.proofs.lemmas.Bool.{and_from}
+use Rattle.range_keys.specs.Order.{KeyOrder, IsLawful}
+use Rattle.range_keys.proofs.Orderings.{not_both_greater_and_not, not_greater}
+use Rattle.range_algebra.specs.declared.any.AnyRange.{AnyRange}
+use Rattle.range_algebra.proofs.Lists.{every_weaker}
 use Rattle.range_runs.proofs.RangePieces.{any_over, every_with}
 use Rattle.range_runs.proofs.Windows.{every_both}
+use Rattle.range_algebra.specs.Intervals.{Any}
+use Rattle.range_algebra.specs.RangeOrder.{range_cmp, range_total}
+use Rattle.range_algebra.specs.Relations.{LiesBefore}
+use Rattle.range_algebra.proofs.Places.{unbounded_start}
+use Rattle.range_store.specs.declared.storage.Item.{Item}
+use Rattle.range_reads.specs.FreeRanges.{full_range, AreGaps, free_from}
+use Rattle.range_reads.specs.ListOrder.{same_list}
+use Rattle.range_runs.specs.Pieces.{LiesIn, IsFreePart, IsPiece}
+use Rattle.range_runs.specs.Lookups.{Overlap}
 use Rattle.range_map.proofs.FreeParts.{gaps_are}
+use Rattle.range_map.proofs.FreePieces.{Pairs}
+use Rattle.range_runs.proofs.Forms.{stored_known}
 use Rattle.range_map.proofs.Together.{IsAscending, stored_ascends}
 use Rattle.range_sets.proofs.Filling.{all_equal}
 use Rattle.range_sets.proofs.FullRanges.{IsFull, all_full, ascending_pairs, ends_full}
+use Rattle.range_runs.proofs.Listed.{stored_list_is_listed}
 use Rattle.range_sets.specs.Complements.{EqualGapsOf}
+use Rattle.range_set_extend.specs.KeySets.{IsStoredSet}
 use Rattle.range_sets.proofs.Enclosing.{missing_gaps_is_within_item}
 use Rattle.range_sets.proofs.Matching.{equal_within, overlap_within, row_pairs, InSome, only_one_lies_in_range, mutual_cover_matches}
 
@@ -34,7 +54,8 @@ module _ {K : Type 0} (order : KeyOrder K) (lawful : IsLawful order) where
   missed_equal : (others : List Stored) (gaps : List (AnyRange K)) (f r : AnyRange K)
       → Equals others gaps → Every (λ j. ¬ Overlap order j.key r) others
       → Any (λ g. range_cmp order g f ≡ Equal) gaps → Overlap order f r → ⊥
-  missed_equal [] list f r zip missed found meets = grind arith
+  missed_equal [] [] f r zip missed found meets = found
+  missed_equal [] (g ∷ gaps) f r zip missed found meets = zip
   missed_equal (j ∷ others) [] f r zip missed found meets = zip
   missed_equal (j ∷ others) (g ∷ gaps) f r zip missed (inl e) meets =
       missed.0 (overlap_within order lawful g j.key r (equal_within order lawful j.key g zip.0).1
@@ -46,7 +67,8 @@ module _ {K : Type 0} (order : KeyOrder K) (lawful : IsLawful order) where
   all_missed : (items others : List Stored) (gaps : List (AnyRange K)) → Equals others gaps
       → Every (λ g. Every (λ i. ¬ Overlap order i.key g) items) gaps
       → Every (λ j. Every (λ i. ¬ Overlap order j.key i.key) items) others
-  all_missed items [] list zip missed = grind arith
+  all_missed items [] [] zip missed = tt
+  all_missed items [] (g ∷ gaps) zip missed = tt
   all_missed items (j ∷ others) [] zip missed = absurd zip
   all_missed items (j ∷ others) (g ∷ gaps) zip missed = (
     every_weaker _ _ items (λ i apart meets.
@@ -58,10 +80,16 @@ module _ {K : Type 0} (order : KeyOrder K) (lawful : IsLawful order) where
   equal_gaps_are_same_list : (thirds : List Stored) (gaps : List (AnyRange K)) (items : List Stored)
       → Equals thirds gaps → AllZip (λ g i. range_cmp order g i.key ≡ Equal) gaps items
       → IsTrue (same_list order (λ _ _. true) thirds items)
-  equal_gaps_are_same_list [] list items h k = grind arith
+  equal_gaps_are_same_list [] [] [] h k = refl
+  equal_gaps_are_same_list [] (g ∷ gaps) items h k = absurd h
   equal_gaps_are_same_list (t ∷ thirds) [] items h k = absurd h
   equal_gaps_are_same_list (t ∷ thirds) (g ∷ gaps) (i ∷ items) h k =
-      grind (arith, range_total, and_from, equal_gaps_are_same_list thirds gaps items h.1 k.1)
+      let total = range_total order lawful in
+      let same = ap is_eq (total.congr t.key g i.key h.0 ∙ k.0) in
+      and_from (eq_by_cmp (range_cmp order) t.key i.key && true)
+      (same_list order (λ _ _. true) thirds items)
+      (and_from (eq_by_cmp (range_cmp order) t.key i.key) true same refl)
+      (equal_gaps_are_same_list thirds gaps items h.1 k.1)
   equal_gaps_are_same_list thirds gaps items h k = absurd k
 
   module _ (items others : List Stored) (form : IsStoredSet order items) (gaps : List (AnyRange K))

@@ -1,11 +1,26 @@
 -- The gaps of a stored list are themselves in stored form, and so is each front of a list of clones
 -- of them.
 use Rattle.std.proofs.Common.{◌⊎◌, Bool, true, List, [], ◌∷◌, ◌++◌, map, None, arith}
-use Rattle.range_sets.proofs.Common.{Every, KeyOrder, IsLawful, start_position, end_position, position_cmp, Position, less_or_not, not_both_greater_and_not, not_greater, upper, Le, le_refl, lt_le, lt_not_le, IsKnownRange, IsEmptyRange, LiesBefore, Touches, AnyRange, Item, full_range, AreGaps, IsFreePart, IsPiece, Overlap, before_is, nonempty_good, touches_is, IsListed, stored_list_is_listed, stored_by, IsStoredSet}
-use Rattle.range_runs.proofs.PlaceOrder.{le_trans}
-use Rattle.range_runs.proofs.Windows.{every_both}
+use Rattle.std.specs.List.{AllByRecursion as Every}
+use Rattle.range_keys.specs.Order.{KeyOrder, IsLawful}
+use Rattle.range_keys.specs.Position.{start_position, end_position, position_cmp}
+use Rattle.range_keys.specs.declared.inner.position.Position.{Position}
+use Rattle.range_keys.proofs.Orderings.{less_or_not, not_both_greater_and_not, not_greater}
+use Rattle.range_algebra.specs.Cuts.{upper}
+use Rattle.range_algebra.specs.Intervals.{Le}
+use Rattle.range_runs.proofs.PlaceOrder.{le_refl, lt_le, le_trans, lt_not_le}
+use Rattle.range_algebra.specs.Range.{IsKnownRange, IsEmptyRange}
+use Rattle.range_algebra.specs.Relations.{LiesBefore, Touches}
+use Rattle.range_algebra.specs.declared.any.AnyRange.{AnyRange}
+use Rattle.range_store.specs.declared.storage.Item.{Item}
+use Rattle.range_reads.specs.FreeRanges.{full_range, AreGaps}
 use Rattle.range_runs.specs.Neighbours.{EachNext}
+use Rattle.range_runs.specs.Pieces.{IsFreePart, IsPiece}
+use Rattle.range_runs.specs.Lookups.{Overlap}
 use Rattle.range_runs.specs.Stored.{IsStored}
+use Rattle.range_runs.proofs.Forms.{before_is, nonempty_good, touches_is}
+use Rattle.range_runs.proofs.Listed.{IsListed, stored_list_is_listed, stored_by}
+use Rattle.range_set_extend.specs.KeySets.{IsStoredSet}
 
 -- the ranges as the items of a set
 abbrev pub set_items : {K : Type 0} → List (AnyRange K) → List (Item (AnyRange K) (Unit {0}))
@@ -60,6 +75,12 @@ module _ {K : Type 0} (order : KeyOrder K) (lawful : IsLawful order) where
     abbrev IsFullItem : Item (AnyRange K) V → Type 0
     IsFullItem i = IsKnownRange order i.key × (IsEmptyRange order i.key → ⊥)
 
+    every_full : (items : List (Item (AnyRange K) V))
+        → Every (λ i. IsKnownRange order i.key) items
+        → Every (λ i. IsEmptyRange order i.key → ⊥) items → Every IsFullItem items
+    every_full [] known full = tt
+    every_full (i ∷ rest) known full = ((known.0, full.0), every_full rest known.1 full.1)
+
     all_missed : (items : List (Item (AnyRange K) V)) (g h : AnyRange K) → Every IsFullItem items
         → IsKnownRange order g → IsKnownRange order h → (IsEmptyRange order h → ⊥)
         → LiesBefore order g h → Touches order g h → Every (λ i. ¬ Overlap order i.key g) items
@@ -102,17 +123,20 @@ module _ {K : Type 0} (order : KeyOrder K) (lawful : IsLawful order) where
         → IsStoredSet order (set_items gaps)
     gaps_stored same items gaps form are =
         stored_by order lawful (λ _ _. true) (set_items gaps)
-        (gaps_listed items gaps (every_both _ _ items form.known form.nonempty) are.each are.rising)
+        (gaps_listed items gaps (every_full items form.known form.nonempty) are.each are.rising)
 
   front_listed : (front behind : List (AnyRange K))
       → IsListed order lawful (λ _ _. true) (set_items (front ++ behind))
       → IsListed order lawful (λ _ _. true) (set_items front)
   front_listed [] behind h = tt
-  front_listed (g ∷ []) list h = grind arith
+  front_listed (g ∷ []) [] h = h
+  front_listed (g ∷ []) (k ∷ behind) h = (h.0, h.1)
   front_listed (g ∷ i ∷ front) behind h = (h.0, h.1, h.2, h.3, front_listed (i ∷ front) behind h.4)
 
   -- the front of a list in the form of a set is in that form
   pub front_stored : (front behind : List (AnyRange K))
       → IsStoredSet order (set_items (front ++ behind)) → IsStoredSet order (set_items front)
   front_stored front behind h =
-      grind (arith, stored_by order lawful, front_listed, stored_list_is_listed order lawful)
+      stored_by order lawful (λ _ _. true) (set_items front)
+      (front_listed front behind
+      (stored_list_is_listed order lawful (λ _ _. true) (set_items (front ++ behind)) h))

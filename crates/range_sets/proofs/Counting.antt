@@ -1,7 +1,13 @@
 -- How many ranges a list has, and a set after an insertion.
-use Rattle.std.proofs.Common.{◌≡◌, ◌≤◌, ◌+◌, refl, ap, arith, true, IsTrue, List, [], ◌∷◌, length, length-append, Result, Ok, Err, OnOk, OnErr}
-use Rattle.range_sets.proofs.Common.{Every, KeyOrder, greater_or_not, IsEmptyRange, AnyRange, Item, item_ranges}
+use Rattle.std.proofs.Common.{◌≡◌, ◌≤◌, ◌+◌, refl, ap, arith, true, IsTrue, List, [], ◌∷◌, ◌++◌, length, length-append, Result, Ok, Err, OnOk, OnErr}
+use Rattle.std.specs.List.{AllByRecursion as Every}
+use Rattle.range_keys.specs.Order.{KeyOrder}
+use Rattle.range_keys.proofs.Orderings.{greater_or_not}
+use Rattle.range_algebra.specs.Range.{IsEmptyRange}
+use Rattle.range_algebra.specs.declared.any.AnyRange.{AnyRange}
+use Rattle.range_store.specs.declared.storage.Item.{Item}
 use Rattle.range_runs.specs.Frames.{IsInsertionFrame}
+use Rattle.range_reads.specs.FreeRanges.{item_ranges}
 
 pub ranges_length : {K V : Type 0} (items : List (Item (AnyRange K) V))
     → length (item_ranges items) ≡ length items
@@ -21,11 +27,14 @@ module _ {K : Type 0} (order : KeyOrder K) where
       → IsInsertionFrame order (λ _ _. true) items new r tt
       → length new ≤ length items + 1
   one_for_all items new r h =
-      grind (
+      omega (
         arith,
-        all_alike h.run,
+        h.such.one (all_alike h.run),
+        ap length h.before,
+        ap length h.after,
+        length-append (h.front ++ h.run) h.behind,
         length-append h.front h.run,
-        length-append,
+        length-append (h.front ++ h.others) h.behind,
         length-append h.front h.others,
       )
 

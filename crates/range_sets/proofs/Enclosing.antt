@@ -1,8 +1,26 @@
 -- What misses all the gaps of a list lies in one of its items.
 use Rattle.std.proofs.Common.{◌≡◌, refl, Option, Some, None, true, List, [], ◌∷◌, arith}
-use Rattle.range_sets.proofs.Common.{Every, Bound, Included, Excluded, Unbounded, KeyOrder, IsLawful, start_position, end_position, position_cmp, Position, AnyRange, every_left, every_right, flipped, past, Le, Lt, Any, lt_not_le, not_le, not_lt, cases, lt_le_trans, le_lt_trans, IsKnownBound, IsKnownRange, IsEmptyRange, reaching_is_before_past, flipped_bound_is_past, flipped_back, flipped_known, unbounded_start, Item, between, free_from, LiesIn, Overlap, before_is, nonempty_good, touches_is, IsListed}
-use Rattle.range_runs.proofs.PlaceOrder.{eq_ge, le_trans}
+use Rattle.std.specs.List.{AllByRecursion as Every}
+use Rattle.std.specs.declared.ops.Bound.{Bound}
+use Rattle.std.specs.declared.ops.Bound.TheVariants.{Included, Excluded, Unbounded}
+use Rattle.range_keys.specs.Order.{KeyOrder, IsLawful}
+use Rattle.range_keys.specs.Position.{start_position, end_position, position_cmp}
+use Rattle.range_keys.specs.declared.inner.position.Position.{Position}
+use Rattle.range_algebra.specs.declared.any.AnyRange.{AnyRange}
+use Rattle.range_algebra.proofs.Lists.{every_left, every_right}
+use Rattle.range_algebra.specs.Compared.{flipped}
+use Rattle.range_algebra.specs.Cuts.{past}
+use Rattle.range_algebra.specs.Intervals.{Le, Lt, Any}
+use Rattle.range_runs.proofs.PlaceOrder.{eq_ge, le_trans, lt_not_le, not_le, not_lt, cases, lt_le_trans, le_lt_trans}
+use Rattle.range_algebra.specs.Range.{IsKnownBound, IsKnownRange, IsEmptyRange}
+use Rattle.range_algebra.proofs.Places.{reaching_is_before_past, flipped_bound_is_past, flipped_back, flipped_known, unbounded_start}
+use Rattle.range_store.specs.declared.storage.Item.{Item}
+use Rattle.range_reads.specs.FreeRanges.{between, free_from}
+use Rattle.range_runs.specs.Pieces.{LiesIn}
+use Rattle.range_runs.specs.Lookups.{Overlap}
+use Rattle.range_runs.proofs.Forms.{before_is, nonempty_good, touches_is}
 use Rattle.range_sets.proofs.FullRanges.{From, IsFull, between_is, ends_before, ends_full}
+use Rattle.range_runs.proofs.Listed.{IsListed}
 
 module _ {K : Type 0} (order : KeyOrder K) (lawful : IsLawful order) where
   abbrev PLe : Position K → Position K → Type 0
@@ -137,15 +155,18 @@ module _ {K : Type 0} (order : KeyOrder K) (lawful : IsLawful order) where
 
     rest_listed : (i : Item (AnyRange K) V) (rest : List (Item (AnyRange K) V))
         → IsSetList (i ∷ rest) → IsSetList rest
-    rest_listed i list h = grind arith
+    rest_listed i [] h = tt
+    rest_listed i (j ∷ rest) h = h.4
 
     first_known : (i : Item (AnyRange K) V) (rest : List (Item (AnyRange K) V))
         → IsSetList (i ∷ rest) → IsKnownRange order i.key
-    first_known i list h = grind arith
+    first_known i [] h = h.0
+    first_known i (j ∷ rest) h = h.0
 
     next_known : (j : Item (AnyRange K) V) (rest : List (Item (AnyRange K) V))
         → IsSetList (j ∷ rest) → IsEmptyRange order j.key → ⊥
-    next_known j list h = grind arith
+    next_known j [] h = h.1
+    next_known j (k ∷ rest) h = h.1
 
     end_is_not_past_item : (i : Item (AnyRange K) V) (rest : List (Item (AnyRange K) V))
         (r : AnyRange K) → IsSetList (i ∷ rest) → IsFull order lawful r
@@ -186,5 +207,6 @@ module _ {K : Type 0} (order : KeyOrder K) (lawful : IsLawful order) where
           from_next,
           rest_listed,
           start_is_not_before_item,
-          missing_gaps_is_within_item (flipped i.key.end) rest r,
+          missing_gaps_is_within_item
+              (flipped i.key.end) rest r,
         )

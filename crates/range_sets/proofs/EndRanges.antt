@@ -1,6 +1,8 @@
 -- The ranges of a list that is put together of two.
 use Rattle.std.proofs.Common.{◌≡◌, List, [], ◌∷◌, ◌++◌, refl, ap}
-use Rattle.range_sets.proofs.Common.{AnyRange, Item, item_ranges}
+use Rattle.range_algebra.specs.declared.any.AnyRange.{AnyRange}
+use Rattle.range_store.specs.declared.storage.Item.{Item}
+use Rattle.range_reads.specs.FreeRanges.{item_ranges}
 
 pub item_ranges_append : {K V : Type 0} (xs ys : List (Item (AnyRange K) V))
     → item_ranges (xs ++ ys) ≡ item_ranges xs ++ item_ranges ys

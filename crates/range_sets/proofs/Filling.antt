@@ -1,11 +1,23 @@
 -- Clones of the gaps of a list, put one after the other.
-use Rattle.std.proofs.Common.{◌≡◌, ℕ, ◌+◌, ◌≤◌, refl, ◌↔◌, arith, append_assoc, true, List, [], ◌∷◌, ◌++◌, length}
-use Rattle.range_sets.proofs.Common.{AllZip, Equal, KeyOrder, IsLawful, every_more, IsRangeClone, range_clone, IsKnownRange, range_cmp, range_total, AnyRange, Item, IsCopyOf, item_ranges, IsHeldOnce, copy_stored, HoldsKey, HoldsTheOthers, IsStoredSet, SomeHolds}
+use Rattle.std.proofs.Common.{◌≡◌, ℕ, ◌+◌, ◌≤◌, refl, ap, ◌↔◌, arith, append_assoc, true, List, [], ◌∷◌, ◌++◌, length}
 use Rattle.std.proofs.lemmas.List.{append-nil}
 use Rattle.std.proofs.lemmas.List.Elements.{All-from_recursion}
-use Rattle.std.specs.Cmp.{IsEquivalence}
+use Rattle.std.specs.Cmp.{IsEquivalence, tied_back}
+use Rattle.std.specs.List.{AllZip}
+use Rattle.std.specs.declared.cmp.Ordering.TheVariants.{Equal}
+use Rattle.range_keys.specs.Order.{KeyOrder, IsLawful}
+use Rattle.range_algebra.proofs.Lists.{every_more}
+use Rattle.range_algebra.specs.Clones.{IsRangeClone, range_clone}
+use Rattle.range_algebra.specs.Range.{IsKnownRange}
+use Rattle.range_algebra.specs.RangeOrder.{range_cmp, range_total}
+use Rattle.range_algebra.specs.declared.any.AnyRange.{AnyRange}
 use Rattle.range_algebra.proofs.Canonical.{equal_is_same}
+use Rattle.range_store.specs.declared.storage.Item.{Item}
+use Rattle.range_reads.specs.ListOrder.{IsCopyOf}
+use Rattle.range_reads.specs.FreeRanges.{item_ranges, IsHeldOnce}
+use Rattle.range_map.proofs.CloneLists.{copy_stored}
 use Rattle.range_map.proofs.HeldOnce.{one_of_two}
+use Rattle.range_set_extend.specs.KeySets.{HoldsKey, HoldsTheOthers, IsStoredSet, SomeHolds}
 use Rattle.range_sets.proofs.Complementing.{set_items, front_stored}
 
 pub all_equal : IsEquivalence {K = Unit {0}} (λ _ _. true)
@@ -47,7 +59,8 @@ module _ {K : Type 0} (order : KeyOrder K) where
     pub clone_same : (is_clone : K → K → Type 0)
         → ((x y : K) → is_clone x y → order.cmp x y ≡ Equal) → (g r : AnyRange K)
         → IsRangeClone is_clone g r → range_cmp order r g ≡ Equal
-    clone_same is_clone equal g r h = grind (arith, range_total, range_clone)
+    clone_same is_clone equal g r h =
+        tied_back (range_total order lawful) g r (range_clone order lawful is_clone equal g r h)
 
     -- with the clone of the next gap the items are in the form of a set
     pub next_gap_fits : (gaps rest others : List (AnyRange K)) (items : Items) (room : ℕ)
@@ -75,7 +88,14 @@ module _ {K : Type 0} (order : KeyOrder K) where
         → IsFilled gaps others next left
     filled_more gaps rest others items next room left g r form filled came known same put room_is =
         let more = next_gap_fits gaps rest others items room g r form filled came known same in
-        grind (arith, append_assoc filled.done (g ∷ []) others, zip_more)
+        let shorter = ap length came in
+        rw put (record {
+          done = filled.done ++ g ∷ [];
+          split = rw (append_assoc filled.done (g ∷ []) others, ← came) filled.split;
+          copied = grind (arith, zip_more);
+          form = more;
+          space = omega (arith, shorter, filled.space, room_is);
+        })
 
     same_keys : (others : Items) (gaps : List (AnyRange K)) (k : K) → order.is_key k
         → AllZip SameRange others gaps → HoldsKey order others k ↔ SomeHolds order gaps k

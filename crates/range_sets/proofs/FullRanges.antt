@@ -1,9 +1,27 @@
 -- Ranges that are known and not empty, and where their bounds lie.
 use Rattle.std.proofs.Common.{◌≡◌, Option, Some, None, List, [], ◌∷◌}
-use Rattle.range_sets.proofs.Common.{Every, Equal, Bound, Unbounded, equal_then_equal, not_greater, KeyOrder, IsLawful, start_position, end_position, position_cmp, flipped_back, flipped_bound_is_past, flipped_known, unbounded_end, flipped, Le, Lt, IsKnownBound, IsKnownRange, range_cmp, LiesBefore, AnyRange, Item, LiesIn, before_is, between, Pairs}
+use Rattle.std.specs.List.{AllByRecursion as Every}
+use Rattle.std.specs.declared.cmp.Ordering.TheVariants.{Equal}
+use Rattle.std.specs.declared.ops.Bound.{Bound}
+use Rattle.std.specs.declared.ops.Bound.TheVariants.{Unbounded}
+use Rattle.range_keys.proofs.Orderings.{equal_then_equal, not_greater}
+use Rattle.range_keys.specs.Order.{KeyOrder, IsLawful}
+use Rattle.range_keys.specs.Position.{start_position, end_position, position_cmp}
 use Rattle.range_keys.specs.PositionOrder.{position_total}
+use Rattle.range_algebra.proofs.Places.{flipped_back, flipped_bound_is_past, flipped_known, unbounded_end}
+use Rattle.range_algebra.specs.Compared.{flipped}
+use Rattle.range_algebra.specs.Intervals.{Le, Lt}
 use Rattle.range_algebra.specs.Orders.{both, eq_ge, le_trans}
+use Rattle.range_algebra.specs.Range.{IsKnownBound, IsKnownRange}
+use Rattle.range_algebra.specs.RangeOrder.{range_cmp}
+use Rattle.range_algebra.specs.Relations.{LiesBefore}
+use Rattle.range_algebra.specs.declared.any.AnyRange.{AnyRange}
+use Rattle.range_store.specs.declared.storage.Item.{Item}
+use Rattle.range_runs.specs.Pieces.{LiesIn}
 use Rattle.range_runs.proofs.Extents.{end_le}
+use Rattle.range_runs.proofs.Forms.{before_is}
+use Rattle.range_reads.specs.FreeRanges.{between}
+use Rattle.range_map.proofs.FreePieces.{Pairs}
 use Rattle.range_map.proofs.Together.{IsAscending}
 
 module _ {K : Type 0} (order : KeyOrder K) (lawful : IsLawful order) where

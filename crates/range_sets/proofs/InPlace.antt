@@ -1,8 +1,16 @@
 -- Which keys a map of equal values holds once it was changed by another.
-use Rattle.std.proofs.Common.{◌↔◌, Bool, IsTrue, List, Option, Some, arith}
-use Rattle.range_sets.proofs.Common.{KeyOrder, IsLawful, AnyRange, Item, Binds, binds_bound, IsOverlaid, IsRestricted, IsWithout, HoldsKey, HoldsWithoutAll, HoldsEither, HoldsBoth, HoldsFirstAlone, bound_to}
+use Rattle.std.proofs.Common.{◌↔◌, inl, inr, Bool, IsTrue, List, Option, Some, arith}
+use Rattle.range_keys.specs.Order.{KeyOrder, IsLawful}
+use Rattle.range_algebra.specs.declared.any.AnyRange.{AnyRange}
+use Rattle.range_store.specs.declared.storage.Item.{Item}
+use Rattle.range_runs.specs.Bindings.{Binds}
+use Rattle.range_runs.proofs.Overlaps.{binds_bound}
+use Rattle.range_map.specs.Overlays.{IsOverlaid, IsRestricted, IsWithout}
 use Rattle.range_map.specs.PartWay.{AreUnboundAfter, BeforeOne, BeforeOneGap}
 use Rattle.range_map.proofs.BoundKeys.{bound_or_not}
+use Rattle.range_set_extend.specs.KeySets.{HoldsKey, HoldsWithoutAll}
+use Rattle.range_sets.specs.TwoSets.{HoldsEither, HoldsBoth, HoldsFirstAlone}
+use Rattle.range_set_extend.proofs.Membership.{bound_to}
 
 -- what follows of any part follows of this one
 pub before_one : {A : Type 0} (P Q : List A → Type 0) (all : List A)
@@ -32,11 +40,21 @@ module _ {K : Type 0} (order : KeyOrder K) (lawful : IsLawful order)
   pub either : (items others new : Items) → IsOverlaid order same items others new
       → HoldsEither order items others new
   either items others new h k key =
-      grind (arith, bound_or_not order lawful others k, hold_alike others new k, hold_alike)
+      elim (bound_or_not order lawful others k) [
+        | inl there ↦
+            (λ b. inr there, λ b. (hold_alike others new k (h.over k key there)).1 there)
+        | inr none ↦ grind (arith, hold_alike)
+      ]
 
   module _ {W : Type 0} (items : Items) (others : List (Item (AnyRange K) W)) (new : Items) where
     pub both : IsRestricted order same items others new → HoldsBoth order items others new
-    both h k key = grind (arith, bound_or_not order lawful others k, hold_alike items new k)
+    both h k key =
+        elim (bound_or_not order lawful others k) [
+          | inl there ↦
+              let alike = hold_alike items new k (h.kept k key there) in
+              (λ b. (alike.0 b, there), λ b. alike.1 b.0)
+          | inr none ↦ (λ b. absurd (h.gone k key none b), λ b. absurd (none b.1))
+        ]
 
     pub first_alone : IsWithout order same items others new → HoldsFirstAlone order items others new
     first_alone h k key = grind (arith, hold_alike)

@@ -1,11 +1,19 @@
 -- What becomes of the keys of two sets, by what a test says of which of them holds a key.
-use Rattle.std.proofs.Common.{◌≡◌, refl, ◌↔◌, ◌⊎◌, inr, Bool, false, not, ◌&&◌, IsTrue, List, [], ◌∷◌, Option, Result, Ok, arith}
-use Rattle.range_sets.proofs.Common.{is_some, option_copied, KeyOrder, IsLawful, AnyRange, Item, Binds, binds_bound, HoldsKey, HoldsBoth, HoldsFirstAlone, HoldsJustOne, AreKept}
+use Rattle.std.proofs.Common.{◌≡◌, refl, ap, subst, ◌↔◌, ◌⊎◌, inl, inr, Bool, true, false, not, ◌&&◌, IsTrue, List, [], ◌∷◌, Option, Some, None, Result, Ok, arith}
+use Rattle.std.specs.Prelude.{is_some}
 use Rattle.std.specs.Bool.{beq}
+use Rattle.std.specs.Option.{option_copied}
 use denote.Ref.{Bor}
+use Rattle.range_keys.specs.Order.{KeyOrder, IsLawful}
+use Rattle.range_algebra.specs.declared.any.AnyRange.{AnyRange}
 use Rattle.range_algebra.proofs.Meeting.{held_or_not}
+use Rattle.range_store.specs.declared.storage.Item.{Item}
 use Rattle.range_runs.specs.Answers.{IsAsAnswered}
+use Rattle.range_runs.specs.Bindings.{Binds}
 use Rattle.range_merge.specs.Combining.{AreCombined}
+use Rattle.range_runs.proofs.Overlaps.{binds_bound}
+use Rattle.range_set_extend.specs.KeySets.{HoldsKey}
+use Rattle.range_sets.specs.TwoSets.{HoldsBoth, HoldsFirstAlone, HoldsJustOne, AreKept}
 
 -- two tests that are true in one case are one
 same_test : {P : Type 0} (a b : Bool) → (IsTrue a ↔ P) → (IsTrue b ↔ P) → a ≡ b
@@ -13,7 +21,8 @@ same_test a b f g = grind arith
 
 -- a test of whether it is so, or not
 pub decided : {P : Type 0} → P ⊎ (¬ P) → (b : Bool) × (IsTrue b ↔ P)
-decided either = grind arith
+decided (inl is) = (true, (λ e. is, λ h. refl))
+decided (inr other) = (false, (λ e. absurd (cc), λ h. absurd (other h)))
 
 -- by truth values: of an and, an and with not, and a difference of two facts
 module _ {A B N : Type 0} where
@@ -31,7 +40,8 @@ module _ {A B N : Type 0} where
 -- a value is shown where there is one
 pub shown_is : {V : Type 0} (shown : Option (Bor V)) (v : Option V) → option_copied shown ≡ v
     → is_some shown ≡ is_some v
-shown_is option v is = grind arith
+shown_is None v is = ap is_some is
+shown_is (Some x) v is = ap is_some is
 
 module _ {K : Type 0} (order : KeyOrder K) where
   abbrev Items : Type 0
@@ -40,13 +50,16 @@ module _ {K : Type 0} (order : KeyOrder K) where
   -- what a key is bound to tells whether it is held
   bound_is : (same : Unit {0} → Unit {0} → Bool) (items : Items) (k : K) (b : Option (Unit {0}))
       → Binds order same items k b → IsTrue (is_some b) ↔ HoldsKey order items k
-  bound_is same items k option h = grind (arith, binds_bound)
+  bound_is same items k None h = grind arith
+  bound_is same items k (Some v) h = grind (arith, binds_bound order same items k v)
 
   answered_is : (same : Unit {0} → Unit {0} → Bool)
       → ((v : Unit {0}) → IsTrue (same v v)) → (new : Items) (k : K) (answer : Option (Unit {0}))
       → ((b : Option (Unit {0})) → Binds order same new k b ↔ IsAsAnswered same answer b)
       → IsTrue (is_some answer) ↔ HoldsKey order new k
-  answered_is same equal new k option is = grind (arith, bound_is same new k)
+  answered_is same equal new k None is = bound_is same new k None ((is None).1 refl)
+  answered_is same equal new k (Some v) is =
+      bound_is same new k (Some v) ((is (Some v)).1 (equal v))
 
   -- a closure that answers as a test says keeps the keys as the test says
   pub combined_kept : {E : Type 0} (same : Unit {0} → Unit {0} → Bool)
@@ -60,7 +73,16 @@ module _ {K : Type 0} (order : KeyOrder K) where
       record {
         held = λ k key some.
             let at = combined.held k key some in
-            grind (arith, bound_is, answered_is same equal new k at.answer at.is);
+            record {
+              first = is_some at.left;
+              second = is_some at.right;
+              in_first = bound_is same items k at.left at.first;
+              in_second = bound_is same others k at.right at.second;
+              is =
+                  subst (λ b. IsTrue b ↔ HoldsKey order new k)
+                  (told at.left at.right at.answer at.given)
+                  (answered_is same equal new k at.answer at.is);
+            };
         free = combined.free;
       }
 

@@ -1,4 +1,3 @@
-pub mod Common
 pub mod ComplementTwice
 pub mod Complementing
 pub mod Counting
@@ -11,8 +10,8 @@ pub mod KeptKeys
 pub mod KeysOfMaps
 pub mod Likeness
 pub mod Matching
+pub use Rattle.range_set_extend.proofs.Membership
 pub mod Retained
 pub mod SetLaws
 pub mod Showing
 pub mod Uniting
-pub use Rattle.range_set_extend.proofs.Membership

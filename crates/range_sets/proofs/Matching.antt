@@ -1,9 +1,22 @@
 -- Two rows of disjoint ranges, each of which lies in some range of the other row, are equal one by
 -- one.
 use Rattle.std.proofs.Common.{◌≡◌, List, [], ◌∷◌, inl, inr, arith}
-use Rattle.range_sets.proofs.Common.{AllZip, Every, Equal, KeyOrder, IsLawful, start_position, end_position, Position, both_equal, AnyRange, every_weaker, Any, eq_le, lt_le, lt_not_le, lt_le_trans, le_lt_trans, lt_trans, range_cmp, LiesBefore, LiesIn, Overlap, Pairs}
-use Rattle.range_runs.proofs.PlaceOrder.{eq_ge, le_trans}
+use Rattle.std.specs.List.{AllZip, AllByRecursion as Every}
+use Rattle.std.specs.declared.cmp.Ordering.TheVariants.{Equal}
+use Rattle.range_keys.specs.Order.{KeyOrder, IsLawful}
+use Rattle.range_keys.specs.Position.{start_position, end_position}
+use Rattle.range_keys.specs.declared.inner.position.Position.{Position}
+use Rattle.range_keys.proofs.Orderings.{both_equal}
+use Rattle.range_algebra.specs.declared.any.AnyRange.{AnyRange}
+use Rattle.range_algebra.proofs.Lists.{every_weaker}
+use Rattle.range_algebra.specs.Intervals.{Any}
+use Rattle.range_runs.proofs.PlaceOrder.{eq_le, eq_ge, lt_le, le_trans, lt_not_le, lt_le_trans, le_lt_trans, lt_trans}
+use Rattle.range_algebra.specs.RangeOrder.{range_cmp}
+use Rattle.range_algebra.specs.Relations.{LiesBefore}
 use Rattle.range_runs.specs.Neighbours.{EachNext}
+use Rattle.range_runs.specs.Pieces.{LiesIn}
+use Rattle.range_runs.specs.Lookups.{Overlap}
+use Rattle.range_map.proofs.FreePieces.{Pairs}
 use Rattle.range_sets.proofs.FullRanges.{IsFull, same_range}
 
 module _ {K : Type 0} (order : KeyOrder K) (lawful : IsLawful order) where
@@ -71,7 +84,8 @@ module _ {K : Type 0} (order : KeyOrder K) (lawful : IsLawful order) where
         → Pairs (λ x y. LiesBefore order (range x) (range y)) xs → InSome r xs
         → Every (λ x. LiesIn order (range x) r → LiesIn order r (range x)) xs
     only_one_lies_in_range r [] full pairs within = tt
-    only_one_lies_in_range r (x ∷ xs) full pairs (inl h) = grind (arith, none_back)
+    only_one_lies_in_range r (x ∷ xs) full pairs (inl h) =
+        (λ _. h, none_back r (range x) xs h full.1 pairs.0)
     only_one_lies_in_range r (x ∷ xs) full pairs (inr h) =
         let apart = behind_first (range x) r xs pairs.0 h in
         let later = only_one_lies_in_range r xs full.1 pairs.1 h in

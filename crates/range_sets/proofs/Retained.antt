@@ -1,7 +1,10 @@
 -- Which ranges are kept, where a closure is asked of the items that they are the keys of.
 use Rattle.std.proofs.Common.{◌≡◌, refl, ap, Bool, true, false, List, [], ◌∷◌, arith}
-use Rattle.range_sets.proofs.Common.{items_where_true, AnyRange, Item, item_ranges}
+use Rattle.std.specs.List.{items_where_true}
 use Rattle.std.specs.List.Retain.{ReturnsInTurn, IsFiltered}
+use Rattle.range_algebra.specs.declared.any.AnyRange.{AnyRange}
+use Rattle.range_store.specs.declared.storage.Item.{Item}
+use Rattle.range_reads.specs.FreeRanges.{item_ranges}
 use Rattle.range_sets.proofs.Counting.{ranges_length}
 
 module _ {K V : Type 0} where
@@ -20,7 +23,9 @@ module _ {K V : Type 0} where
         → ReturnsInTurn R s bs items t
         → ReturnsInTurn Q (state s) bs (item_ranges items) (state t)
     asked_in_turn [] items s t h = ap state h
-    asked_in_turn (b ∷ bs) list s t h = grind (arith, asked_in_turn bs)
+    asked_in_turn (b ∷ bs) [] s t h = h
+    asked_in_turn (b ∷ bs) (i ∷ items) s t h =
+        (state h.0, asks s i b h.0 h.1, asked_in_turn bs items h.0 t h.2)
 
     -- a closure that asks another of each range keeps just those that the other does
     pub ranges_filtered : (s : S) (items new : List (Item (AnyRange K) V))

@@ -1,19 +1,41 @@
 -- The ranges of two lists, taken by their starts: what is made of those so far, and what is left.
-use Rattle.std.proofs.Common.{◌≡◌, refl, ◌↔◌, ◌⊎◌, inl, inr, Bool, true, false, Option, Some, None, List, [], ◌∷◌, ◌++◌, arith}
-use Rattle.range_sets.proofs.Common.{MatchOption, option_copied, Bound, Unbounded, Equal, Every, KeyOrder, IsLawful, start_position, end_position, position_cmp, Position, IsBoundClone, IsRangeClone, SameBound, flipped, lower, past, upper, Le, Lt, Holds, IsKnownBound, IsKnownRange, with_bounds, AnyRange, every_append, every_weaker, flipped_bound_is_past, held_between, unbounded_start, unbounded_end, Item, IsBound, Known, Chained, chain_stored, stored_chain, stored_known, full_range, item_ranges, le_refl, lt_le, eq_le, lt_le_trans, le_lt_trans, not_le, cases, HoldsKey, IsStoredSet, SomeHolds, HoldsEither}
+use Rattle.std.proofs.Common.{◌≡◌, refl, sym, ◌∙◌, subst, ◌↔◌, ◌⊎◌, inl, inr, Bool, true, false, Option, Some, None, List, [], ◌∷◌, ◌++◌, arith}
+use Rattle.std.specs.Prelude.{MatchOption}
 use Rattle.std.specs.Cmp.{IsEquivalence}
+use Rattle.std.specs.Option.{option_copied}
+use Rattle.std.specs.declared.ops.Bound.{Bound}
+use Rattle.std.specs.declared.ops.Bound.TheVariants.{Unbounded}
 use Rattle.std.specs.declared.cmp.Ordering.{Ordering}
+use Rattle.std.specs.declared.cmp.Ordering.TheVariants.{Equal}
 use denote.Ref.{Bor}
+use Rattle.std.specs.List.{AllByRecursion as Every}
+use Rattle.range_keys.specs.Order.{KeyOrder, IsLawful}
+use Rattle.range_keys.specs.Position.{start_position, end_position, position_cmp}
+use Rattle.range_keys.specs.declared.inner.position.Position.{Position}
 use Rattle.range_keys.specs.declared.inner.position.Position.TheVariants.{Beside}
 use Rattle.range_keys.specs.declared.inner.position.Side.TheVariants.{At}
+use Rattle.range_algebra.specs.Clones.{IsBoundClone, IsRangeClone, SameBound}
+use Rattle.range_algebra.specs.Compared.{flipped}
+use Rattle.range_algebra.specs.Cuts.{lower, past, upper}
+use Rattle.range_algebra.specs.Intervals.{Le, Lt}
+use Rattle.range_algebra.specs.Range.{Holds, IsKnownBound, IsKnownRange, with_bounds}
+use Rattle.range_algebra.specs.declared.any.AnyRange.{AnyRange}
+use Rattle.range_algebra.proofs.Lists.{every_append, every_weaker}
+use Rattle.range_algebra.proofs.Places.{flipped_bound_is_past, held_between, unbounded_start, unbounded_end}
+use Rattle.range_store.specs.declared.storage.Item.{Item}
+use Rattle.range_runs.specs.Bindings.{IsBound}
 use Rattle.range_runs.specs.Chains.{Follows, line_of}
 use Rattle.range_runs.specs.Stored.{item_lower, item_upper}
 use Rattle.range_runs.specs.Window.{option_items}
 use Rattle.range_runs.proofs.Chains.{chains_join, strictly_leads}
 use Rattle.range_runs.proofs.Extents.{past_le}
+use Rattle.range_runs.proofs.Forms.{Known, Chained, chain_stored, stored_chain, stored_known}
+use Rattle.range_reads.specs.FreeRanges.{full_range, item_ranges}
 use Rattle.range_merge.specs.Merged.{IsPlaced}
 use Rattle.range_merge.proofs.FirstPieces.{past_same}
-use Rattle.range_runs.proofs.PlaceOrder.{eq_ge, le_trans}
+use Rattle.range_runs.proofs.PlaceOrder.{le_refl, lt_le, eq_le, eq_ge, le_trans, lt_le_trans, le_lt_trans, not_le, cases}
+use Rattle.range_set_extend.specs.KeySets.{HoldsKey, IsStoredSet, SomeHolds}
+use Rattle.range_sets.specs.TwoSets.{HoldsEither}
 use Rattle.range_sets.specs.Uniting.{StartsFirst, IsFirstOf, Reaches, IsLaterEnd, IsPushed, IsAdded}
 
 -- the ranges that are left where an iterator has given one that is not yet taken
@@ -28,15 +50,18 @@ Gives before next after =
 
 pub stepped : {K : Type 0} (before after : List (AnyRange K)) (next : Option (Bor (AnyRange K)))
     → Gives before next after → ahead next after ≡ before
-stepped before after option steps = grind arith
+stepped before after None steps = steps.1 ∙ sym steps.0
+stepped before after (Some r) steps = sym steps
 
 pub drained : {K : Type 0} (before after : List (AnyRange K)) (next : Option (Bor (AnyRange K)))
     → Gives before next after → option_copied next ≡ None → after ≡ []
-drained before after option steps e = grind arith
+drained before after None steps e = steps.1
+drained before after (Some r) steps e = absurd (cc)
 
 pub nothing_ahead : {K : Type 0} (next : Option (Bor (AnyRange K))) (rest : List (AnyRange K))
     → next ≡ None → (option_copied next ≡ None → rest ≡ []) → ahead next rest ≡ []
-nothing_ahead option rest e none = grind arith
+nothing_ahead None rest e none = none refl
+nothing_ahead (Some r) rest e none = absurd (cc)
 
 abbrev pub one_value : Unit {0} → Unit {0} → Bool
 one_value _ _ = true
@@ -101,7 +126,8 @@ module _ {K : Type 0} {order : KeyOrder K} (lawful : IsLawful order) where
       (rest : List (AnyRange K)) → (next ≡ None → rest ≡ [])
       → RisesFrom order m (option_items next ++ rest) → StartsFirst order r next
       → RisesFrom order (lower order r) (option_items next ++ rest)
-  rises_later m r option rest none rises first = grind arith
+  rises_later m r None rest none rises first = rw (none refl) tt
+  rises_later m r (Some s) rest none rises first = (rises.0, first, rises.2)
 
   follows_rise : (x : Item (AnyRange K) (Unit {0})) (xs : Items order)
       → Known order lawful one_value one_class xs
@@ -113,7 +139,8 @@ module _ {K : Type 0} {order : KeyOrder K} (lawful : IsLawful order) where
   chain_rises : (xs : Items order) → Known order lawful one_value one_class xs
       → Chained order lawful one_value one_class xs
       → RisesFrom order (lower order full_range) (item_ranges xs)
-  chain_rises list known chain = grind (arith, follows_rise, unbounded_start)
+  chain_rises [] known chain = tt
+  chain_rises (x ∷ xs) known chain = grind (arith, follows_rise, unbounded_start)
 
   set_rises : (xs : Items order) → IsStoredSet order xs
       → RisesFrom order (lower order full_range) (item_ranges xs)
@@ -132,7 +159,8 @@ module _ {K : Type 0} {order : KeyOrder K} (lawful : IsLawful order) where
       → IsKnownRange order r → IsLaterEnd order last.end r.end e
       → IsKnownBound order e × Le (cmp order) (upper order last) (past order (end_position order e))
       × Le (cmp order) (upper order r) (past order (end_position order e))
-  later_known last r e known others either = grind (arith, le_refl, past_le)
+  later_known last r e known others (inl h) = grind (arith, le_refl, past_le)
+  later_known last r e known others (inr h) = grind (arith, le_refl, past_le)
 
   -- two ranges of which the second starts in the first or just past it
   module _ (last r : AnyRange K) (placed : IsPlaced order last) (other : IsPlaced order r)
@@ -143,7 +171,10 @@ module _ {K : Type 0} {order : KeyOrder K} (lawful : IsLawful order) where
         → Lt (cmp order) (Beside k At) (past order (end_position order e))
         → Le (cmp order) (lower order r) (Beside k At)
         → Holds order last k ⊎ Holds order r k
-    below_end e k key either above below start = grind (arith, held_between)
+    below_end e k key (inl h) above below start =
+        inl ((held_between order lawful last k placed.known key).1 (above, rw h.0 at below))
+    below_end e k key (inr h) above below start =
+        inr ((held_between order lawful r k other.known key).1 (start, rw h.0 at below))
 
     joined_holds : (e : Bound K) (k : K) → order.is_key k → IsLaterEnd order last.end r.end e
         → Holds order (with_bounds last.start e) k ↔ (Holds order last k ⊎ Holds order r k)
@@ -226,7 +257,9 @@ module _ {K : Type 0} {order : KeyOrder K} (lawful : IsLawful order) where
     are_pushed : (built new : Items order) (last : AnyRange K) → IsPlaced order last
         → StandBefore built last → IsPushed order is_clone built new last
         → ArePushed built new last
-    are_pushed built new last placed stand pushed = grind (arith, push_copy)
+    are_pushed built new last placed stand pushed =
+        rw pushed.list
+        (push_copy built last pushed.copy placed stand pushed.known pushed.clone)
 
   module _ (items others : Items order) where
     -- the ranges that stand, the last one, which may go on, and what is left from its start on hold
@@ -247,7 +280,12 @@ module _ {K : Type 0} {order : KeyOrder K} (lawful : IsLawful order) where
         → option_items near ++ others_rest ≡ item_ranges others → StartsFirst order r near
         → IsUnitedUpTo (r ∷ rest) (option_items near ++ others_rest) [] r
     first_left r rest near others_rest none stored stored_others left right first =
-        grind (arith, set_rises items stored, set_rises others stored_others, le_refl, ranges_hold)
+        let m = lower order full_range in
+        let rises : RisesFrom order m (r ∷ rest) =
+        subst (RisesFrom order m) (sym left) (set_rises items stored) in
+        let others_rise : RisesFrom order m (option_items near ++ others_rest) =
+        rw right (set_rises others stored_others) in
+        grind (arith, le_refl, ranges_hold, rises_later)
 
     module _ {r : AnyRange K} {rest : List (AnyRange K)} {near : Option (AnyRange K)}
         {others_rest : List (AnyRange K)} {built : Items order} {last : AnyRange K}
@@ -279,7 +317,8 @@ module _ {K : Type 0} {order : KeyOrder K} (lawful : IsLawful order) where
         (r : AnyRange K) (is_left : Bool) (built : Items order) (last : AnyRange K)
         → IsUnitedUpTo (option_items left ++ rest) (option_items right ++ others_rest) built last
         → IsFirstOf order left right r is_left → IsPlaced order r
-    first_placed left right rest others_rest r test built last was first = grind arith
+    first_placed left right rest others_rest r true built last was first = grind arith
+    first_placed left right rest others_rest r false built last was first = grind arith
 
   -- the same with the two lists exchanged
   turned : (items others : Items order) {left right : List (AnyRange K)} {built : Items order}

@@ -19,7 +19,7 @@ use Rattle.btree_range_map.specs.Lookups.{BindsAllOf, Overlap}
 use Rattle.btree_range_map.specs.Names.{range_from_to, range_inclusive, u64_order}
 use Rattle.btree_range_map.specs.Neighbours.{EachNext}
 use Rattle.btree_range_map.specs.PieceLists.{AreGapsWithin}
-use Rattle.btree_range_map.specs.Pieces.{IsFreePart, IsPiece, LiesIn}
+use Rattle.btree_range_map.specs.Pieces.{IsFreePart, IsPiece}
 use Rattle.btree_range_map.specs.Relations.{LiesBefore}
 use Rattle.btree_range_map.specs.RangeOrder.{range_cmp}
 use Rattle.btree_range_map.specs.Position.{start_position, end_position, position_cmp}
@@ -28,38 +28,71 @@ use Rattle.btree_range_map.specs.Unsigned.{unsigned_counted}
 use Rattle.tour.specs.Coverage.{Bytes, HasCome, IsMissing, IsWhole, first_of, past_of}
 
 start_holds : (b : Bound ℕ) (m : ℕ) → first_of b ≤ m → StartHolds u64_order b m
-start_holds b m h = grind (arith, nat_tests)
+start_holds (Included a) m h = grind (arith, nat_tests)
+start_holds (Excluded a) m h = grind (arith, nat_tests)
+start_holds Unbounded m h = tt
 
 start_held : (b : Bound ℕ) (m : ℕ) → StartHolds u64_order b m → first_of b ≤ m
-start_held b m h = grind (arith, nat_tests)
+start_held (Included a) m h = grind (arith, nat_tests)
+start_held (Excluded a) m h = grind (arith, nat_tests)
+start_held Unbounded m h = omega arith
 
 end_held : (b : Bound ℕ) (m : ℕ) → m ≤ 18446744073709551615 → EndHolds u64_order b m → m < past_of b
-end_held b m fits h = grind (arith, nat_tests)
+end_held (Included b) m fits h = grind (arith, nat_tests)
+end_held (Excluded b) m fits h = grind (arith, nat_tests)
+end_held Unbounded m fits h = omega arith
 
 end_holds : (b : Bound ℕ) (m : ℕ) → m < past_of b → EndHolds u64_order b m
-end_holds b m h = grind (arith, nat_tests)
+end_holds (Included b) m h = grind (arith, nat_tests)
+end_holds (Excluded b) m h = grind (arith, nat_tests)
+end_holds Unbounded m h = tt
 
 -- of a range that is not empty
 some_byte : (s e : Bound ℕ) → IsKnownBound u64_order s → IsKnownBound u64_order e
     → (position_cmp u64_order.cmp (start_position u64_order s) (end_position u64_order e) ≡ Greater
     → ⊥) → first_of s < past_of e
-some_byte s e known known' some = grind (arith, nat_tests)
+some_byte (Included a) (Included b) known known' some = grind (arith, nat_tests)
+some_byte (Included a) (Excluded b) known known' some = grind (arith, nat_tests)
+some_byte (Included a) Unbounded known known' some = grind (arith, nat_tests)
+some_byte (Excluded a) (Included b) known known' some = grind (arith, nat_tests)
+some_byte (Excluded a) (Excluded b) known known' some = grind (arith, nat_tests)
+some_byte (Excluded a) Unbounded known known' some = grind (arith, nat_tests)
+some_byte Unbounded (Included b) known known' some = grind (arith, nat_tests)
+some_byte Unbounded (Excluded b) known known' some = grind (arith, nat_tests)
+some_byte Unbounded Unbounded known known' some = grind (arith, nat_tests)
 
 -- a range that lies before another
 bytes_before : (e s : Bound ℕ) → IsKnownBound u64_order e → IsKnownBound u64_order s
     → position_cmp u64_order.cmp (end_position u64_order e) (start_position u64_order s) ≡ Less
     → past_of e ≤ first_of s
-bytes_before e s known known' less = grind (arith, nat_tests)
+bytes_before (Included b) (Included a) known known' less = grind (arith, nat_tests)
+bytes_before (Included b) (Excluded a) known known' less = grind (arith, nat_tests)
+bytes_before (Included b) Unbounded known known' less = grind (arith, nat_tests)
+bytes_before (Excluded b) (Included a) known known' less = grind (arith, nat_tests)
+bytes_before (Excluded b) (Excluded a) known known' less = grind (arith, nat_tests)
+bytes_before (Excluded b) Unbounded known known' less = grind (arith, nat_tests)
+bytes_before Unbounded (Included a) known known' less = grind (arith, nat_tests)
+bytes_before Unbounded (Excluded a) known known' less = grind (arith, nat_tests)
+bytes_before Unbounded Unbounded known known' less = grind (arith, nat_tests)
 
 -- where an end and a start hold one byte, the one is not before the other
 not_before : (e s : Bound ℕ) (m : ℕ) → m ≤ 18446744073709551615 → EndHolds u64_order e m
     → StartHolds u64_order s m
     → ¬ (position_cmp u64_order.cmp (end_position u64_order e) (start_position u64_order s) ≡ Less)
-not_before e s m fits h h' less = grind (arith, nat_tests)
+not_before (Included b) (Included a) m fits h h' less = grind (arith, nat_tests)
+not_before (Included b) (Excluded a) m fits h h' less = grind (arith, nat_tests)
+not_before (Included b) Unbounded m fits h h' less = grind (arith, nat_tests)
+not_before (Excluded b) (Included a) m fits h h' less = grind (arith, nat_tests)
+not_before (Excluded b) (Excluded a) m fits h h' less = grind (arith, nat_tests)
+not_before (Excluded b) Unbounded m fits h h' less = grind (arith, nat_tests)
+not_before Unbounded (Included a) m fits h h' less = grind (arith, nat_tests)
+not_before Unbounded (Excluded a) m fits h h' less = grind (arith, nat_tests)
+not_before Unbounded Unbounded m fits h h' less = grind (arith, nat_tests)
 
 overlap : (r s : AnyRange ℕ) (m : ℕ) → m ≤ 18446744073709551615 → Holds u64_order r m
     → Holds u64_order s m → Overlap u64_order r s
-overlap r s m fits one other = grind (arith, not_before)
+overlap r s m fits one other =
+    (not_before r.end s.start m fits one.1 other.0, not_before s.end r.start m fits other.1 one.0)
 
 none_come : (items : List (Item (AnyRange ℕ) (Unit {0}))) (part : AnyRange ℕ) (m : ℕ)
     → m ≤ 18446744073709551615 → Holds u64_order part m
@@ -75,15 +108,27 @@ come_or_not : (come : List (Item (AnyRange ℕ) (Unit {0}))) (byte : ℕ)
     → HoldsKey u64_order come byte ⊎ (¬ HoldsKey u64_order come byte)
 come_or_not [] byte = inr (λ none. none)
 come_or_not (i ∷ rest) byte =
-    let held = held_or_not u64_order (counted_lawful (unsigned_counted 18446744073709551615)) i.key
-    byte in
-    let later = come_or_not rest byte in grind arith
+    elim (held_or_not u64_order (counted_lawful (unsigned_counted 18446744073709551615)) i.key byte) [
+      | inl here ↦ inl (inl here)
+      | inr not ↦ elim (come_or_not rest byte) [
+        | inl later ↦ inl (inr later)
+        | inr none ↦ inr (λ h. elim h [ inl here ↦ not here | inr later ↦ none later ])
+      ]
+    ]
 
 -- an end that is not before a start
 reaches : (e s : Bound ℕ) → IsKnownBound u64_order e → IsKnownBound u64_order s
     → ¬ (position_cmp u64_order.cmp (end_position u64_order e) (start_position u64_order s) ≡ Less)
     → first_of s < past_of e
-reaches e s known known' reached = grind (arith, nat_tests)
+reaches (Included b) (Included a) known known' reached = grind (arith, nat_tests)
+reaches (Included b) (Excluded a) known known' reached = grind (arith, nat_tests)
+reaches (Included b) Unbounded known known' reached = grind (arith, nat_tests)
+reaches (Excluded b) (Included a) known known' reached = grind (arith, nat_tests)
+reaches (Excluded b) (Excluded a) known known' reached = grind (arith, nat_tests)
+reaches (Excluded b) Unbounded known known' reached = grind (arith, nat_tests)
+reaches Unbounded (Included a) known known' reached = grind (arith, nat_tests)
+reaches Unbounded (Excluded a) known known' reached = grind (arith, nat_tests)
+reaches Unbounded Unbounded known known' reached = grind (arith, nat_tests)
 
 -- a range that holds no byte of a piece does not meet it
 apart : (r part : AnyRange ℕ) → IsKnownRange u64_order r → ¬ IsEmptyRange u64_order r
@@ -94,8 +139,16 @@ apart r part known some known' wide none meet =
     let low = reaches r.end part.start known.1 known'.0 meet.0 in
     let high = reaches part.end r.start known'.1 known.0 meet.1 in
     let own = some_byte r.start r.end known.0 known.1 some in
-    let here = none (first_of part.start) in
-    let there = none (first_of r.start) in grind (arith, start_holds, end_holds)
+    elim (cases_lt (first_of r.start) (first_of part.start)) [
+      | inl less ↦ none (first_of part.start) (omega arith) wide (
+        start_holds r.start (first_of part.start) (omega (arith, less)),
+        end_holds r.end (first_of part.start) low,
+      )
+      | inr not ↦ none (first_of r.start) not high (
+        start_holds r.start (first_of r.start) (omega arith),
+        end_holds r.end (first_of r.start) own,
+      )
+    ]
 
 all_apart : (items : List (Item (AnyRange ℕ) (Unit {0}))) (part : AnyRange ℕ)
     → Every (λ i. IsKnownRange u64_order i.key) items
@@ -106,38 +159,43 @@ all_apart : (items : List (Item (AnyRange ℕ) (Unit {0}))) (part : AnyRange ℕ
     → Every (λ i. ¬ Overlap u64_order i.key part) items
 all_apart [] part known some known' wide none = tt
 all_apart (i ∷ items) part known some known' wide none = (
-  apart i.key part known.0 some.0 known' wide
-      (λ byte low high holds. none byte low high (inl holds)),
+  apart i.key part known.0 some.0 known' wide (λ byte low high holds. none byte low high (inl holds)),
   all_apart items part known.1 some.1 known' wide
       (λ byte low high later. none byte low high (inr later)),
 )
 
 -- how the positions of starts and ends lie to those of single bytes
 start_by : (s : Bound ℕ) (m : ℕ) → IsKnownBound u64_order s → m ≤ 18446744073709551615
-    → Le (position_cmp u64_order.cmp) (start_position u64_order s)
-    (start_position u64_order (Included m))
+    → Le (position_cmp u64_order.cmp) (start_position u64_order s) (start_position u64_order (Included m))
     → first_of s ≤ m
-start_by s m known fits le = grind (arith, nat_tests)
+start_by (Included a) m known fits le = grind (arith, nat_tests)
+start_by (Excluded a) m known fits le = grind (arith, nat_tests)
+start_by Unbounded m known fits le = omega arith
 
 starts_from : (s : Bound ℕ) (m : ℕ) → m ≤ first_of s → m ≤ 18446744073709551615
-    → Le (position_cmp u64_order.cmp) (start_position u64_order (Included m))
-    (start_position u64_order s)
-starts_from s m from fits = grind (arith, nat_tests)
+    → Le (position_cmp u64_order.cmp) (start_position u64_order (Included m)) (start_position u64_order s)
+starts_from (Included a) m from fits = grind (arith, nat_tests)
+starts_from (Excluded a) m from fits = grind (arith, nat_tests)
+starts_from Unbounded m from fits = grind (arith, nat_tests)
 
 starts_alike : (s : Bound ℕ) → Le (position_cmp u64_order.cmp) (start_position u64_order s)
     (start_position u64_order s)
-starts_alike s = grind (arith, nat_tests)
+starts_alike (Included a) = grind (arith, nat_tests)
+starts_alike (Excluded a) = grind (arith, nat_tests)
+starts_alike Unbounded = grind (arith, nat_tests)
 
 end_past : (e : Bound ℕ) (m : ℕ) → m ≤ 18446744073709551615
-    → Le (position_cmp u64_order.cmp) (end_position u64_order (Included m))
-    (end_position u64_order e)
+    → Le (position_cmp u64_order.cmp) (end_position u64_order (Included m)) (end_position u64_order e)
     → m < past_of e
-end_past e m fits le = grind (arith, nat_tests)
+end_past (Included b) m fits le = grind (arith, nat_tests)
+end_past (Excluded b) m fits le = grind (arith, nat_tests)
+end_past Unbounded m fits le = omega (arith, fits)
 
 ends_by : (e : Bound ℕ) (m : ℕ) → past_of e ≤ m + 1 → m < 18446744073709551615
-    → Le (position_cmp u64_order.cmp) (end_position u64_order e)
-    (end_position u64_order (Included m))
-ends_by e m past fits = grind (arith, nat_tests)
+    → Le (position_cmp u64_order.cmp) (end_position u64_order e) (end_position u64_order (Included m))
+ends_by (Included b) m past fits = grind (arith, nat_tests)
+ends_by (Excluded b) m past fits = grind (arith, nat_tests)
+ends_by Unbounded m past fits = absurd (omega (arith, past, fits))
 
 ends_inside : (m size : ℕ) → m < size → size ≤ 18446744073709551615
     → Le (position_cmp u64_order.cmp) (end_position u64_order (Included m))
@@ -145,10 +203,11 @@ ends_inside : (m size : ℕ) → m < size → size ≤ 18446744073709551615
 ends_inside m size less fits = grind (arith, nat_tests)
 
 end_inside : (e : Bound ℕ) (size : ℕ) → IsKnownBound u64_order e → size ≤ 18446744073709551615
-    → Le (position_cmp u64_order.cmp) (end_position u64_order e)
-    (end_position u64_order (Excluded size))
+    → Le (position_cmp u64_order.cmp) (end_position u64_order e) (end_position u64_order (Excluded size))
     → past_of e ≤ size
-end_inside e size known fits le = grind (arith, nat_tests)
+end_inside (Included b) size known fits le = grind (arith, nat_tests)
+end_inside (Excluded b) size known fits le = grind (arith, nat_tests)
+end_inside Unbounded size known fits le = grind (arith, nat_tests)
 
 -- the piece from a start up to a byte
 abbrev up_to : Bound ℕ → ℕ → AnyRange ℕ
@@ -156,10 +215,14 @@ up_to s m = record { start = s; end = Included m }
 
 some_byte_up_to : (s : Bound ℕ) (m : ℕ) → first_of s ≤ m → m ≤ 18446744073709551615
     → ¬ IsEmptyRange u64_order (up_to s m)
-some_byte_up_to s m low fits empty = grind (arith, nat_tests)
+some_byte_up_to (Included a) m low fits empty = grind (arith, nat_tests)
+some_byte_up_to (Excluded a) m low fits empty = grind (arith, nat_tests)
+some_byte_up_to Unbounded m low fits empty = grind (arith, nat_tests)
 
 same_start : (o p : Ordering) → ordering_then o p ≡ Equal → is_gt o ≡ false
-same_start o p same = grind arith
+same_start Less p same = refl
+same_start Equal p same = refl
+same_start Greater p same = cc
 
 module _ (bytes : Bytes) where
   -- all bytes of the file
@@ -177,11 +240,15 @@ module _ (bytes : Bytes) where
   NoneCame first last = (byte : ℕ) → first ≤ byte → byte ≤ last → ¬ HasCome bytes byte
 
   just_one : (byte : ℕ) → ¬ HasCome bytes byte → NoneCame byte byte
-  just_one byte none other low high come = grind arith
+  just_one byte none other low high =
+      let same : byte ≡ other = omega (arith, low, high) in subst (λ b. ¬ HasCome bytes b) same none
 
   and_next : (first last : ℕ) → NoneCame first last → (next : ℕ) → next ≡ last + 1
       → ¬ HasCome bytes next → NoneCame first next
-  and_next first last clear next is none byte low high come = grind arith
+  and_next first last clear next is none byte low high = elim (cases_lt last byte) [
+    | inl more ↦ just_one next none byte (omega (arith, is, more)) high
+    | inr not ↦ clear byte low not
+  ]
 
   -- the first one of the bytes up to one that have not come
   first_free : (byte : ℕ) → ¬ HasCome bytes byte → (first : ℕ) × (first ≤ byte)
@@ -193,10 +260,15 @@ module _ (bytes : Bytes) where
       suc byte,
       omega arith,
       just_one (suc byte) none,
-      λ before is. let same : byte ≡ before = omega (arith, is) in rw same at come,
+      λ before is. let same : byte ≡ before =
+          omega (arith, is) in subst (HasCome bytes) same come,
     )
-    | inr free ↦ let (first, low, clear, before) = first_free byte free in
-        (first, omega (arith, low), and_next first byte clear _ (omega arith) none, before)
+    | inr free ↦ let (first, low, clear, before) = first_free byte free in (
+      first,
+      omega (arith, low),
+      and_next first byte clear (suc byte) (omega arith) none,
+      before,
+    )
   ]
 
   -- the last one of the bytes from one on that have not come
@@ -208,18 +280,22 @@ module _ (bytes : Bytes) where
     omega arith,
     omega (arith, is),
     just_one byte none,
-    λ more. absurd
-        (omega (arith, is, more)),
+    λ more. absurd (omega (arith, is, more)),
   )
   last_free (suc left) byte is none = elim (come_or_not bytes.come (byte + 1)) [
     | inl come ↦ (byte, omega arith, omega (arith, is), just_one byte none, λ more. come)
     | inr free ↦
         let (last, high, inside, clear, after) =
-        last_free left (byte + 1) (omega (arith, is)) free in
-        let all : NoneCame byte last = λ other low up. elim (cases_lt byte other) [
-          | inl more ↦ clear other (omega (arith, more)) up
-          | inr not ↦ just_one byte none other low not
-        ] in (last, omega (arith, high), inside, all, after)
+        last_free left (byte + 1) (omega (arith, is)) free in (
+          last,
+          omega (arith, high),
+          inside,
+          λ other low up. elim (cases_lt byte other) [
+            | inl more ↦ clear other (omega (arith, more)) up
+            | inr not ↦ just_one byte none other low not
+          ],
+          after,
+        )
   ]
 
   module _ (fits : bytes.size ≤ 18446744073709551615) (stored : IsStoredSet u64_order bytes.come)
@@ -227,11 +303,17 @@ module _ (bytes : Bytes) where
       -- bytes of the file that have not come are a free part of it
       free_bytes : (s : Bound ℕ) (last : ℕ) → IsKnownBound u64_order s → first_of s ≤ last
           → last < bytes.size → NoneCame (first_of s) last → IsFree (up_to s last)
-      free_bytes s last known some inside none =
-          let apart = all_apart bytes.come (up_to s last) stored.known stored.nonempty
-          (known, omega (arith, fits, inside)) (omega (arith, some))
-          (λ byte low high. none byte low (omega (arith, high))) in
-          grind (arith, some_byte_up_to, starts_from, ends_inside)
+      free_bytes s last known some inside none = record {
+        known = (known, omega (arith, fits, inside));
+        nonempty = some_byte_up_to s last some (omega (arith, fits, inside));
+        within = record {
+          starts = starts_from s 0 (omega arith) (omega arith);
+          ends = ends_inside last bytes.size inside fits;
+        };
+        free = all_apart bytes.come (up_to s last) stored.known stored.nonempty
+            (known, omega (arith, fits, inside)) (omega (arith, some))
+            (λ byte low high. none byte low (omega (arith, high)));
+      }
 
       -- no byte of a free part has come
       free_none : (part : AnyRange ℕ) → IsFree part → (byte : ℕ) → byte < bytes.size
@@ -246,32 +328,52 @@ module _ (bytes : Bytes) where
       gap_around byte inside none =
           let (first, low, below, before) = first_free byte none in
           let left : ℕ = bytes.size - byte - 1 in
-          let (last, high, within, above, after) = last_free left byte (omega (arith, inside)) none
-          in
-          let clear : NoneCame first last = λ other from to come. grind arith in
+          let (last, high, within, above, after) =
+          last_free left byte (omega (arith, inside)) none in
+          let clear : NoneCame first last = λ other from to. elim (cases_lt byte other) [
+            | inl more ↦ above other (omega (arith, more)) to
+            | inr not ↦ below other from not
+          ] in
           let free : IsFree (range_inclusive first last) =
           free_bytes (Included first) last (omega (arith, low, inside, fits))
-          (omega (arith, low, high))
-          within clear in
-          let widest = λ (other : AnyRange ℕ) (its : IsFree other)
-          (wider : LiesIn u64_order (range_inclusive first last) other).
-          let starts = start_by other.start first its.known.0 (omega (arith, low, inside, fits))
-          wider.starts in
-          let ends = end_past other.end last (omega (arith, within, fits)) wider.ends in
-          let its_end = end_inside other.end bytes.size its.known.1 fits its.within.ends in
-          let come = before (first - 1) in
-          let left = free_none other its (first - 1) in
-          let right = free_none other its (last + 1) in
-          let answer : LiesIn u64_order other (range_inclusive first last) =
-          grind (arith, starts_from, ends_by) in answer in
-          (first, last, low, within, (free, widest))
+          (omega (arith, low, high)) within clear in (
+            first,
+            last,
+            low,
+            within,
+            (
+              free,
+              λ other its wider.
+                  let starts = start_by other.start first its.known.0 (omega (arith, low, inside, fits))
+                  wider.starts in
+                  let ends = end_past other.end last (omega (arith, within, fits)) wider.ends in
+                  let its_end = end_inside other.end bytes.size its.known.1 fits its.within.ends in
+                  record {
+                    starts = elim (cases_lt (first_of other.start) first) [
+                      | inl less ↦
+                          let come = before (first - 1) (omega (arith, less)) in
+                          absurd (free_none other its (first - 1) (omega (arith, low, inside))
+                          (omega (arith, less)) (omega (arith, ends, low, high)) come)
+                      | inr not ↦ starts_from other.start first not (omega (arith, low, inside, fits))
+                    ];
+                    ends = elim (cases_lt (last + 1) (past_of other.end)) [
+                      | inl less ↦
+                          let come = after (omega (arith, less, its_end)) in
+                          absurd (free_none other its (last + 1) (omega (arith, less, its_end))
+                          (omega (arith, starts, low, high)) less come)
+                      | inr not ↦ ends_by other.end last not (omega (arith, within, fits))
+                    ];
+                  },
+            ),
+          )
 
       -- all bytes have come where no part of the file is free
       pub all_come : ((part : AnyRange ℕ) → ¬ IsFree part) → IsWhole bytes
       all_come none byte inside = elim (come_or_not bytes.come byte) [
         | inl come ↦ come
-        | inr free ↦ absurd (none _ (free_bytes (Included byte) byte (omega (arith, inside, fits))
-            (omega arith) inside (just_one byte free)))
+        | inr free ↦
+            absurd (none (up_to (Included byte) byte) (free_bytes (Included byte) byte
+            (omega (arith, inside, fits)) (omega arith) inside (just_one byte free)))
       ]
 
       -- the byte after a gap has come
@@ -282,10 +384,12 @@ module _ (bytes : Bytes) where
         | inr free ↦
             let own = gap.0 in
             let wide = some_byte part.start part.end own.known.0 own.known.1 own.nonempty in
-            let clear : NoneCame (first_of part.start) byte = λ other low high come.
-            grind (arith, free_none part own other) in
-            let further = free_bytes part.start byte own.known.0 (omega (arith, wide, is)) inside
-            clear in
+            let clear : NoneCame (first_of part.start) (byte - 1) = λ other low high.
+            free_none part own other (omega (arith, high, inside)) low
+            (omega (arith, high, wide, is)) in
+            let further =
+            free_bytes part.start byte own.known.0 (omega (arith, wide, is)) inside
+            (and_next (first_of part.start) (byte - 1) clear byte (omega (arith, wide, is)) free) in
             let back = gap.1 (up_to part.start byte) further (record {
               starts = starts_alike part.start;
               ends = ends_by part.end byte (omega (arith, is)) (omega (arith, inside, fits));
@@ -301,11 +405,19 @@ module _ (bytes : Bytes) where
           → Any (λ g. range_cmp u64_order g (range_inclusive first last) ≡ Equal) (part ∷ rest)
           → first_of part.start ≤ first
       first_gap part rest first last least each rising (inl here) =
-          start_by part.start first each.0.0.known.0 least (grind (arith, same_start))
+          start_by part.start first each.0.0.known.0 least
+          (same_start
+          (position_cmp u64_order.cmp (start_position u64_order part.start)
+          (start_position u64_order (Included first)))
+          (position_cmp u64_order.cmp (end_position u64_order part.end)
+          (end_position u64_order (Included last))) here)
       first_gap part [] first last least each rising (inr none) = absurd none
       first_gap part (next ∷ rest) first last least each rising (inr later) =
+          let free = each.0.0 in
+          let wide = some_byte part.start part.end free.known.0 free.known.1 free.nonempty in
+          let before = bytes_before part.end next.start free.known.1 each.1.0.0.known.0 rising.0 in
           let after = first_gap next rest first last least each.1 rising.1 later in
-          grind (arith, some_byte, bytes_before)
+          omega (arith, wide, before, after)
 
       -- the first gap of the file is missing
       pub is_missing : (part : AnyRange ℕ) (rest : List (AnyRange ℕ))
@@ -326,10 +438,10 @@ module _ (bytes : Bytes) where
               | inr free ↦
                   let small : byte < bytes.size = omega (arith, before, wide, inside) in
                   let (first, last, low, within, gap) = gap_around byte small free in
+                  let known : IsKnownRange u64_order (range_inclusive first last) =
+                  (omega (arith, low, small, fits), omega (arith, within, fits)) in
                   let after = first_gap part rest first last (omega (arith, low, small, fits))
-                  gaps.each
-                  gaps.rising (gaps.all (range_inclusive first last)
-                  (omega (arith, low, small, fits), omega (arith, within, fits)) gap) in
+                  gaps.each gaps.rising (gaps.all (range_inclusive first last) known gap) in
                   absurd (omega (arith, before, low, after))
             ];
             whole = λ more. come_after part (min (past_of part.end) bytes.size) gaps.each.0
@@ -340,7 +452,9 @@ module _ (bytes : Bytes) where
       pub first_fits : (part : AnyRange ℕ) (rest : List (AnyRange ℕ))
           → AreGapsWithin u64_order bytes.come file (part ∷ rest)
           → first_of part.start ≤ 18446744073709551615
-      first_fits part rest gaps = grind (arith, is_missing, fits)
+      first_fits part rest gaps = let missing = is_missing part rest gaps in
+          let some = missing.some in
+          omega (arith, some, fits)
 
 -- the bytes from the first to the last are added
 pub are_added : (before after : List (Item (AnyRange ℕ) (Unit {0}))) (first last : ℕ)
@@ -349,11 +463,25 @@ pub are_added : (before after : List (Item (AnyRange ℕ) (Unit {0}))) (first la
     → HoldsKey u64_order after byte
     ↔ (HoldsKey u64_order before byte ⊎ ((first ≤ byte) × (byte ≤ last)))
 are_added before after first last added byte key =
-    let one = added byte key in
-    let low = start_holds (Included first) byte in
-    let high = end_holds (Included last) byte in
-    let from = start_held (Included first) byte in
-    let to = end_held (Included last) byte key in grind arith
+    let one = added byte key in (
+      λ has. elim (one.0 has) [
+        | inl was ↦ inl was
+        | inr holds ↦
+            let low = start_held (Included first) byte holds.0 in
+            let high = end_held (Included last) byte key holds.1 in
+            inr (low, omega (arith, high))
+      ],
+      λ h. elim h [
+        | inl was ↦ one.1 (inl was)
+        | inr lies ↦
+            let low = lies.0 in
+            let high = lies.1 in
+            one.1 (inr (
+              start_holds (Included first) byte low,
+              end_holds (Included last) byte (omega (arith, high)),
+            ))
+      ],
+    )
 
 -- all bytes of the file are held where all keys of its range are, and nowhere else
 pub whole_is : (bytes : Bytes) → bytes.size ≤ 18446744073709551615

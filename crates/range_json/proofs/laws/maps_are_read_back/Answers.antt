@@ -1,5 +1,8 @@
-use Rattle.std.proofs.Common.{arith, sym, ◌∙◌}
-use Rattle.range_json.proofs.Common.{Equal-is, list_back}
+use Rattle.std.proofs.Common.{sym, subst, ◌∙◌, map}
+use Rattle.std.specs.Cmp.{Equal-is}
+use Rattle.range_json.specs.Shapes.{pair_shape, range_shape}
+use Rattle.range_json.specs.MapFaults.{IsFirstFault}
+use Rattle.range_json.specs.SetReadBack.{list_back}
 use Rattle.range_json.proofs.ReadingBack.{map_back, map_sound}
 use Rattle.range_json.proofs.laws.maps_are_read_back.Goals as goal
 
@@ -17,7 +20,12 @@ returns-clause-sound g c =
     g.met.K.ReadsBack.reads_written g.met.K.PartialEnum.lawful g.V.PartialEq.eq g.met.V.Eq.laws
     g.V.Json.shape g.V.Json.reads g.V.Json.is_value g.V.Json.is_read
     g.met.V.ReadsBack.reads_back g.met.V.ReadsBack.reads_written items v stored e
-    (grind (arith, list_back))
+    (subst (λ ds.
+    IsFirstFault order g.K.Json.reads g.V.Json.reads g.K.Json.is_read g.V.Json.is_read ds
+    e)
+    (list_back
+    (map (λ i. pair_shape (range_shape g.K.Json.shape i.key) (g.V.Json.shape i.value)) items))
+    fault)
 
 pub returns-clause-equal : goal.returns-clause-equal
 returns-clause-equal g c =

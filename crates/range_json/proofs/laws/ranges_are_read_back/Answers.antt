@@ -1,5 +1,7 @@
 use Rattle.std.proofs.Common.{◌≡◌, sym, ◌∙◌}
-use Rattle.range_json.proofs.Common.{Equal-is, Equal, range_clone}
+use Rattle.std.specs.Cmp.{Equal-is}
+use Rattle.std.specs.declared.cmp.Ordering.TheVariants.{Equal}
+use Rattle.range_algebra.specs.Clones.{range_clone}
 use Rattle.range_json.proofs.ReadingBack.{range_sound, bounds_back}
 use Rattle.range_json.proofs.laws.ranges_are_read_back.Goals as goal
 

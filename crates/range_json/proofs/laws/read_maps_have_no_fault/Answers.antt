@@ -1,5 +1,6 @@
 use Rattle.std.proofs.Common.{sym, ◌∙◌}
-use Rattle.range_json.proofs.Common.{Equal-is, Data}
+use Rattle.std.specs.Cmp.{Equal-is}
+use Rattle.serde_json.specs.Data.{Data}
 use Rattle.range_json.proofs.Exact.{no_fault}
 use Rattle.range_json.proofs.laws.read_maps_have_no_fault.Goals as goal
 

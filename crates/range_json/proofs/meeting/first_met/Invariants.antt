@@ -1,5 +1,8 @@
 use Rattle.std.proofs.Common.{take}
-use Rattle.range_json.proofs.Common.{AllByRecursion, view, HasOneReading, all_views, NeverMeet}
+use Rattle.std.specs.List.{AllByRecursion}
+use Rattle.serde_json.specs.View.{view}
+use Rattle.range_json.specs.MapFaults.{HasOneReading}
+use Rattle.range_json.specs.Meetings.{all_views, NeverMeet}
 use Rattle.range_json.proofs.meeting.first_met.Given as goal
 
 abbrev pub invariant-loop-index : goal.invariant-loop-index

@@ -1,5 +1,6 @@
 use Rattle.std.proofs.Common.{◌≡◌, length}
-use Rattle.range_json.proofs.Common.{members_view, are_known}
+use Rattle.serde_json.specs.View.{members_view}
+use Rattle.range_json.specs.MapFaults.{are_known}
 use Rattle.range_json.proofs.version.has_known_members.Given as goal
 
 abbrev pub invariant-loop-name : goal.invariant-loop-name

@@ -1,8 +1,8 @@
-use Rattle.std.proofs.Common.{refl, rules, arith}
+use Rattle.std.proofs.Common.{refl, rules, map, arith}
 use Rattle.serde_json.specs.View.{view}
 use Rattle.range_map_json.proofs.BoundElements.{none_bound, one_more_alike}
 use Rattle.range_map_json.proofs.ElementLoop.{one_read, reading_begun, reading_ended}
-use Rattle.range_map_json.proofs.MapReading.{map_fails, map_meets}
+use Rattle.range_map_json.proofs.MapReading.{are_read, map_fails, map_meets}
 use Rattle.range_map_json.proofs.map.map_from_json.Goals as goal
 
 pub loop-index-init : goal.loop-index-init
@@ -17,12 +17,16 @@ loop-index-preserved g c =
     one_read c.in_ok-elements.elements.now c.loop-index.index c.index-elements-index.result
     (omega (arith, c.loop-index-test.true, c.loop-index.auto.index-end)) c.index-elements-index.is h
     g.met.K.PartialEnum.lawful g.met.V.Eq.laws c.in_ok-item.item refl item.sound item.read
-    done.known done.frame done.form (grind (
-      arith,
-      one_more_alike,
-      g.met.K.PartialEnum.lawful,
-      g.V.PartialEq.eq,
-    ))
+    done.known done.frame done.form (one_more_alike g.K.MaybeBounded.order
+    g.met.K.PartialEnum.lawful g.V.PartialEq.eq (items c.loop-index.map)
+    (items c.insert_element.new.map) h.elements c.in_ok-item.item h.bound (record {
+      known = done.known;
+      apart = done.apart;
+      bound = done.bound;
+      meets = done.meets;
+      frame = done.frame;
+      unchanged = done.empty_unchanged;
+    }))
 
 pub returns-in_err-item-clause-fault : goal.returns-in_err-item-clause-fault
 returns-in_err-item-clause-fault g c =
@@ -45,7 +49,17 @@ returns-in_err-insert_element-clause-fault g c =
 pub returns : goal.returns
 returns g c =
     let vs = c.in_ok-elements.elements.now in
-    grind (
-      arith,
-      reading_ended vs c.loop-index.index c.loop-index-test.false c.loop-index.invariant,
-    )
+    let whole =
+    reading_ended vs c.loop-index.index c.loop-index-test.false c.loop-index.invariant in
+    record {
+      read = record {
+        ds = map view vs;
+        elements = whole.elements;
+        whole = c.in_ok-elements.ensures.found;
+        read = are_read whole;
+        bound = whole.bound.alike;
+        kept = whole.kept;
+      };
+      form = whole.form;
+      fault = tt;
+    }

@@ -1,10 +1,14 @@
-use Rattle.std.proofs.Common.{refl, arith, []}
+use Rattle.std.proofs.Common.{refl, ap, ◌∙◌, map, arith, []}
+use Rattle.serde_json.specs.View.{view}
 use Rattle.range_map.proofs.ExtendedLists.{none_bound_after, one_bound_after}
+use Rattle.range_map_json.specs.Overwriting.{fault_of_elements}
 use Rattle.range_map_json.proofs.ElementLoop.{one_fails, one_read, reading_begun, reading_ended}
 use Rattle.range_map_json.proofs.overwriting.map_from_json_overwriting.Goals as goal
 
 pub loop-index-init : goal.loop-index-init
-loop-index-init g c = grind (arith, reading_begun, none_bound_after)
+loop-index-init g c =
+    reading_begun c.new-map.ensures refl
+    (none_bound_after g.K.MaybeBounded.order g.V.PartialEq.eq [])
 
 pub loop-index-preserved : goal.loop-index-preserved
 loop-index-preserved g c =
@@ -23,16 +27,33 @@ pub returns-in_err-item-clause-fault : goal.returns-in_err-item-clause-fault
 returns-in_err-item-clause-fault g c =
     grind (
       arith,
-      one_fails c.in_ok-elements.elements.now c.loop-index.index c.index-elements-index.result
-          (omega (arith, c.loop-index-test.true, c.loop-index.auto.index-end))
-          c.index-elements-index.is c.loop-index.invariant {e = c.in_err-item.field-0.0},
+      c.in_err-item.ensures.fault,
+      c.in_ok-elements.ensures.found,
+      c.from_residual-in_err-item.ensures,
+      one_fails c.in_ok-elements.elements.now c.loop-index.index
+          c.index-elements-index.result
+          (omega (arith, c.loop-index-test.true, c.loop-index.auto.index-end)) c.index-elements-index.is
+          c.loop-index.invariant {e = c.in_err-item.field-0.0},
     )
 
 pub returns : goal.returns
 returns g c =
     let vs = c.in_ok-elements.elements.now in
-    grind (
-      arith,
-      reading_ended vs c.loop-index.index c.loop-index-test.false c.loop-index.invariant,
-      g.V.Json.reads,
-    )
+    let whole =
+    reading_ended vs c.loop-index.index c.loop-index-test.false c.loop-index.invariant in
+    record {
+      read = record {
+        ds = map view vs;
+        elements = whole.elements;
+        whole = c.in_ok-elements.ensures.found;
+        read = whole.read;
+        known = whole.known;
+        bound = whole.bound;
+        kept = whole.kept;
+      };
+      form = whole.form;
+      sound =
+          ap (fault_of_elements g.K.Json.reads g.V.Json.reads) c.in_ok-elements.ensures.found
+          ∙ whole.sound;
+      fault = tt;
+    }

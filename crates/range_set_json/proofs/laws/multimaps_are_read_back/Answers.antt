@@ -1,8 +1,11 @@
 use Rattle.std.proofs.Common.{sym, subst, ◌∙◌, map}
-use Rattle.range_set_json.proofs.Common.{IsEmpty, Equal-is, on_equiv, pair_shape, range_shape, reads_some_values, same_values, values_shape, IsValueSet, AreValuesRead}
+use Rattle.std.specs.BTreeSet.{IsEmpty}
+use Rattle.std.specs.Cmp.{Equal-is, on_equiv}
 use Rattle.std.specs.Cmp.Lexicographic.{lists_equiv}
 use Rattle.range_json.specs.MapFaults.{IsFirstFault}
 use Rattle.range_json.specs.SetReadBack.{full_set_written, list_back, set_back}
+use Rattle.range_json.specs.Shapes.{pair_shape, range_shape}
+use Rattle.range_json.specs.ValueSets.{reads_some_values, same_values, values_shape, IsValueSet, AreValuesRead}
 use Rattle.range_json.proofs.ReadingBack.{map_back, map_sound}
 use Rattle.range_set_json.proofs.Multimaps.{full_items}
 use Rattle.range_set_json.proofs.laws.multimaps_are_read_back.Goals as goal

@@ -1,5 +1,7 @@
 use Rattle.std.proofs.Common.{sym, ◌∙◌}
-use Rattle.range_set_json.proofs.Common.{Equal-is, Data, reads_some_values, same_values, AreValuesRead}
+use Rattle.std.specs.Cmp.{Equal-is}
+use Rattle.serde_json.specs.Data.{Data}
+use Rattle.range_json.specs.ValueSets.{reads_some_values, same_values, AreValuesRead}
 use Rattle.range_json.proofs.Exact.{no_fault}
 use Rattle.range_set_json.proofs.laws.read_multimaps_have_no_fault.Goals as goal
 

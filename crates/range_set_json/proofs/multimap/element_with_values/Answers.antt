@@ -1,6 +1,7 @@
 use Rattle.std.proofs.Common.{arith, inr, ap, length}
-use Rattle.range_set_json.proofs.Common.{IsEmpty, view}
 use Rattle.std.proofs.lemmas.List.{nil_from_length}
+use Rattle.std.specs.BTreeSet.{IsEmpty}
+use Rattle.serde_json.specs.View.{view}
 use Rattle.range_set_json.proofs.Multimaps.{fault_too, empty_fault, full_sound}
 use Rattle.range_set_json.proofs.multimap.element_with_values.Goals as goal
 
@@ -8,8 +9,9 @@ pub returns-in_err-element-clause-fault : goal.returns-in_err-element-clause-fau
 returns-in_err-element-clause-fault g c =
     grind (
       arith,
+      c.in_err-element.ensures.fault,
+      c.from_residual.ensures,
       fault_too g.K.Json.reads g.V.Json.reads c.args.index (view c.args.value.now),
-      g.V.Json.reads,
     )
 
 pub returns-then-is_empty-clause-fault : goal.returns-then-is_empty-clause-fault

@@ -1,12 +1,16 @@
-use Rattle.std.proofs.Common.{refl, rules, arith}
-use Rattle.range_set_json.proofs.Common.{on_equiv, view, reads_some_values, same_values, AreValuesRead, one_read, reading_begun, reading_ended}
+use Rattle.std.proofs.Common.{refl, rules, map, arith}
+use Rattle.std.specs.Cmp.{on_equiv}
 use Rattle.std.specs.Cmp.Lexicographic.{lists_equiv}
+use Rattle.serde_json.specs.View.{view}
+use Rattle.range_json.specs.ValueSets.{reads_some_values, same_values, AreValuesRead}
 use Rattle.range_map_json.proofs.BoundElements.{none_bound, one_more_alike}
-use Rattle.range_map_json.proofs.MapReading.{map_fails, map_meets}
+use Rattle.range_map_json.proofs.ElementLoop.{one_read, reading_begun, reading_ended}
+use Rattle.range_map_json.proofs.MapReading.{are_read, map_fails, map_meets}
 use Rattle.range_set_json.proofs.multimap.multimap_from_json.Goals as goal
 
 pub loop-index-init : goal.loop-index-init
-loop-index-init g c = grind (arith, reading_begun, none_bound)
+loop-index-init g c =
+    reading_begun c.new-multimap.ensures refl (none_bound g.K.MaybeBounded.order)
 
 pub loop-index-preserved : goal.loop-index-preserved
 loop-index-preserved g c =
@@ -53,10 +57,16 @@ returns-in_err-insert_values-clause-fault g c =
 pub returns-clause-read : goal.returns-clause-read
 returns-clause-read g c =
     let vs = c.in_ok-elements.elements.now in
-    grind (
-      arith,
-      reading_ended vs c.loop-index.index c.loop-index-test.false c.loop-index.invariant,
-    )
+    let whole =
+    reading_ended vs c.loop-index.index c.loop-index-test.false c.loop-index.invariant in
+    record {
+      ds = map view vs;
+      elements = whole.elements;
+      whole = c.in_ok-elements.ensures.found;
+      read = are_read whole;
+      bound = whole.bound.alike;
+      kept = whole.kept;
+    }
 
 pub returns-clause-form : goal.returns-clause-form
 returns-clause-form g c = c.loop-index.invariant.form

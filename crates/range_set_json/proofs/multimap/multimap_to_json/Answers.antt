@@ -1,10 +1,14 @@
-use Rattle.std.proofs.Common.{arith}
-use Rattle.range_set_json.proofs.Common.{are_written, one_written, writing_begun}
+use Rattle.std.proofs.Common.{◌≡◌, subst}
+use Rattle.std.specs.Prelude.{IfOk}
+use Rattle.serde_json.specs.View.{view}
+use Rattle.range_json.specs.Shapes.{versioned_shape}
 use Rattle.range_json.proofs.Writing.{on_ok}
+use Rattle.range_map_json.proofs.WritingLoop.{are_written, one_written, writing_begun}
 use Rattle.range_set_json.proofs.multimap.multimap_to_json.Goals as goal
 
 pub loop-range-init : goal.loop-range-init
-loop-range-init g c = grind (arith, writing_begun)
+loop-range-init g c =
+    writing_begun _ _ _ c.iter-items.ensures.items c.in_ok-written.ensures.items
 
 pub loop-range-preserved : goal.loop-range-preserved
 loop-range-preserved g c =
@@ -14,4 +18,11 @@ loop-range-preserved g c =
     c.in-Some.ensures.steps done.written done.values c.in_ok-push.ensures.items
 
 pub returns : goal.returns
-returns g c = grind (arith, are_written, on_ok)
+returns g c =
+    let all = are_written c.loop-range.invariant c.in_default.ensures.steps.0 in
+    let result = c.versioned.result in
+    record {
+      written =
+          subst (λ ds. IfOk result (λ v. view v ≡ versioned_shape ds)) all.0 c.versioned.ensures;
+      values = on_ok result _ all.1;
+    }

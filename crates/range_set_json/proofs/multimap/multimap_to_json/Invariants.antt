@@ -1,5 +1,8 @@
 use Rattle.std.proofs.Common.{length}
-use Rattle.range_set_json.proofs.Common.{range_shape, pair_shape, IsRangeValue, values_shape, IsValueSet, IsWrittenSoFar}
+use Rattle.range_json.specs.Shapes.{range_shape, pair_shape}
+use Rattle.range_json.specs.Values.{IsRangeValue}
+use Rattle.range_json.specs.ValueSets.{values_shape, IsValueSet}
+use Rattle.range_map_json.proofs.WritingLoop.{IsWrittenSoFar}
 use Rattle.range_set_json.proofs.multimap.multimap_to_json.Given as goal
 
 abbrev pub invariant-loop-range : goal.invariant-loop-range

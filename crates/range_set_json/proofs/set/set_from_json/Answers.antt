@@ -1,8 +1,10 @@
-use Rattle.std.proofs.Common.{refl, ◌∷◌, [], arith}
-use Rattle.range_set_json.proofs.Common.{one_fails, one_read, reading_begun, reading_ended}
+use Rattle.std.proofs.Common.{refl, ap, ◌∙◌, ◌∷◌, [], map, arith}
 use Rattle.std.proofs.lemmas.List.{map-append}
+use Rattle.serde_json.specs.View.{view}
 use Rattle.range_sets.proofs.Filling.{all_equal}
 use Rattle.range_sets.proofs.Membership.{all_of, none_added, one_more}
+use Rattle.range_map_json.proofs.ElementLoop.{one_fails, one_read, reading_begun, reading_ended}
+use Rattle.range_set_json.specs.Faults.{array_fault, range_fault}
 use Rattle.range_set_json.proofs.set.set_from_json.Goals as goal
 
 pub loop-index-init : goal.loop-index-init
@@ -26,13 +28,33 @@ returns g c =
     let vs = c.in_ok-elements.elements.now in
     let whole =
     reading_ended vs c.loop-index.index c.loop-index-test.false c.loop-index.invariant in
-    grind (arith, all_of)
+    let array = c.in_ok-elements.ensures.found in
+    record {
+      read = record {
+        ds = map view vs;
+        ranges = whole.elements;
+        whole = array;
+        read = whole.read;
+        known = whole.known;
+        held =
+            all_of g.T.MaybeBounded.order
+            (g.C.Storage.items c.loop-index.set) whole.elements whole.bound;
+        kept = whole.kept;
+      };
+      form = whole.form;
+      sound = ap (array_fault (range_fault g.T.Json.reads)) array ∙ whole.sound;
+      fault = tt;
+    }
 
 pub returns-in_err-range-clause-fault : goal.returns-in_err-range-clause-fault
 returns-in_err-range-clause-fault g c =
     grind (
       arith,
-      one_fails c.in_ok-elements.elements.now c.loop-index.index c.index-elements-index.result
-          (omega (arith, c.loop-index-test.true, c.loop-index.auto.index-end))
-          c.index-elements-index.is c.loop-index.invariant {e = c.in_err-range.field-0.0},
+      c.in_err-range.ensures.fault,
+      c.in_ok-elements.ensures.found,
+      c.from_residual-in_err-range.ensures,
+      one_fails c.in_ok-elements.elements.now c.loop-index.index
+          c.index-elements-index.result
+          (omega (arith, c.loop-index-test.true, c.loop-index.auto.index-end)) c.index-elements-index.is
+          c.loop-index.invariant {e = c.in_err-range.field-0.0},
     )

@@ -1,6 +1,7 @@
 use Rattle.std.proofs.Common.{[], take, true}
-use Rattle.range_set_json.proofs.Common.{IsReadSoFar, range_fault, range_items, IsRangeRead}
 use Rattle.range_sets.specs.KeySets.{HoldsAllAlso}
+use Rattle.range_map_json.proofs.ElementLoop.{IsReadSoFar}
+use Rattle.range_set_json.specs.Faults.{range_fault, range_items, IsRangeRead}
 use Rattle.range_set_json.proofs.set.set_from_json.Given as goal
 
 -- the list holds just the keys of the ranges

@@ -1,7 +1,10 @@
 use Rattle.std.proofs.Common.{ap, ◌∙◌}
-use Rattle.range_set_json.proofs.Common.{array, items_of, IsRangeValue, are_written, one_written, writing_begun}
+use Rattle.serde_json.specs.Data.{array}
+use Rattle.serde_json.specs.View.{items_of}
 use Rattle.serde_json.proofs.Views.{view-Array}
+use Rattle.range_json.specs.Values.{IsRangeValue}
 use Rattle.range_json.proofs.Writing.{by_ranges}
+use Rattle.range_map_json.proofs.WritingLoop.{are_written, one_written, writing_begun}
 use Rattle.range_set_json.proofs.set.set_to_json.Goals as goal
 
 pub returns : goal.returns

@@ -1,6 +1,8 @@
 use Rattle.std.proofs.Common.{length}
-use Rattle.range_set_json.proofs.Common.{range_shape, IsRangeValue, IsWrittenSoFar}
+use Rattle.range_json.specs.Shapes.{range_shape}
+use Rattle.range_json.specs.Values.{IsRangeValue}
 use Rattle.range_reads.specs.FreeRanges.{item_ranges}
+use Rattle.range_map_json.proofs.WritingLoop.{IsWrittenSoFar}
 use Rattle.range_set_json.proofs.set.set_to_json.Given as goal
 
 abbrev pub invariant-loop-range : goal.invariant-loop-range

@@ -8,5 +8,7 @@ use Rattle.bookings.proofs.calendar.Calendar.bookings_in.Goals as goal
 pub returns-clause-met : goal.returns-clause-met
 returns-clause-met c =
     rw (← c.self.view_is)
-    (are_in_the_way _ _ _ (rw c.iter-bookings.ensures.items at c.iter-bookings.ensures.form)
+    (are_in_the_way _ _ _
+    (subst (IsStored u32_order string_eq) c.iter-bookings.ensures.items
+    c.iter-bookings.ensures.form)
     (omega arith, omega arith) c.overlapping.ensures.empty c.overlapping.ensures.items)

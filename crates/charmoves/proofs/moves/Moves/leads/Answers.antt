@@ -20,7 +20,9 @@ pub loop-state-preserved : goal.loop-state-preserved
 loop-state-preserved c =
     λ d q is.
     let turn = rest_more deref _ _ _ _ c.in-Some.is c.next.ensures.steps in
-    grind (arith, c.in_default.not-Some, gathered_more, c.loop-state.invariant d q is)
+    let none = c.in_default.not-Some in
+    gathered_more (λ p. HasRule (rules_of c.args.self.now) p d q) c.args.states.now.keys _ _
+    c.in-Some.state.now _ _ turn (grind (arith, none)) (c.loop-state.invariant d q is)
 
 pub returns : goal.returns
 returns c = record {

@@ -1,5 +1,4 @@
 use Rattle.std.proofs.Common.{◌≡◌, refl, ◌+◌, [], ◌∷◌, ◌++◌, arith}
-use Rattle.std.proofs.lemmas.Grind.{common_steps}
 use Rattle.std.proofs.Math.Seq.{take-nil}
 use Rattle.std.proofs.lemmas.Iterator.{YieldsList-from_chars}
 use Rattle.charmoves.specs.Automata.{rules_of, HasRule, IsStart, Accepts}
@@ -25,7 +24,9 @@ returns-then-is_empty c =
     let best =
     longest_stays (Accepts rules) read rest c.in-Some.c c.loop-c.longest (λ k. never _)
     c.loop-c.invariant.best in
-    grind (arith, common_steps, longest_by_bytes, c.utf8.text)
+    record {
+      longest = longest_by_bytes (Accepts rules) text c.utf8.text c.loop-c.longest (rw split best);
+    }
 
 pub overflow_add-len : goal.overflow_add-len
 overflow_add-len c =
@@ -80,4 +81,8 @@ returns c =
     let all = YieldsList-from_chars text c.utf8.text cc in
     let whole =
     read_all all c.loop-c.yielded _ c.loop-c.yielded_by _ _ c.in-None.is c.next.ensures.steps in
-    grind (arith, common_steps, c.loop-c.invariant.best, longest_by_bytes, c.utf8.text)
+    let best = rw whole at c.loop-c.invariant.best in
+    record {
+      longest = longest_by_bytes (Accepts (rules_of c.args.self.now)) text c.utf8.text
+          c.loop-c.longest best;
+    }

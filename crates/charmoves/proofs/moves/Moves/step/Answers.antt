@@ -21,7 +21,8 @@ loop-state-preserved-in-Continue-1 c =
     fact_from_extend {steps = TakesFirst deref}
     {all = targets.keys} deref c.extend.result c.extend.ensures.ran
     (λ it b. YieldsList-from_rest targets.keys b.0)
-    (λ xs e h q. grind (arith, h.0 q)) in
+    (λ xs e h q. h.0 q
+    ∙ ap (λ ks. contains nat_cmp before q || list_any (eq_by_cmp nat_cmp q) ks) e) in
     let turn = rest_more deref _ _ _ _ c.in-Some.is c.next.ensures.steps in
     λ q.
     let led = rw c.in-Some-targets.is at (c.targets.ensures q) in

@@ -1,6 +1,4 @@
 use Rattle.std.proofs.Common.{refl}
-use Rattle.std.proofs.Common.{arith}
-use Rattle.std.proofs.lemmas.Grind.{common_steps}
 use Rattle.std.proofs.lemmas.Result.{on_ok_weaker}
 use Rattle.charmoves.proofs.Adding.{on_err, rule_added, rules_kept}
 use Rattle.charmoves.proofs.rules.Rules.add.Goals as goal
@@ -24,7 +22,9 @@ returns-in-Some-clause-refused g c =
     let before = c.args.self.now in
     let after = record before { transitions = c.get_mut.follows.lender new } in
     let updates = ((c.get_mut.follows.holds new).3 (rw (← was) refl)).0 in
-    grind (arith, common_steps, on_err, c.insert.ensures.refused, rules_kept)
+    on_err c.insert.result c.insert.ensures.refused
+    (λ same. rules_kept before after c.args.from new updates
+    (λ ch q. rw (← was, same) (λ h. h, λ h. h)))
 
 pub returns-in-Ok-clause-added : goal.returns-in-Ok-clause-added
 returns-in-Ok-clause-added g c =

@@ -1,5 +1,6 @@
 use Rattle.std.proofs.Common.{length}
-use Rattle.range_multimaps.proofs.Common.{HasPairsOfFirstAlone, IsPartWay}
+use Rattle.range_multimaps.specs.Pairs.{HasPairsOfFirstAlone}
+use Rattle.range_map.proofs.PartWay.{IsPartWay}
 use Rattle.range_multimaps.proofs.multimap.RangeMultiMap.difference.Given as goal
 
 abbrev pub invariant-loop-range : goal.invariant-loop-range

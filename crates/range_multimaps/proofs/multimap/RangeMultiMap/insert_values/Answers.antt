@@ -14,6 +14,9 @@ returns g c =
     g.met.S.SetMut.equal_same now g.met.K.PartialEnum.lawful once next_once (g.S.SetMut.has c.args.values.now)
     (λ old answer m. rw m.shows at m.says.1.0))
 
+pub returns-in-Err : goal.returns-in-Err
+returns-in-Err g c = tt
+
 pub invariant_of-self-2 : goal.invariant_of-self-2
 invariant_of-self-2 g c =
     stays_full g.K.MaybeBounded.order g.met.S.Eq.laws g.met.S.MaybeEmpty.void_equal
@@ -23,6 +26,9 @@ invariant_of-self-2 g c =
 
 pub invariant_of-self : goal.invariant_of-self
 invariant_of-self g c = rw c.in-Err.ensures.refused c.self.invariant
+
+pub update-requires-clause-keys : goal.update-requires-clause-keys
+update-requires-clause-keys g c = c.requires.keys
 
 pub update-requires-clause-values : goal.update-requires-clause-values
 update-requires-clause-values g c = g.met.S.SetMut.clones_equal c.requires.values

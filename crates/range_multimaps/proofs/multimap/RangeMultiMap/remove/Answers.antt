@@ -1,5 +1,6 @@
 use Rattle.std.proofs.Common.{rules, refl, arith}
-use Rattle.range_multimaps.proofs.Common.{HasPair, every_one}
+use Rattle.range_multimaps.specs.Pairs.{HasPair}
+use Rattle.range_map.proofs.ClosureAnswers.{every_one}
 use Rattle.range_multimaps.proofs.Keeping.{removed_is_not_had, gave_way_to_such}
 use Rattle.range_multimaps.proofs.Pairing.{removed, values_at, full_some, stay_bound, stays_full, not_refused}
 use Rattle.range_multimaps.proofs.multimap.RangeMultiMap.remove.Goals as goal
@@ -60,6 +61,9 @@ invariant_of-self-2 g c =
     stays_full g.K.MaybeBounded.order g.met.S.Eq.laws g.met.S.MaybeEmpty.void_equal
     (not_refused c.update.result c.update.ensures.updated c.in_default.not-Err)
     (λ old answer m. m.says.1.1.0) c.self.invariant c.update.ensures.empty_unchanged
+
+pub update-requires-clause-keys : goal.update-requires-clause-keys
+update-requires-clause-keys g c = c.requires.keys
 
 pub update-requires-clause-values : goal.update-requires-clause-values
 update-requires-clause-values g c = g.met.S.SetMut.clones_equal c.requires.values

@@ -1,6 +1,8 @@
-use Rattle.std.proofs.Common.{arith}
-use Rattle.range_multimaps.proofs.Common.{AnyRange, Item, HasPairsOfEither, set_out, one_done, arrived}
+use Rattle.range_algebra.specs.declared.any.AnyRange.{AnyRange}
+use Rattle.range_store.specs.declared.storage.Item.{Item}
+use Rattle.range_multimaps.specs.Pairs.{HasPairsOfEither}
 use Rattle.range_multimaps.proofs.PairsTogether.{none_united, one_united, next_is_full}
+use Rattle.range_map.proofs.PartWay.{set_out, one_done, arrived}
 use Rattle.range_multimaps.proofs.multimap.RangeMultiMap.union.Goals as goal
 
 pub loop-range-init : goal.loop-range-init
@@ -12,7 +14,9 @@ loop-range-init g c =
     rw c.iter-items.ensures.items
     (set_out (λ done. HasPairsOfEither order has items done copy)
     (g.D.Storage.items c.args.other.now)
-    (grind (arith, none_united, g.met.K.PartialEnum.lawful, g.met.S.SetMut.equal_same)))
+    (none_united order has g.met.K.PartialEnum.lawful g.S.PartialEq.eq g.met.S.SetMut.equal_same
+    copy
+    items c.in_ok-new.ensures.equal))
 
 pub loop-range-preserved : goal.loop-range-preserved
 loop-range-preserved g c =

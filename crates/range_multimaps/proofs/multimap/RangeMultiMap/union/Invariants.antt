@@ -1,5 +1,6 @@
 use Rattle.std.proofs.Common.{length}
-use Rattle.range_multimaps.proofs.Common.{HasPairsOfEither, IsPartWay}
+use Rattle.range_multimaps.specs.Pairs.{HasPairsOfEither}
+use Rattle.range_map.proofs.PartWay.{IsPartWay}
 use Rattle.range_multimaps.proofs.multimap.RangeMultiMap.union.Given as goal
 
 abbrev pub invariant-loop-range : goal.invariant-loop-range

@@ -1,5 +1,7 @@
 use Rattle.std.proofs.Common.{refl, true, rules}
-use Rattle.range_sets.proofs.Common.{on_ok_weaker, on_err_weaker, IsOverlaid, HoldsEither}
+use Rattle.std.proofs.lemmas.Result.{on_ok_weaker, on_err_weaker}
+use Rattle.range_map.specs.Overlays.{IsOverlaid}
+use Rattle.range_sets.specs.TwoSets.{HoldsEither}
 use Rattle.range_sets.proofs.InPlace.{before_one, either}
 use Rattle.range_sets.proofs.set.RangeSet.extend_from.Goals as goal
 

@@ -1,27 +1,42 @@
-use Rattle.std.proofs.Common.{arith, refl, true}
-use Rattle.range_sets.proofs.Common.{on_ok_weaker, added}
+use Rattle.std.proofs.Common.{refl, true, rules}
+use Rattle.std.proofs.lemmas.Result.{on_ok_weaker}
 use Rattle.range_sets.proofs.Counting.{one_more}
+use Rattle.range_set_extend.proofs.Membership.{added}
 use Rattle.range_sets.proofs.set.RangeSet.insert_counted.Goals as goal
 
-pub returns-clause-added : goal.returns-clause-added
-returns-clause-added g c =
+pub returns : goal.returns
+returns g c =
     let items = g.C.Storage.items in
-    rw (← c.self.view_is) (on_ok_weaker c.insert_counted.result
-    (added g.T.MaybeBounded.order g.met.T.PartialEnum.lawful (λ _ _. true) (λ _ _. refl)
-    (items c.self.inside.map) (items c.insert_counted.new.self)
-    (g.R.AsRange.range c.args.range)) c.insert_counted.ensures.bound)
-
-pub returns-clause-few : goal.returns-clause-few
-returns-clause-few g c =
-    rw (← c.self.view_is) (one_more g.T.MaybeBounded.order c.insert_counted.result _ _ _
-    c.insert_counted.ensures.frame c.insert_counted.ensures.refused
-    c.insert_counted.ensures.empty_unchanged)
-
-pub returns-clause-succeeds : goal.returns-clause-succeeds
-returns-clause-succeeds g c = grind arith
-
-pub returns-clause-meets : goal.returns-clause-meets
-returns-clause-meets g c = rw (← c.self.view_is) c.insert_counted.ensures.meets
-
-pub returns-clause-frame : goal.returns-clause-frame
-returns-clause-frame g c = rw (← c.self.view_is) c.insert_counted.ensures.frame
+    record {
+      added =
+          rw (← c.self.view_is) (on_ok_weaker c.insert_counted.result
+          (added g.T.MaybeBounded.order g.met.T.PartialEnum.lawful (λ _ _. true) (λ _ _. refl)
+          (items c.self.inside.map) (items c.insert_counted.new.self)
+          (g.R.AsRange.range c.args.range)) c.insert_counted.ensures.bound);
+      few =
+          rw (← c.self.view_is) (one_more g.T.MaybeBounded.order c.insert_counted.result
+          (items c.self.inside.map) (items c.insert_counted.new.self)
+          (g.R.AsRange.range c.args.range) c.insert_counted.ensures.frame
+          c.insert_counted.ensures.refused c.insert_counted.ensures.empty_unchanged);
+      succeeds =
+          λ never enough.
+          c.insert_counted.ensures.succeeds never (λ _. tt) (rw (← c.self.view_is) at enough);
+      form =
+          search rules;
+      frame =
+          rw (← c.self.view_is) c.insert_counted.ensures.frame;
+      refused =
+          search rules;
+      empty =
+          search rules;
+      empty_unchanged =
+          search rules;
+      most =
+          search rules;
+      least =
+          search rules;
+      empty_uncounted =
+          search rules;
+      meets =
+          rw (← c.self.view_is) c.insert_counted.ensures.meets;
+    }

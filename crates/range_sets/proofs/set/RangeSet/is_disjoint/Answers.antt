@@ -7,7 +7,9 @@ returns-clause-meets g c = rw (← c.self.view_is, ← c.other.view_is) c.meet_n
 
 pub returns-clause-held : goal.returns-clause-held
 returns-clause-held g c =
-    grind (arith, returns-clause-meets, apart_share_none)
+    let met = returns-clause-meets g c in
+    λ apart. apart_share_none g.met.T.PartialEnum.lawful
+    (g.C.Storage.items c.args.self.now) (g.D.Storage.items c.args.other.now) (met.0 apart)
 
 pub returns-clause-complete : goal.returns-clause-complete
 returns-clause-complete g c = grind (arith, returns-clause-meets, share_none_apart)

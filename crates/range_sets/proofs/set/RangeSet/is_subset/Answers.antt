@@ -7,7 +7,9 @@ returns-clause-inside g c = rw (← c.self.view_is, ← c.other.view_is) c.lie_i
 
 pub returns-clause-held : goal.returns-clause-held
 returns-clause-held g c =
-    grind (arith, inside_binds, g.met.T.PartialEnum.lawful, g.C.Storage.items, g.D.Storage.items)
+    let met = returns-clause-inside g c in
+    λ inside. inside_binds g.met.T.PartialEnum.lawful
+    (g.C.Storage.items c.args.self.now) (g.D.Storage.items c.args.other.now) (met.0 inside)
 
 pub returns-clause-complete : goal.returns-clause-complete
 returns-clause-complete g c = grind (arith, binds_inside, returns-clause-inside)

@@ -1,5 +1,7 @@
 use Rattle.std.proofs.Common.{refl, true, rules}
-use Rattle.range_sets.proofs.Common.{on_ok_weaker, on_err_weaker, IsWithout, HoldsFirstAlone}
+use Rattle.std.proofs.lemmas.Result.{on_ok_weaker, on_err_weaker}
+use Rattle.range_map.specs.Overlays.{IsWithout}
+use Rattle.range_sets.specs.TwoSets.{HoldsFirstAlone}
 use Rattle.range_sets.proofs.InPlace.{before_one, first_alone}
 use Rattle.range_sets.proofs.set.RangeSet.remove_all.Goals as goal
 

@@ -12,22 +12,19 @@ retain-requires g c =
     (λ s a r t i e. let made : Called g.F.FnMut s.0 (a.0, tt) r t.0 = search (rules, of_calls) in
     mut_next g.F.FnMut s.0 (a.0, tt) r t.0 t.0 made refl i) _ c.requires
 
-pub returns-clause-filtered : goal.returns-clause-filtered
-returns-clause-filtered g c =
+pub returns : goal.returns
+returns g c =
     let items = g.C.Storage.items in
-    rw (← c.self.view_is) (ranges_filtered (λ s. s.0) _ (CalledAt g.F.FnMut)
-    (grind arith) _ (items c.self.inside.map) (items c.retain.new.self)
-    c.retain.ensures.filtered)
-
-pub returns-clause-kept : goal.returns-clause-kept
-returns-clause-kept g c =
-    let items = g.C.Storage.items in
-    rw (← c.self.view_is) (still_held g.T.MaybeBounded.order g.met.T.PartialEnum.lawful
-    (λ _ _. true) (λ _ _. refl) (items c.self.inside.map) (items c.retain.new.self)
-    c.retain.ensures.kept)
-
-pub returns-clause-few : goal.returns-clause-few
-returns-clause-few g c = rw (← c.self.view_is) c.retain.ensures.few
-
-pub returns-clause-space : goal.returns-clause-space
-returns-clause-space g c = rw (← c.self.view_is) c.retain.ensures.space
+    record {
+      form = c.retain.ensures.form;
+      few = rw (← c.self.view_is) c.retain.ensures.few;
+      space = rw (← c.self.view_is) c.retain.ensures.space;
+      filtered =
+          rw (← c.self.view_is) (ranges_filtered (λ s. s.0) _ (CalledAt g.F.FnMut)
+          (grind arith) _ (items c.self.inside.map) (items c.retain.new.self)
+          c.retain.ensures.filtered);
+      kept =
+          rw (← c.self.view_is) (still_held g.T.MaybeBounded.order g.met.T.PartialEnum.lawful
+          (λ _ _. true) (λ _ _. refl) (items c.self.inside.map) (items c.retain.new.self)
+          c.retain.ensures.kept);
+    }

@@ -1,5 +1,7 @@
-use Rattle.std.proofs.Common.{arith, refl, true, rules}
-use Rattle.range_sets.proofs.Common.{on_ok_weaker, on_err_weaker}
+use Rattle.std.proofs.Common.{refl, true, rules}
+use Rattle.std.proofs.lemmas.Result.{on_ok_weaker, on_err_weaker}
+use Rattle.range_map.specs.PartWay.{AreUnboundAfter}
+use Rattle.range_set_extend.specs.KeySets.{HoldsWithoutAll}
 use Rattle.range_sets.proofs.InPlace.{before_one_gap, both, without_all}
 use Rattle.range_sets.proofs.set.RangeSet.retain_all.Goals as goal
 
@@ -17,7 +19,9 @@ returns g c =
           c.retain_all.ensures.bound);
       refused =
           rw (← c.self.view_is, ← c.other.view_is) (on_err_weaker c.retain_all.result
-          (grind (arith, before_one_gap, without_all))
+          (before_one_gap order (AreUnboundAfter order (λ _ _. true) first now)
+          (HoldsWithoutAll order first now) others
+          (without_all order lawful (λ _ _. true) (λ _ _. refl) first now))
           c.retain_all.ensures.refused);
       form =
           search rules;

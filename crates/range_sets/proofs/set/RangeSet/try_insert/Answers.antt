@@ -1,33 +1,37 @@
-use Rattle.std.proofs.Common.{refl, true, arith}
+use Rattle.std.proofs.Common.{rules, refl, true, arith}
 use Rattle.std.proofs.lemmas.Bool.{false≢true}
 use Rattle.range_sets.proofs.Counting.{one_more}
 use Rattle.range_set_extend.proofs.Membership.{added}
 use Rattle.range_sets.proofs.set.RangeSet.try_insert.Goals as goal
 use Rattle.range_sets.proofs.set.RangeSet.try_insert.Goals.{in-Ok, in-Err-Occupied, in-Err-Memory}
 
-pub returns-clause-succeeds : goal.returns-clause-succeeds
-returns-clause-succeeds g c = λ enough unmet. grind (arith, false≢true)
-
-pub returns-clause-added : goal.returns-clause-added
-returns-clause-added g c =
+pub returns : goal.returns
+returns g c =
     let items = g.C.Storage.items in
-    rw (← c.self.view_is) (elim c.match-try_insert.branch [
-      | in-Ok w ↦
-          rw w.result-is (added g.T.MaybeBounded.order g.met.T.PartialEnum.lawful
-          (λ _ _. true)
-          (λ _ _. refl) (items c.self.inside.map) (items c.try_insert.new.self)
-          (g.R.AsRange.range c.args.range) w.in-Ok.ensures.bound)
-      | in-Err-Occupied w ↦ rw w.result-is tt
-      | in-Err-Memory w ↦ rw w.result-is tt
-    ])
-
-pub returns-clause-meets : goal.returns-clause-meets
-returns-clause-meets g c =
-    rw (← c.self.view_is) (elim c.match-try_insert.branch [
-      | in-Ok w ↦ rw w.result-is w.in-Ok.ensures.meets
-      | in-Err-Occupied w ↦ rw w.result-is tt
-      | in-Err-Memory w ↦ rw w.result-is tt
-    ])
-
-pub returns-clause-few : goal.returns-clause-few
-returns-clause-few g c = grind (arith, one_more)
+    record {
+      occupied = search rules;
+      given = search rules;
+      form = search rules;
+      frame = search rules;
+      refused = search rules;
+      succeeds = λ enough unmet. grind (arith, false≢true);
+      empty = search rules;
+      empty_unchanged = search rules;
+      added =
+          rw (← c.self.view_is) (elim c.match-try_insert.branch [
+            | in-Ok w ↦
+                rw w.result-is (added g.T.MaybeBounded.order g.met.T.PartialEnum.lawful
+                (λ _ _. true)
+                (λ _ _. refl) (items c.self.inside.map) (items c.try_insert.new.self)
+                (g.R.AsRange.range c.args.range) w.in-Ok.ensures.bound)
+            | in-Err-Occupied w ↦ rw w.result-is tt
+            | in-Err-Memory w ↦ rw w.result-is tt
+          ]);
+      meets =
+          rw (← c.self.view_is) (elim c.match-try_insert.branch [
+            | in-Ok w ↦ rw w.result-is w.in-Ok.ensures.meets
+            | in-Err-Occupied w ↦ rw w.result-is tt
+            | in-Err-Memory w ↦ rw w.result-is tt
+          ]);
+      few = grind (arith, one_more);
+    }

@@ -1,5 +1,6 @@
 use Rattle.std.proofs.Common.{subst, rules, ◌≡◌, ◌∷◌}
-use Rattle.range_sets.proofs.Common.{IsOk, item_ranges}
+use Rattle.std.specs.Prelude.{IsOk}
+use Rattle.range_reads.specs.FreeRanges.{item_ranges}
 use Rattle.range_sets.proofs.Showing.{HasShown, shown_none, shown_more}
 use Rattle.range_sets.proofs.set.text.write_ranges.Goals as goal
 
@@ -22,3 +23,12 @@ loop-range-preserved g c =
     c.loop-range.f) step c.loop-range.invariant in
     shown_more g.T.Debug.debug_output g.W.Write.write_str_gives all left range c.args.f.now
     c.loop-range.f c.fmt.new.f c.fmt.result shown c.fmt.ensures.writes ok
+
+pub returns : goal.returns
+returns g c = search rules
+
+pub returns-in_err-fmt : goal.returns-in_err-fmt
+returns-in_err-fmt g c = search rules
+
+pub loop-range-smaller : goal.loop-range-smaller
+loop-range-smaller g c = search rules

@@ -1,5 +1,7 @@
-use Rattle.std.proofs.Common.{arith, ◌↔◌, IsTrue, rules, sym}
-use Rattle.range_sets.proofs.Common.{bound_of, start_position, position_cmp, Le, lower}
+use Rattle.std.proofs.Common.{◌↔◌, IsTrue, rules, sym}
+use Rattle.range_keys.specs.Position.{bound_of, start_position, position_cmp}
+use Rattle.range_algebra.specs.Intervals.{Le}
+use Rattle.range_algebra.specs.Cuts.{lower}
 use Rattle.range_sets.proofs.Uniting.{reaches_turned, all_reach}
 use Rattle.range_sets.proofs.set.union.reaches.Goals as goal
 
@@ -15,4 +17,7 @@ returns-in-Some-flip g c =
 
 pub returns-in-None-flip : goal.returns-in-None-flip
 returns-in-None-flip g c =
-    grind (arith, all_reach, g.met.T.PartialEnum.lawful)
+    let reached =
+    all_reach g.met.T.PartialEnum.lawful (bound_of c.args.end) c.args.range.now c.requires
+    (sym c.in-None-flip.ensures) in
+    (λ _. reached, λ _. search rules)

@@ -1,5 +1,9 @@
 use Rattle.std.proofs.Common.{◌∙◌, sym}
-use Rattle.range_sets.proofs.Common.{option_copied, on_ok_weaker, bound_clone, range_of, clones_tied}
+use Rattle.std.specs.Option.{option_copied}
+use Rattle.std.proofs.lemmas.Result.{on_ok_weaker}
+use Rattle.range_algebra.specs.Clones.{bound_clone}
+use Rattle.range_algebra.specs.References.{range_of}
+use Rattle.range_map.proofs.CloneLists.{clones_tied}
 use Rattle.range_sets.proofs.Uniting.{stepped, drained, nothing_ahead, first_placed, united_none, united_first, united_left, united_right, united_all}
 use Rattle.range_sets.proofs.set.union.unite.Goals as goal
 

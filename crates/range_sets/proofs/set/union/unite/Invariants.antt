@@ -1,5 +1,7 @@
 use Rattle.std.proofs.Common.{◌≡◌, ◌+◌, length, [], None}
-use Rattle.range_sets.proofs.Common.{option_copied, IsLawful, range_of}
+use Rattle.std.specs.Option.{option_copied}
+use Rattle.range_keys.specs.Order.{IsLawful}
+use Rattle.range_algebra.specs.References.{range_of}
 use Rattle.range_sets.proofs.Uniting.{IsUnitedUpTo, ahead}
 use Rattle.range_sets.proofs.set.union.unite.Given as goal
 
