@@ -30,10 +30,7 @@ module _ (HasStep : ℕ → ℕ → ℕ → Type 0) (IsStart : ℕ → Type 0) (
     pub has : IfSome longest (λ m. (0 < m.len) × IsAcceptedFront (IsFirstFor m.rule) cs m.len)
 
   pub best_none : IsBest [] None
-  best_none = record {
-    most = λ rule n some h. grind (arith, front_fits (Accepts rule) [] n h);
-    has = tt;
-  }
+  best_none = grind arith
 
   module _ (read : List ℕ) (states : BTreeSet ℕ) (after : AreAfter HasStep IsStart read states)
     where
@@ -52,8 +49,7 @@ module _ (HasStep : ℕ → ℕ → ℕ → Type 0) (IsStart : ℕ → Type 0) (
       never_through : (c : ℕ) → ((p q : ℕ) → IsTrue (contains nat_cmp states p) → ¬ HasStep p c q)
           → (more : List ℕ) (rule : ℕ) → ¬ Accepts rule (read ++ c ∷ more)
       never_through c none more rule by =
-          not_there by
-          (λ path. grind (arith, after, path_in_parts HasStep read (c ∷ more) path.0 path.1))
+          grind (arith, common_steps, not_there, path_in_parts) steps 2000000
 
   -- a character more, with which the whole is a token
   pub best_grows : (read : List ℕ) (c : ℕ) (states : BTreeSet ℕ) (found : Option ℕ) (rule len : ℕ)

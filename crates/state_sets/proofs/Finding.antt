@@ -1,5 +1,6 @@
 -- Sets of states that are found again, and one more behind the others.
 use Rattle.std.proofs.Common.{◌≡◌, ◌↔◌, ℕ, true, cond, List, [], ◌∷◌, ◌++◌, length, Option, Some, None, BTreeSet, arith}
+use Rattle.std.proofs.lemmas.Grind.{common_steps}
 use Rattle.std.specs.Prelude.{IfNone}
 use Rattle.std.specs.Ordering.{nat_cmp, is_eq}
 use Rattle.std.specs.BTreeMap as map
@@ -22,9 +23,7 @@ pub not_found_new : (sets : Sets) (set : BTreeSet ℕ) → AreFound sets → IsO
 not_found_new sets set are ordered (Some i) is = tt
 not_found_new sets set are ordered None is = λ i other at alike.
     let other_ordered = are.ordered i other at in
-    let same =
-    btree_set_from_contains nat_cmp_total other set other_ordered ordered alike exact_unsigned in
-    grind (arith, are.found i other at)
+    grind (arith, common_steps, btree_set_from_contains, nat_cmp_total, exact_unsigned, are.found)
 
 pub added_index : (before after : List (BTreeSet ℕ)) (set copy : BTreeSet ℕ)
     → after ≡ before ++ copy ∷ [] → copy.keys ≡ set.keys → IsIndexOf after set (length before)

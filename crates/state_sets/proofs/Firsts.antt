@@ -22,8 +22,6 @@ module _ (rule_at : BTreeMap ℕ ℕ) where
 
   module _ (states : List ℕ) (first : Option ℕ) (p : ℕ) (rest left : List ℕ)
       (turn : left ≡ p ∷ rest) (was : IsFirstSoFar states first left) where
-    pub first_passes : map.get nat_cmp rule_at p ≡ None → IsFirstSoFar states first rest
-    first_passes none = grind (arith, nat_tests)
 
     pub first_more : (rule new : ℕ) → map.get nat_cmp rule_at p ≡ Some rule → new ≤ rule
         → IfSome first (λ other. new ≤ other) → ((new ≡ rule) ⊎ (first ≡ Some new))

@@ -9,7 +9,7 @@ use Rattle.std.proofs.lemmas.Str.{encodes-append, chars-append, chars-encodes, e
 use Rattle.state_sets.specs.Beginnings.{AcceptsFirst}
 use Rattle.state_sets.proofs.Reading.{bytes_of, bytes_of-append}
 
-scalars_in_parts : (xs ys : List ℕ) → scalars (xs ++ ys) ≡ true
+pub scalars_in_parts : (xs ys : List ℕ) → scalars (xs ++ ys) ≡ true
     → (scalars xs ≡ true) × (scalars ys ≡ true)
 scalars_in_parts [] ys h = (refl, h)
 scalars_in_parts (x ∷ xs) ys h = grind (arith, scalars_in_parts xs ys)
@@ -42,7 +42,6 @@ module _ (Accepted : List ℕ → Type 0) where
     pub front_of_bytes : (n : ℕ) → AcceptsFirst Accepted text n → IsAcceptedFront (chars text) n
     front_of_bytes n (cut, accepted) =
         let front = chars (take n text) in
-        let split = take-append-drop n text in
         let parts = chars-append (take n text) (drop n text) (IsUtf8-take text n utf8 cut) in
         let coded = encodes-chars (take n text) (IsUtf8-take text n utf8 cut) in
         let same = take-append_seam front (chars (drop n text)) in

@@ -10,10 +10,7 @@ module _ (HasStep : ℕ → ℕ → ℕ → Type 0) where
   pub path_in_parts : (xs ys : List ℕ) (p q : ℕ) → LeadsTo HasStep p (xs ++ ys) q
       ↔ (s : ℕ) × LeadsTo HasStep p xs s × LeadsTo HasStep s ys q
   path_in_parts [] ys p q = grind arith
-  path_in_parts (x ∷ xs) ys p q = (
-    λ h. grind (arith, path_in_parts xs ys h.0 q),
-    λ h. grind (arith, path_in_parts xs ys h.1.0 q),
-  )
+  path_in_parts (x ∷ xs) ys p q = grind (arith, path_in_parts xs ys)
 
   pub leads_nowhere : (states reached : BTreeSet ℕ) (c : ℕ) → AreReached HasStep states c reached
       → btree_set_len reached ≡ 0
@@ -29,7 +26,4 @@ module _ (HasStep : ℕ → ℕ → ℕ → Type 0) where
         → AreAfter HasStep IsStart front states → AreReached HasStep states c next
         → AreAfter HasStep IsStart (front ++ c ∷ []) next
     after_more front states next c before reached q =
-        let parts = path_in_parts front (c ∷ []) in (
-          λ h. grind (arith, before, reached q),
-          λ h. grind (arith, before, reached q, parts h.0 q),
-        )
+        let parts = path_in_parts front (c ∷ []) in grind arith

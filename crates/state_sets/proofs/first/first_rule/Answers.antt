@@ -1,7 +1,8 @@
 use Rattle.std.proofs.Common.{sym, arith}
+use Rattle.std.proofs.lemmas.Grind.{common_steps}
 use Rattle.std.specs.Map.Iter.{deref}
 use Rattle.std.proofs.lemmas.Map.Iter.{rest_more, rest_all}
-use Rattle.state_sets.proofs.Firsts.{first_passes, first_more, first_of_all}
+use Rattle.state_sets.proofs.Firsts.{first_more, first_of_all}
 use Rattle.state_sets.proofs.first.first_rule.Goals as goal
 
 pub loop-state-preserved-in-Some-get : goal.loop-state-preserved-in-Some-get
@@ -13,9 +14,7 @@ loop-state-preserved-in-Some-get c =
 
 pub loop-state-preserved : goal.loop-state-preserved
 loop-state-preserved c =
-    let turn = rest_more deref _ _ _ _ c.in-Some.is c.next.ensures.steps in
-    let none = c.in_default.not-Some in
-    first_passes _ _ _ _ _ _ turn c.loop-state.invariant (grind arith)
+    grind arith
 
 pub returns : goal.returns
 returns c =

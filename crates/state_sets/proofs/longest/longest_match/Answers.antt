@@ -6,11 +6,7 @@ use Rattle.state_sets.proofs.Best.{best_none, best_grows, best_stays, best_when_
 use Rattle.state_sets.proofs.longest.longest_match.Goals as goal
 
 pub loop-c-init : goal.loop-c-init
-loop-c-init g c = record {
-  after = λ q. grind (arith, c.in_ok-states.ensures.starts q);
-  bytes = refl;
-  best = best_none _ _ _;
-}
+loop-c-init g c = grind arith
 
 pub returns-then-is_empty : goal.returns-then-is_empty
 returns-then-is_empty g c =
@@ -73,5 +69,4 @@ returns g c =
     let all = YieldsList-from_chars text c.utf8.text cc in
     let whole =
     read_all all c.loop-c.yielded _ c.loop-c.yielded_by _ _ c.in-None.is c.next.ensures.steps in
-    let best = rw whole at c.loop-c.invariant.best in
-    record { longest = token_of_best _ _ _ text c.utf8.text c.loop-c.longest best }
+    grind (arith, c.loop-c.invariant.best, token_of_best, c.utf8.text)

@@ -1,4 +1,5 @@
 use Rattle.std.proofs.Common.{◌≡◌, length, arith}
+use Rattle.std.proofs.lemmas.Grind.{common_steps}
 use Rattle.std.specs.List.{each_same}
 use Rattle.state_sets.proofs.Lists.{keeps_pushed}
 use Rattle.state_sets.proofs.Finding.{added_index, found_all}
@@ -21,8 +22,7 @@ returns-clause-added c =
 
 pub returns-clause-kept : goal.returns-clause-kept
 returns-clause-kept c =
-    keeps_pushed c.args.self.now.listed.items c.push.new.self.items c.in_ok-clone-2.field-0
-    c.in_ok-push.ensures.items
+    grind (arith, common_steps, keeps_pushed, c.in_ok-push.ensures.items)
 
 pub returns-clause-found : goal.returns-clause-found
 returns-clause-found c =
