@@ -22,7 +22,6 @@ module _ (rule_at : BTreeMap ℕ ℕ) where
 
   module _ (states : List ℕ) (first : Option ℕ) (p : ℕ) (rest left : List ℕ)
       (turn : left ≡ p ∷ rest) (was : IsFirstSoFar states first left) where
-
     pub first_more : (rule new : ℕ) → map.get nat_cmp rule_at p ≡ Some rule → new ≤ rule
         → IfSome first (λ other. new ≤ other) → ((new ≡ rule) ⊎ (first ≡ Some new))
         → IsFirstSoFar states (Some new) rest
