@@ -1,4 +1,4 @@
-//! Prefixes of addresses, and how numbers are divided into them.
+//! Prefixes of addresses, how numbers are divided into them, and sets but for exceptions.
 //!
 //! Where to find what:
 //!
@@ -7,10 +7,13 @@
 //!   each other without a gap: `specs/Runs.antt`
 //! - how they are divided into the widest prefixes: `src/divide.rt`, `specs/Tiles.antt`; that no
 //!   fewer prefixes have them: `proofs/{Fewest,RunTiles}.antt`
+//! - a set but for some exceptions: `src/except.rt`
 #![tactic(auto)]
 
 pub mod divide;
+pub mod except;
 pub mod prefix;
 pub mod span;
 
+pub use except::take_out;
 pub use prefix::Prefix;

@@ -7,22 +7,19 @@
 //! Where to find what:
 //!
 //! - the prefixes of a set of addresses: `src/prefixes.rt`; what they are and that no fewer have
-//!   its addresses: `address_prefixes`
+//!   its addresses, and a set but for some exceptions: `address_prefixes`
 //! - the addresses that follow each other: `src/runs.rt`, `proofs/StoredRuns.antt`; how many
 //!   addresses a set has: `src/count.rt`, `proofs/Counts.antt`
-//! - a set but for some exceptions: `src/except.rt`
 #![tactic(auto)]
 
 pub mod count;
-pub mod except;
 pub mod prefixes;
 pub mod runs;
 
 pub use address_keys::{Address, Ipv4, Ipv6};
-pub use address_prefixes::Prefix;
+pub use address_prefixes::{Prefix, except, take_out};
 use btree_range_map::RangeSet;
 pub use count::address_count;
-pub use except::take_out;
 pub use prefixes::{PrefixSet, Prefixes};
 pub use runs::{Runs, run_around, runs_of};
 

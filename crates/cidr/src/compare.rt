@@ -14,7 +14,7 @@ use std::alloc::Global;
 use std::io::{self, BufRead, Write};
 
 /// How the addresses of a list lie to those of another.
-#[derive(Clone, Copy, PartialEq, Eq, Debug)]
+#[derive(Clone, Copy)]
 pub enum Relation {
     /// They are the same.
     Equal,

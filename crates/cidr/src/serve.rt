@@ -21,7 +21,7 @@ use std::io::{self, BufRead, Write};
 use std::vec::IntoIter;
 
 /// What is made of some lists.
-#[derive(Clone, Copy, PartialEq, Eq, Debug)]
+#[derive(Clone, Copy)]
 pub enum Command {
     /// The addresses of any list.
     Merge,
@@ -36,7 +36,7 @@ pub enum Command {
 }
 
 /// The lines that are printed of addresses.
-#[derive(Clone, Copy, PartialEq, Eq, Debug)]
+#[derive(Clone, Copy)]
 pub enum Lines {
     /// The prefixes that have just these, as few as can be.
     Prefixes,
@@ -51,7 +51,7 @@ pub enum Lines {
 }
 
 /// What is printed of addresses.
-#[derive(Clone, Copy, PartialEq, Eq, Debug)]
+#[derive(Clone, Copy)]
 pub enum Form {
     Lines(Lines),
     /// An object with the set of either family, as the library writes it as JSON.
@@ -59,7 +59,7 @@ pub enum Form {
 }
 
 /// What is printed of an answer.
-#[derive(Clone, Copy, Debug)]
+#[derive(Clone, Copy)]
 pub struct Output {
     /// The family whose addresses alone are printed; `None` for both.
     pub only: Option<Family>,
@@ -67,7 +67,7 @@ pub struct Output {
 }
 
 /// How lists are read.
-#[derive(Clone, Copy, Debug)]
+#[derive(Clone, Copy)]
 pub struct Reading {
     /// A prefix whose address has bits of 1 after its length is bad.
     pub strict: bool,
