@@ -1,16 +1,19 @@
 """The gate, the same work for some crates, and all tests without a proof."""
 
 import concurrent.futures
+import contextlib
 import hashlib
 import os
+import pathlib
 import re
+import shutil
 import subprocess
 import sys
 import tempfile
 import time
 
-from tools import conversations, examples, faults, mutants
-from tools.repository import PROCESSORS, TOP, Counts, below, counted, crates, run, tell, told
+from tools import conversations, examples, faults, library, mutants
+from tools.repository import CRATES, PROCESSORS, PROVED, TOP, Counts, below, counted, crates, run, tell, told
 
 RESULT = re.compile(r"^test result: .*?(\d+) passed; (\d+) failed", re.M)
 # A check takes less than this; what `rt` expects of it, by its lines, is up to three times as much.
@@ -28,13 +31,29 @@ def lanes():
 def proofs(names):
     """Runs `rt ci`, of the crates that are named or of all, and tells all lines but those of what is proved."""
     environment = {"RT_JOBS": str(lanes()), **os.environ, "PYTHONUNBUFFERED": "1"}
-    how = {"stdout": subprocess.PIPE, "stderr": subprocess.STDOUT, "errors": "replace"}
-    whole = subprocess.Popen(["rt", "ci", *names], cwd=TOP, env=environment, **how)
-    line = ""
-    for line in map(str.rstrip, whole.stdout):
-        if not line.endswith(": proved") and not line.startswith("statements "):
-            tell(line)
-    return counted(line, whole.wait())
+    how = {"stdout": subprocess.PIPE, "stderr": subprocess.STDOUT, "errors": "replace", "env": environment}
+    with part(names) if names and not library.keeps_apart() else contextlib.nullcontext((TOP, names)) as (top, given):
+        whole = subprocess.Popen(["rt", "ci", *given], cwd=top, **how)
+        line = ""
+        for line in map(str.rstrip, whole.stdout):
+            if not line.endswith(": proved") and not line.startswith("statements "):
+                tell(line)
+        return counted(line, whole.wait())
+
+
+@contextlib.contextmanager
+def part(names):
+    """Gives a copy of the crates that are named and of those below, for a kit whose `rt ci` takes no names."""
+    every = crates()
+    chosen = set().union(*(below(every, it) for it in names))
+    with tempfile.TemporaryDirectory() as room:
+        top = pathlib.Path(room)
+        for name in chosen:
+            shutil.copytree(CRATES / name, top / "crates" / name, ignore=shutil.ignore_patterns("out", "mutants"))
+        lines = PROVED.read_text().splitlines(keepends=True)
+        (top / "crates.txt").write_text("".join(it for it in lines if re.match(r"\w*", it)[0] in chosen))
+        shutil.copy(TOP / "HANDLES", top)
+        yield top, []
 
 
 def gate():

@@ -25,6 +25,11 @@ def toolchain():
     return made
 
 
+def keeps_apart():
+    """Whether `rt ci` keeps what it proved apart, and takes the names of crates. An older kit does neither."""
+    return hasattr(toolchain(), "Kept")
+
+
 def take_proved(rt, crates, crate):
     """Gives the crates below the libraries that `rt ci` kept, and returns the name of one that it did not keep, or of the crate."""
     kept = rt.Kept(crates)
@@ -35,17 +40,34 @@ def take_proved(rt, crates, crate):
     return None if os.path.isdir(kept.place(crate, False, kept.key(crate))) else crate.name
 
 
-def build(room, out):
-    """Writes libNAME.a into the folder `out`, over a copy of the crates in the folder `room`. Returns why not, or nothing."""
-    rt = toolchain()
-    rt.copy_crates(str(TOP), f"{room}/repository")
-    os.mkdir(f"{room}/repository/.git")
-    os.chdir(f"{room}/repository")
+def left_in_place(crate):
+    """Returns the name of a crate below whose library is not there, or not of the same run as the others.
+
+    A library that `rt check` made has a stamp, one that `rt ci` left has none."""
+    below = crate.below()
+    is_mixed = len({it.is_built() for it in below}) > 1
+    return next((it.name for it in below if is_mixed or not os.path.isdir(it.rlib)), None)
+
+
+def ready(rt, room):
+    """Returns the last crate, ready to be built over what `rt ci` proved, and the name of a crate of which that is not kept.
+
+    A kit keeps the libraries apart, for a copy of the crates in the folder `room`, or an older one where they were made."""
+    if keeps_apart():
+        rt.copy_crates(str(TOP), f"{room}/repository")
+        os.mkdir(f"{room}/repository/.git")
+        os.chdir(f"{room}/repository")
     rt.Crate.cuts_libraries = True
     rt.Crate.allowed = rt.handles_of(os.getcwd())
-    crates = rt.crates_of(os.getcwd())
+    crates = rt.crates_of(os.getcwd()) if keeps_apart() else rt.rtlib.crates_below(os.getcwd())
     crate = next(it for it in crates if it.name == NAME)
-    lacking = take_proved(rt, crates, crate)
+    return crate, take_proved(rt, crates, crate) if keeps_apart() else left_in_place(crate)
+
+
+def build(room, out):
+    """Writes libNAME.a into the folder `out`. Returns why not, or nothing."""
+    rt = toolchain()
+    crate, lacking = ready(rt, room)
     if lacking:
         return f"no proof of {lacking} is kept: run rt ci first"
     words = crate.words(["--jobs", str(PROCESSORS)], keeps=False)
