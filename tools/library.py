@@ -2,6 +2,7 @@
 
 `rt ci` keeps the libraries that it proved, and makes no archive. So this has the kit's own functions take those of the crates
 below, and builds the last crate over them, which proves its functions once more. Where one of them is not kept, it says so.
+One kit keeps them apart. With an older one they lie where the last run proved them.
 """
 
 import importlib.machinery
@@ -30,44 +31,38 @@ def keeps_apart():
     return hasattr(toolchain(), "Kept")
 
 
-def take_proved(rt, crates, crate):
-    """Gives the crates below the libraries that `rt ci` kept, and returns the name of one that it did not keep, or of the crate."""
-    kept = rt.Kept(crates)
+def last_of(crates):
+    return next(it for it in crates if it.name == NAME)
+
+
+def over_kept(rt, room):
+    """Returns the last crate, in a copy of the crates in the folder `room`, over the libraries that `rt ci` kept, and the name
+    of one that it did not keep, or of the crate."""
+    rt.copy_crates(str(TOP), f"{room}/repository")
+    os.mkdir(f"{room}/repository/.git")
+    os.chdir(f"{room}/repository")
+    rt.Crate.allowed = rt.handles_of(os.getcwd())
+    crates = rt.crates_of(os.getcwd())
+    kept, crate = rt.Kept(crates), last_of(crates)
     for below in crate.below():
         if not kept.give(below, False, kept.key(below)):
-            return below.name
+            return crate, below.name
         kept.is_built(below)
-    return None if os.path.isdir(kept.place(crate, False, kept.key(crate))) else crate.name
+    return crate, None if os.path.isdir(kept.place(crate, False, kept.key(crate))) else crate.name
 
 
-def left_in_place(crate):
-    """Returns the name of a crate below whose library is not there, or not of the same run as the others.
-
-    A library that `rt check` made has a stamp, one that `rt ci` left has none."""
-    below = crate.below()
-    is_mixed = len({it.is_built() for it in below}) > 1
-    return next((it.name for it in below if is_mixed or not os.path.isdir(it.rlib)), None)
-
-
-def ready(rt, room):
-    """Returns the last crate, ready to be built over what `rt ci` proved, and the name of a crate of which that is not kept.
-
-    A kit keeps the libraries apart, for a copy of the crates in the folder `room`, or an older one where they were made."""
-    if keeps_apart():
-        rt.copy_crates(str(TOP), f"{room}/repository")
-        os.mkdir(f"{room}/repository/.git")
-        os.chdir(f"{room}/repository")
-    rt.Crate.cuts_libraries = True
-    rt.Crate.allowed = rt.handles_of(os.getcwd())
-    crates = rt.crates_of(os.getcwd()) if keeps_apart() else rt.rtlib.crates_below(os.getcwd())
-    crate = next(it for it in crates if it.name == NAME)
-    return crate, take_proved(rt, crates, crate) if keeps_apart() else left_in_place(crate)
+def over_left(rt):
+    """The same, where it stands, over the libraries that `rt ci` left there: one that `rt check` made has a stamp beside it."""
+    crate = last_of(rt.rtlib.crates_below(str(TOP)))
+    lies = lambda it: os.path.isdir(it.rlib) and not os.path.exists(f"{os.path.dirname(it.rlib)}/stamp")
+    return crate, next((it.name for it in crate.below() if not lies(it)), None)
 
 
 def build(room, out):
     """Writes libNAME.a into the folder `out`. Returns why not, or nothing."""
     rt = toolchain()
-    crate, lacking = ready(rt, room)
+    rt.Crate.cuts_libraries = True
+    crate, lacking = over_kept(rt, room) if keeps_apart() else over_left(rt)
     if lacking:
         return f"no proof of {lacking} is kept: run rt ci first"
     words = crate.words(["--jobs", str(PROCESSORS)], keeps=False)
