@@ -169,12 +169,10 @@ pub enum Task<'a> {
 impl<'a> Task<'a> {
     /// The name of the list that is read after so many others.
     pub fn file(&self, place: usize) -> Option<&'a str> {
-        match (self, place) {
-            (Task::Combine(_, files, _), _) => files.as_slice().get(place).copied(),
-            (Task::Compare(first, _), 0) => Some(*first),
-            (Task::Compare(_, second), 1) => Some(*second),
-            (Task::LookUp(file, _), 0) => Some(*file),
-            _ => None,
+        match self {
+            Task::Combine(_, files, _) => files.as_slice().get(place).copied(),
+            Task::Compare(first, second) => [*first, *second].get(place).copied(),
+            Task::LookUp(file, _) => [*file].get(place).copied(),
         }
     }
 }
@@ -219,14 +217,18 @@ fn commands<'a>(usages: &[Usage], alloc: Global) -> Result<Vec<clap::Command<'a>
     Ok(commands)
 }
 
-/// What the program can be asked.
-fn program<'a>(alloc: Global) -> Result<clap::Command<'a>, AllocError> {
-    let commands = commands(&COMMANDS, alloc)?;
+/// The program without its commands.
+fn cidr<'a>(alloc: Global) -> clap::Command<'a> {
     clap::Command::new(alloc, "cidr")
         .about(ABOUT)
         .after_help(EXAMPLES)
         .subcommand_required(true)
-        .subcommands(commands)
+}
+
+/// What the program can be asked.
+fn program<'a>(alloc: Global) -> Result<clap::Command<'a>, AllocError> {
+    let commands = commands(&COMMANDS, alloc)?;
+    cidr(alloc).subcommands(commands)
 }
 
 /// The names of the lists, that of `--from` first.
@@ -281,8 +283,13 @@ fn command_of(name: &str) -> Command {
     }
 }
 
+/// The command `has` as its usage names it.
+fn has_command<'a>(alloc: Global) -> Result<clap::Command<'a>, AllocError> {
+    command(&HAS, alloc)?.bin_name("cidr has")
+}
+
 fn invalid_value(alloc: Global, message: &str) -> Result<clap::Error, AllocError> {
-    let mut has = command(&HAS, alloc)?.bin_name("cidr has")?;
+    let mut has = has_command(alloc)?;
     has.error(ErrorKind::ValueValidation, message)
 }
 
@@ -294,14 +301,18 @@ fn no_address(alloc: Global, word: &str) -> Result<clap::Error, AllocError> {
     invalid_value(alloc, message.as_str())
 }
 
+fn address_of(alloc: Global, word: &str) -> Result<IpAddr, clap::Error> {
+    match word.parse::<IpAddr>() {
+        Ok(address) => Ok(address),
+        Err(_) => Err(no_address(alloc, word)?),
+    }
+}
+
 /// The addresses that the words are.
 fn addresses_of(alloc: Global, words: &[&str]) -> Result<Vec<IpAddr>, clap::Error> {
     let mut addresses = Vec::new(alloc);
     for word in words {
-        match word.parse::<IpAddr>() {
-            Ok(address) => addresses.push(address)?,
-            Err(_) => return Err(no_address(alloc, word)?),
-        }
+        addresses.push(address_of(alloc, word)?)?;
     }
     Ok(addresses)
 }
