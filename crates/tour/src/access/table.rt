@@ -10,10 +10,9 @@ ghost use Rattle.tour.specs.Ports.{port_order};
 ghost use Rattle.tour.specs.Rules.{Rule, Says, IsOfLatest, IsDecidedBy};
 
 use crate::access::port::Port;
-use btree_range_map::{AnyRange, AsRange, IntoRange, MapError, RangeMap, RangeSet};
+use btree_range_map::{AsRange, IntoRange, MapError, RangeMap, RangeSet};
 use std::alloc::Global;
 use std::marker::Model;
-use std::ops::Bound;
 
 /// The ranges of ports that are allowed, with their labels.
 ///
@@ -91,12 +90,6 @@ impl AccessTable {
         ensures held { IfOk result (λ set. (port : Port) → port_order.is_key port
             → HoldsKey port_order (box_items set) port ↔ Says self.now port None) }
     {
-        let mut open: RangeSet<Port> = RangeSet::new(self.alloc);
-        open.insert(AnyRange::new(Bound::Unbounded, Bound::Unbounded))?;
-        let mut ranges = self.allowed.iter();
-        while let Some((range, _)) = ranges.next() {
-            open.remove(*range)?;
-        }
-        Ok(open)
+        RangeSet::keys_of(self.alloc, &self.allowed)?.complement()
     }
 }
