@@ -5,7 +5,7 @@ use Rattle.address_lists.specs.Lists.{Has, HasJust}
 use Rattle.address_lists.specs.declared.addresses.Addresses.{Addresses}
 use Rattle.cidr.specs.Commands.{IsAnswer}
 use Rattle.cidr.specs.Shown.{Kept}
-use Rattle.cidr.specs.declared.serve.Command.{Command}
+use Rattle.cidr_arguments.specs.declared.request.Command.{Command}
 use Rattle.cidr.specs.declared.serve.Reading.{Reading}
 use Rattle.cidr.proofs.Commands.{AreMade}
 

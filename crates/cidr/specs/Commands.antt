@@ -6,8 +6,8 @@ use Rattle.address_lists.specs.Files.{IsFile, IsFileReason}
 use Rattle.address_lists.specs.Lists.{Has}
 use Rattle.address_lists.specs.declared.addresses.Addresses.{Addresses}
 use Rattle.address_lists.specs.declared.read.ListError.{ListError}
-use Rattle.cidr.specs.declared.serve.Command.{Command}
-use Rattle.cidr.specs.declared.serve.Command.TheVariants.{Merge, Common, Except, Diff, Invert}
+use Rattle.cidr_arguments.specs.declared.request.Command.{Command}
+use Rattle.cidr_arguments.specs.declared.request.Command.TheVariants.{Merge, Common, Except, Diff, Invert}
 use Rattle.cidr.specs.declared.serve.Reading.{Reading}
 use Rattle.cidr.specs.declared.serve.Stop.{Stop}
 use Rattle.cidr.specs.declared.serve.Stop.TheVariants.{Bad, Memory, Unwritable}

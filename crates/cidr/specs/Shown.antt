@@ -9,10 +9,10 @@ use Rattle.address_lists.specs.Ranges.{IsPrintedAs}
 use Rattle.address_lists.specs.Split.{IsPrintedSplit}
 use Rattle.address_lists.specs.declared.ranges.Spelling.TheVariants as Spelled
 use Rattle.address_lists.specs.declared.addresses.Addresses.{Addresses}
-use Rattle.cidr.specs.declared.serve.Form.{Form}
-use Rattle.cidr.specs.declared.serve.Form.TheVariants.{Json, Lines as LinesOf}
-use Rattle.cidr.specs.declared.serve.Lines.{Lines}
-use Rattle.cidr.specs.declared.serve.Lines.TheVariants.{Count, Prefixes, Ranges, Singles, Split}
+use Rattle.cidr_arguments.specs.declared.request.Form.{Form}
+use Rattle.cidr_arguments.specs.declared.request.Form.TheVariants.{Json, Lines as LinesOf}
+use Rattle.cidr_arguments.specs.declared.request.Lines.{Lines}
+use Rattle.cidr_arguments.specs.declared.request.Lines.TheVariants.{Count, Prefixes, Ranges, Singles, Split}
 
 -- addresses of this family are printed: those of one alone, or of both
 abbrev pub IsKept : Option Family → Family → Type 0

@@ -2,30 +2,31 @@
 //!
 //! Where to find what:
 //!
-//! - the command line: `src/arguments.rt`; standard input and files: `src/inputs.rt`; what is told
-//!   on a terminal while they are read: `src/progress.rt`
+//! - the command line: the crate `cidr_arguments`; standard input and files: `src/inputs.rt`; what
+//!   is told on a terminal while they are read: `src/progress.rt`
 //! - the commands over any readers and writer, and what they print: `src/serve.rt`,
 //!   `specs/{Commands,Shown}.antt`, `proofs/{Commands,Kept}.antt`; of `compare`,
 //!   `src/compare.rt`, `specs/Relations.antt`, `proofs/Compared.antt`; of `has`, `src/lookup.rt`,
 //!   `proofs/LookedUp.antt`
 #![tactic(auto)]
 
-mod arguments;
 mod compare;
 mod inputs;
 mod lookup;
 mod progress;
 mod serve;
 
-use crate::arguments::{Request, Task, read_request};
 use crate::compare::compare;
 use crate::inputs::{Input, ToldInput};
 use crate::lookup::look_up;
-use crate::serve::{Source, Stop, serve};
+use crate::serve::{Reading, Source, Stop, serve};
+use address_lists::BadLines;
 use anyhow::{Context, bail};
+use cidr_arguments::{Command, Output, Request, Task, read_request};
 use clap::error::ErrorKind;
 use std::env;
 use std::io::{self, BufReader, BufWriter, Write};
+use std::net::IpAddr;
 use std::process::ExitCode;
 
 const BUFFER_BYTES: usize = 65536;
@@ -51,6 +52,59 @@ fn sources<'a>(rt: &'a HostRuntime, names: &[&'a str]) -> anyhow::Result<Vec<Lis
     Ok(sources)
 }
 
+/// How lists are to be read.
+fn reading_of(request: &Request<'_>) -> Reading {
+    Reading {
+        strict: request.is_strict,
+        bad_lines: if request.skips_bad_lines {
+            BadLines::Skipped
+        } else {
+            BadLines::Refused
+        },
+    }
+}
+
+/// Puts the lists of these names together, and prints what the command makes of them.
+fn combine_files<W: Write>(
+    rt: &HostRuntime,
+    command: Command,
+    files: &[&str],
+    reading: Reading,
+    output: Output,
+    left_out: &mut Vec<u64>,
+    out: &mut W,
+) -> anyhow::Result<Result<bool, Stop>> {
+    let sources = sources(rt, files)?;
+    let served = serve(rt.alloc(), command, sources, reading, output, left_out, out);
+    Ok(served.map(|()| true))
+}
+
+fn compare_files<W: Write>(
+    rt: &HostRuntime,
+    first: &str,
+    second: &str,
+    reading: Reading,
+    left_out: &mut Vec<u64>,
+    out: &mut W,
+) -> anyhow::Result<Result<bool, Stop>> {
+    let first = source(rt, first)?;
+    let second = source(rt, second)?;
+    let compared = compare(rt.alloc(), first, second, reading, left_out, out);
+    Ok(compared.map(|()| true))
+}
+
+fn look_up_in_file<W: Write>(
+    rt: &HostRuntime,
+    file: &str,
+    addresses: &[IpAddr],
+    reading: Reading,
+    left_out: &mut Vec<u64>,
+    out: &mut W,
+) -> anyhow::Result<Result<bool, Stop>> {
+    let source = source(rt, file)?;
+    Ok(look_up(rt.alloc(), source, reading, addresses, left_out, out))
+}
+
 /// Does what the arguments ask, and returns whether the list has all addresses that are looked up.
 /// Adds how many bad lines are left out of each list.
 fn answer<W: Write>(
@@ -59,24 +113,22 @@ fn answer<W: Write>(
     left_out: &mut Vec<u64>,
     out: &mut W,
 ) -> anyhow::Result<Result<bool, Stop>> {
-    let alloc = rt.alloc();
-    let reading = request.reading;
+    let reading = reading_of(request);
     match &request.task {
         Task::Combine(command, files, output) => {
-            let sources = sources(rt, files.as_slice())?;
-            let served = serve(alloc, *command, sources, reading, *output, left_out, out);
-            Ok(served.map(|()| true))
+            combine_files(
+                rt,
+                *command,
+                files.as_slice(),
+                reading,
+                *output,
+                left_out,
+                out,
+            )
         }
-        Task::Compare(first, second) => {
-            let first = source(rt, first)?;
-            let second = source(rt, second)?;
-            let compared = compare(alloc, first, second, reading, left_out, out);
-            Ok(compared.map(|()| true))
-        }
+        Task::Compare(first, second) => compare_files(rt, first, second, reading, left_out, out),
         Task::LookUp(file, addresses) => {
-            let source = source(rt, file)?;
-            let addresses = addresses.as_slice();
-            Ok(look_up(alloc, source, reading, addresses, left_out, out))
+            look_up_in_file(rt, file, addresses.as_slice(), reading, left_out, out)
         }
     }
 }

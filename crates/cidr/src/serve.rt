@@ -16,55 +16,10 @@ use address_lists::{
 };
 use address_text::Family;
 use btree_range_map::MapError;
+use cidr_arguments::{Command, Form, Lines, Output};
 use std::alloc::Global;
 use std::io::{self, BufRead, Write};
 use std::vec::IntoIter;
-
-/// What is made of some lists.
-#[derive(Clone, Copy)]
-pub enum Command {
-    /// The addresses of any list.
-    Merge,
-    /// Those of all lists.
-    Common,
-    /// Those of the first list that no other one has.
-    Except,
-    /// Those of the first list or the second, and not of both.
-    Diff,
-    /// Those of no list.
-    Invert,
-}
-
-/// The lines that are printed of addresses.
-#[derive(Clone, Copy)]
-pub enum Lines {
-    /// The prefixes that have just these, as few as can be.
-    Prefixes,
-    /// Their ranges, as wide as they go.
-    Ranges,
-    /// Each of them.
-    Singles,
-    /// How many there are of each family.
-    Count,
-    /// Those prefixes, each that is shorter than this length split into prefixes of it.
-    Split(u8),
-}
-
-/// What is printed of addresses.
-#[derive(Clone, Copy)]
-pub enum Form {
-    Lines(Lines),
-    /// An object with the set of either family, as the library writes it as JSON.
-    Json,
-}
-
-/// What is printed of an answer.
-#[derive(Clone, Copy)]
-pub struct Output {
-    /// The family whose addresses alone are printed; `None` for both.
-    pub only: Option<Family>,
-    pub form: Form,
-}
 
 /// How lists are read.
 #[derive(Clone, Copy)]

@@ -1,12 +1,8 @@
-//! The command line.
+//! What the program can be asked, as `clap` has it.
 
-use crate::serve::{Command, Form, Lines, Output, Reading};
-use address_lists::BadLines;
-use address_text::Family;
 use clap::error::ErrorKind;
-use clap::{self, Arg, ArgAction, ArgMatches, value_parser};
+use clap::{self, Arg, ArgAction, value_parser};
 use std::alloc::{AllocError, Global};
-use std::net::IpAddr;
 
 const ABOUT: &str =
     "Puts lists of IP addresses together, and prints what comes of it in as few prefixes as can be.";
@@ -155,64 +151,62 @@ static COMMANDS: [Usage; 9] = [
     HAS,
 ];
 
-/// What is to be done with the lists of these names.
-#[derive(Drop)]
-pub enum Task<'a> {
-    /// They are put together, that of `--from` first, and printed.
-    Combine(Command, Vec<&'a str>, Output),
-    /// The first is compared with the second.
-    Compare(&'a str, &'a str),
-    /// The addresses are looked up in it.
-    LookUp(&'a str, Vec<IpAddr>),
+fn flag<'a>(arg: Arg<'a>, groups: &'a [&'a str]) -> Result<Arg<'a>, AllocError> {
+    arg.action(ArgAction::SetTrue).groups(groups)
 }
 
-impl<'a> Task<'a> {
-    /// The name of the list that is read after so many others.
-    pub fn file(&self, place: usize) -> Option<&'a str> {
-        match self {
-            Task::Combine(_, files, _) => files.as_slice().get(place).copied(),
-            Task::Compare(first, second) => [*first, *second].get(place).copied(),
-            Task::LookUp(file, _) => [*file].get(place).copied(),
-        }
-    }
-}
-
-/// What the arguments ask for.
-#[derive(Drop)]
-pub struct Request<'a> {
-    pub task: Task<'a>,
-    pub reading: Reading,
+fn length<'a>(arg: Arg<'a>) -> Arg<'a> {
+    arg.value_name("LENGTH")
+        .value_parser(value_parser!(u8).range(0..=128))
 }
 
 fn argument<'a>((name, kind, help): Taken, alloc: Global) -> Result<Arg<'a>, AllocError> {
     let arg = Arg::new(alloc, name).help(help);
     match kind {
         Kind::Words(least, most) => Ok(arg.required(true).num_args(least..=most)),
-        Kind::Flag(groups) => arg.long(name).action(ArgAction::SetTrue).groups(groups),
+        Kind::Flag(groups) => flag(arg.long(name), groups),
         Kind::List => Ok(arg.long(name).required(true).value_name("FILE")),
-        Kind::Length => Ok(
-            arg.long(name)
-                .required(true)
-                .value_name("LENGTH")
-                .value_parser(value_parser!(u8).range(0..=128)),
-        ),
+        Kind::Length => Ok(length(arg.long(name).required(true))),
     }
 }
 
-fn command<'a>(usage: &Usage, alloc: Global) -> Result<clap::Command<'a>, AllocError> {
+fn add_argument<'a>(
+    args: &mut Vec<Arg<'a>>,
+    taken: Taken,
+    alloc: Global,
+) -> Result<(), AllocError> {
+    args.push(argument(taken, alloc)?)?;
+    Ok(())
+}
+
+fn arguments<'a>(usage: &Usage, alloc: Global) -> Result<Vec<Arg<'a>>, AllocError> {
     let mut args = Vec::new(alloc);
     for taken in usage.takes {
-        args.push(argument(*taken, alloc)?)?;
+        add_argument(&mut args, *taken, alloc)?;
     }
+    Ok(args)
+}
+
+fn command<'a>(usage: &Usage, alloc: Global) -> Result<clap::Command<'a>, AllocError> {
+    let args = arguments(usage, alloc)?;
     clap::Command::new(alloc, usage.name)
         .about(usage.about)
         .args(args)
 }
 
+fn add_command<'a>(
+    commands: &mut Vec<clap::Command<'a>>,
+    usage: &Usage,
+    alloc: Global,
+) -> Result<(), AllocError> {
+    commands.push(command(usage, alloc)?)?;
+    Ok(())
+}
+
 fn commands<'a>(usages: &[Usage], alloc: Global) -> Result<Vec<clap::Command<'a>>, AllocError> {
     let mut commands = Vec::new(alloc);
     for usage in usages {
-        commands.push(command(usage, alloc)?)?;
+        add_command(&mut commands, usage, alloc)?;
     }
     Ok(commands)
 }
@@ -226,61 +220,9 @@ fn cidr<'a>(alloc: Global) -> clap::Command<'a> {
 }
 
 /// What the program can be asked.
-fn program<'a>(alloc: Global) -> Result<clap::Command<'a>, AllocError> {
+pub fn program<'a>(alloc: Global) -> Result<clap::Command<'a>, AllocError> {
     let commands = commands(&COMMANDS, alloc)?;
     cidr(alloc).subcommands(commands)
-}
-
-/// The names of the lists, that of `--from` first.
-fn names_of<'a>(alloc: Global, found: &ArgMatches<'a>) -> Result<Vec<&'a str>, AllocError> {
-    let mut names = Vec::new(alloc);
-    for id in ["from", "FILE"] {
-        names.extend_from_slice(found.get_strs(id).unwrap_or(&[]))?;
-    }
-    Ok(names)
-}
-
-fn reading_of(found: &ArgMatches<'_>) -> Reading {
-    Reading {
-        strict: found.get_flag("strict"),
-        bad_lines: if found.get_flag("skip-bad") {
-            BadLines::Skipped
-        } else {
-            BadLines::Refused
-        },
-    }
-}
-
-fn family_of(found: &ArgMatches<'_>) -> Option<Family> {
-    if found.get_flag("v4") {
-        Some(Family::V4)
-    } else if found.get_flag("v6") {
-        Some(Family::V6)
-    } else {
-        None
-    }
-}
-
-fn form_of(name: &str, found: &ArgMatches<'_>) -> Form {
-    match name {
-        "count" => Form::Lines(Lines::Count),
-        "split" => Form::Lines(Lines::Split(found.get_one("at").unwrap_or(Family::V6.width()))),
-        _ if found.get_flag("json") => Form::Json,
-        _ if found.get_flag("ranges") => Form::Lines(Lines::Ranges),
-        _ if found.get_flag("single") => Form::Lines(Lines::Singles),
-        _ => Form::Lines(Lines::Prefixes),
-    }
-}
-
-/// What a command makes of its lists.
-fn command_of(name: &str) -> Command {
-    match name {
-        "common" => Command::Common,
-        "except" => Command::Except,
-        "diff" => Command::Diff,
-        "invert" => Command::Invert,
-        _ => Command::Merge,
-    }
 }
 
 /// The command `has` as its usage names it.
@@ -288,64 +230,8 @@ fn has_command<'a>(alloc: Global) -> Result<clap::Command<'a>, AllocError> {
     command(&HAS, alloc)?.bin_name("cidr has")
 }
 
-fn invalid_value(alloc: Global, message: &str) -> Result<clap::Error, AllocError> {
+/// The error that a value of `has` is not valid, with its usage.
+pub fn invalid_value(alloc: Global, message: &str) -> Result<clap::Error, AllocError> {
     let mut has = has_command(alloc)?;
     has.error(ErrorKind::ValueValidation, message)
-}
-
-/// Tells that a word is no address.
-fn no_address(alloc: Global, word: &str) -> Result<clap::Error, AllocError> {
-    let message = format!(in alloc;
-        "invalid value '{word}' for '<ADDRESS>...': expected an address"
-    )?;
-    invalid_value(alloc, message.as_str())
-}
-
-fn address_of(alloc: Global, word: &str) -> Result<IpAddr, clap::Error> {
-    match word.parse::<IpAddr>() {
-        Ok(address) => Ok(address),
-        Err(_) => Err(no_address(alloc, word)?),
-    }
-}
-
-/// The addresses that the words are.
-fn addresses_of(alloc: Global, words: &[&str]) -> Result<Vec<IpAddr>, clap::Error> {
-    let mut addresses = Vec::new(alloc);
-    for word in words {
-        addresses.push(address_of(alloc, word)?)?;
-    }
-    Ok(addresses)
-}
-
-fn task_of<'a>(alloc: Global, name: &str, found: &ArgMatches<'a>) -> Result<Task<'a>, clap::Error> {
-    match (name, found.get_strs("FILE").unwrap_or(&[])) {
-        ("compare", [first, second]) => Ok(Task::Compare(*first, *second)),
-        ("has", [list]) => {
-            let words = found.get_strs("ADDRESS").unwrap_or(&[]);
-            Ok(Task::LookUp(*list, addresses_of(alloc, words)?))
-        }
-        _ => {
-            let output = Output {
-                only: family_of(found),
-                form: form_of(name, found),
-            };
-            Ok(Task::Combine(command_of(name), names_of(alloc, found)?, output))
-        }
-    }
-}
-
-fn matches_of<'a>(alloc: Global, words: &'a [String]) -> Result<ArgMatches<'a>, clap::Error> {
-    program(alloc)?.try_get_matches_from(words)
-}
-
-/// What the words ask for, which begin with the program's name. An error has the text and the exit
-/// status of a wrong command line, or of one that asks for help.
-pub fn read_request<'a>(alloc: Global, words: &'a [String]) -> Result<Request<'a>, clap::Error> {
-    let matches = matches_of(alloc, words)?;
-    // There is a command, since one is required.
-    let (name, found) = matches.subcommand().unwrap_or(("merge", &matches));
-    Ok(Request {
-        task: task_of(alloc, name, found)?,
-        reading: reading_of(found),
-    })
 }

@@ -1,0 +1,11 @@
+//! The command line of `cidr`.
+//!
+//! Where to find what:
+//!
+//! - the commands and what they take: `src/usage.rt`; what they ask for: `src/request.rt`
+#![tactic(auto)]
+
+mod request;
+mod usage;
+
+pub use crate::request::{Command, Form, Lines, Output, Request, Task, read_request};

@@ -1,0 +1,194 @@
+//! What the arguments ask for.
+
+use crate::usage::{invalid_value, program};
+use address_text::Family;
+use clap::ArgMatches;
+use std::alloc::{AllocError, Global};
+use std::net::IpAddr;
+
+/// What is made of some lists.
+#[derive(Clone, Copy)]
+pub enum Command {
+    /// The addresses of any list.
+    Merge,
+    /// Those of all lists.
+    Common,
+    /// Those of the first list that no other one has.
+    Except,
+    /// Those of the first list or the second, and not of both.
+    Diff,
+    /// Those of no list.
+    Invert,
+}
+
+/// The lines that are printed of addresses.
+#[derive(Clone, Copy)]
+pub enum Lines {
+    /// The prefixes that have just these, as few as can be.
+    Prefixes,
+    /// Their ranges, as wide as they go.
+    Ranges,
+    /// Each of them.
+    Singles,
+    /// How many there are of each family.
+    Count,
+    /// Those prefixes, each that is shorter than this length split into prefixes of it.
+    Split(u8),
+}
+
+/// What is printed of addresses.
+#[derive(Clone, Copy)]
+pub enum Form {
+    Lines(Lines),
+    /// An object with the set of either family, as the library writes it as JSON.
+    Json,
+}
+
+/// What is printed of an answer.
+#[derive(Clone, Copy)]
+pub struct Output {
+    /// The family whose addresses alone are printed; `None` for both.
+    pub only: Option<Family>,
+    pub form: Form,
+}
+
+/// What is to be done with the lists of these names.
+#[derive(Drop)]
+pub enum Task<'a> {
+    /// They are put together, that of `--from` first, and printed.
+    Combine(Command, Vec<&'a str>, Output),
+    /// The first is compared with the second.
+    Compare(&'a str, &'a str),
+    /// The addresses are looked up in it.
+    LookUp(&'a str, Vec<IpAddr>),
+}
+
+impl<'a> Task<'a> {
+    /// The name of the list that is read after so many others.
+    pub fn file(&self, place: usize) -> Option<&'a str> {
+        match self {
+            Task::Combine(_, files, _) => files.as_slice().get(place).copied(),
+            Task::Compare(first, second) => [*first, *second].get(place).copied(),
+            Task::LookUp(file, _) => [*file].get(place).copied(),
+        }
+    }
+}
+
+/// What the arguments ask for.
+#[derive(Drop)]
+pub struct Request<'a> {
+    pub task: Task<'a>,
+    /// Whether a prefix whose address has bits of 1 after its length is bad.
+    pub is_strict: bool,
+    /// Whether bad lines are left out.
+    pub skips_bad_lines: bool,
+}
+
+/// The names of the lists, that of `--from` first.
+fn names_of<'a>(alloc: Global, found: &ArgMatches<'a>) -> Result<Vec<&'a str>, AllocError> {
+    let mut names = Vec::new(alloc);
+    for id in ["from", "FILE"] {
+        names.extend_from_slice(found.get_strs(id).unwrap_or(&[]))?;
+    }
+    Ok(names)
+}
+
+fn family_of(found: &ArgMatches<'_>) -> Option<Family> {
+    if found.get_flag("v4") {
+        Some(Family::V4)
+    } else if found.get_flag("v6") {
+        Some(Family::V6)
+    } else {
+        None
+    }
+}
+
+fn form_of(name: &str, found: &ArgMatches<'_>) -> Form {
+    match name {
+        "count" => Form::Lines(Lines::Count),
+        "split" => Form::Lines(Lines::Split(found.get_one("at").unwrap_or(Family::V6.width()))),
+        _ if found.get_flag("json") => Form::Json,
+        _ if found.get_flag("ranges") => Form::Lines(Lines::Ranges),
+        _ if found.get_flag("single") => Form::Lines(Lines::Singles),
+        _ => Form::Lines(Lines::Prefixes),
+    }
+}
+
+/// What a command makes of its lists.
+fn command_of(name: &str) -> Command {
+    match name {
+        "common" => Command::Common,
+        "except" => Command::Except,
+        "diff" => Command::Diff,
+        "invert" => Command::Invert,
+        _ => Command::Merge,
+    }
+}
+
+/// Tells that a word is no address.
+fn no_address(alloc: Global, word: &str) -> Result<clap::Error, AllocError> {
+    let message = format!(in alloc;
+        "invalid value '{word}' for '<ADDRESS>...': expected an address"
+    )?;
+    invalid_value(alloc, message.as_str())
+}
+
+fn address_of(alloc: Global, word: &str) -> Result<IpAddr, clap::Error> {
+    match word.parse::<IpAddr>() {
+        Ok(address) => Ok(address),
+        Err(_) => Err(no_address(alloc, word)?),
+    }
+}
+
+/// The addresses that the words are.
+fn addresses_of(alloc: Global, words: &[&str]) -> Result<Vec<IpAddr>, clap::Error> {
+    let mut addresses = Vec::new(alloc);
+    for word in words {
+        addresses.push(address_of(alloc, word)?)?;
+    }
+    Ok(addresses)
+}
+
+/// What is to be done with the lists that the arguments name.
+fn combined<'a>(alloc: Global, name: &str, found: &ArgMatches<'a>) -> Result<Task<'a>, AllocError> {
+    let files = names_of(alloc, found)?;
+    let output = Output {
+        only: family_of(found),
+        form: form_of(name, found),
+    };
+    Ok(Task::Combine(command_of(name), files, output))
+}
+
+fn looked_up<'a>(
+    alloc: Global,
+    list: &'a str,
+    found: &ArgMatches<'a>,
+) -> Result<Task<'a>, clap::Error> {
+    let words = found.get_strs("ADDRESS").unwrap_or(&[]);
+    Ok(Task::LookUp(list, addresses_of(alloc, words)?))
+}
+
+fn task_of<'a>(alloc: Global, name: &str, found: &ArgMatches<'a>) -> Result<Task<'a>, clap::Error> {
+    match (name, found.get_strs("FILE").unwrap_or(&[])) {
+        ("compare", [first, second]) => Ok(Task::Compare(*first, *second)),
+        ("has", [list]) => looked_up(alloc, *list, found),
+        _ => Ok(combined(alloc, name, found)?),
+    }
+}
+
+fn matches_of<'a>(alloc: Global, words: &'a [String]) -> Result<ArgMatches<'a>, clap::Error> {
+    program(alloc)?.try_get_matches_from(words)
+}
+
+/// What the words ask for, which begin with the program's name. An error has the text and the exit
+/// status of a wrong command line, or of one that asks for help.
+pub fn read_request<'a>(alloc: Global, words: &'a [String]) -> Result<Request<'a>, clap::Error> {
+    let matches = matches_of(alloc, words)?;
+    // There is a command, since one is required.
+    let (name, found) = matches.subcommand().unwrap_or(("merge", &matches));
+    Ok(Request {
+        task: task_of(alloc, name, found)?,
+        is_strict: found.get_flag("strict"),
+        skips_bad_lines: found.get_flag("skip-bad"),
+    })
+}
