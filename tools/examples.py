@@ -11,7 +11,7 @@ import re
 import time
 
 from tools import repository
-from tools.repository import CRATES, TOP, Counts, run, told
+from tools.repository import CRATES, TOP, Counts, told, tried
 
 RUN = [CRATES / name for name in ("tour", "bookings", "odd_keys", "lexing_patterns")]
 RUN += [TOP / "tests" / name for name in ("address_tests", "example_tests", "pattern_tests")]
@@ -115,7 +115,8 @@ def workspace():
 def run_in(room):
     """Runs the examples of the doc comments as tests."""
     began, wanted = time.monotonic(), len(tests())
-    ended = run(["rt", "try", "--test"], room / CRATE)
-    ran = len(re.findall(r"^test \S+ \.\.\. ok$", ended.stdout, re.M))
-    counts = Counts(ran, max(wanted - ran, int(ended.returncode != 0 or not wanted)))
-    return told("examples of doc comments", counts, began, ended.stdout)
+    ended = tried(room / CRATE, "--test")
+    said = (ended.out + ended.errors).decode(errors="replace")
+    ran = len(re.findall(r"^test \S+ \.\.\. ok$", said, re.M))
+    counts = Counts(ran, max(wanted - ran, int(ended.status != 0 or not wanted)))
+    return told("examples of doc comments", counts, began, said)

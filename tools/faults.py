@@ -1,15 +1,17 @@
 """Refused memory: each allocation of each call is refused in turn, and what became of it is looked at.
 
-Four programs are built without a proof, so that one allocation of a run can be refused: `refusals` of
-tests/, whose calls look themselves at what became of them, and `rangerun`, which plays the
+A library that is loaded into a program refuses one allocation of a run. The calls are made by `refusals` of tests/,
+built without a proof, which looks itself at what became of them. `rangerun` plays the
 conversations of memory.txt. There the replies have to be those of the conversation without the line
 that was refused, with `memory` in the place of that line's, or those of the lines before it and
-`read error`, since to read a line may allocate too. A third, `tokens`, has to print the same, or a
-beginning of it and that it is out of memory. The fourth, `cidr`, has to print the same, or nothing.
+`read error`, since to read a line may allocate too. `tokens` has to print the same, or a
+beginning of it and that it is out of memory; `cidr` the same, or nothing. The gate takes these three as they were proved.
 """
 
+import atexit
 import collections
 import concurrent.futures
+import functools
 import pathlib
 import shutil
 import subprocess
@@ -20,24 +22,33 @@ import time
 from tools import conversations
 from tools.repository import CRATES, PROCESSORS, TOP, Counts, Ended, run, told, workspace
 
-WRAPPED = "-Wl,--wrap=malloc,--wrap=realloc"
-
+# The crate that makes the calls, and the programs whose conversations are played.
+CRATE = "refusals"
 # The calls that allocate nothing, each with the reason. Every other call has to meet a refusal.
 FREE = {"map: split_off after all ranges": "no range moves", "set: range_from_json": "keys are numbers"}
 
 
 def built(crate, folder):
-    """Builds the program of a crate so that an allocation can be refused, and returns its path."""
-    words = [sys.executable, TOP / "bindings" / "unproved.py", folder, crate]
-    ended = run([*words, WRAPPED, TOP / "tools" / "refused.c"])
+    """Builds the program of a crate without a proof, and returns its path."""
+    ended = run([sys.executable, TOP / "bindings" / "unproved.py", folder, crate])
     if ended.returncode:
         sys.exit(f"{ended.stdout[-2000:]}\n{crate.name}: cannot be built")
     return folder / crate.name
 
 
+@functools.cache
+def refuser():
+    """Builds the library that refuses an allocation of the program into which it is loaded, and returns its path."""
+    room = tempfile.mkdtemp()
+    atexit.register(shutil.rmtree, room)
+    made = pathlib.Path(room) / "refused.so"
+    subprocess.run(["cc", "-O1", "-shared", "-fPIC", "-o", made, TOP / "tools" / "refused.c"], check=True)
+    return made
+
+
 def refusing(program, number, given=b"", words=()):
     """Runs a program of which one allocation is refused. Returns how it ended, and how many it asked for."""
-    environment, folder = {"REFUSED": str(number)}, CRATES / program.name
+    environment, folder = {"REFUSED": str(number), "LD_PRELOAD": str(refuser())}, CRATES / program.name
     how = {"cwd": folder if folder.exists() else None, "env": environment}
     ran = subprocess.run([program, *words], input=given, capture_output=True, **how)
     errors, _, asked = ran.stderr.rpartition(b"allocations ")
@@ -63,8 +74,10 @@ def refuse_trial(program, trial):
 
 def refuse_calls(program, wanted):
     """Refuses the allocations of the calls that have one of the words in their names, or of all."""
-    began = time.monotonic()
-    names = [line.partition(" ")[2] for line in refusing(program, 0)[0].out.decode().splitlines()]
+    began, plain = time.monotonic(), refusing(program, 0)[0].out
+    if plain != (TOP / "tests" / CRATE / "stdout").read_bytes():
+        return told("refused memory", Counts(0, 1), began, f"with enough memory:\n{plain.decode()}")
+    names = [line.partition(" ")[2] for line in plain.decode().splitlines()]
     trials = [it for it, name in enumerate(names) if not wanted or any(word in name for word in wanted)]
     with concurrent.futures.ThreadPoolExecutor(PROCESSORS) as pool:
         found = [*pool.map(lambda trial: refuse_trial(program, trial), trials)]
@@ -130,6 +143,7 @@ def refuse_each(program, talk):
 
 
 def refuse_conversations(program):
+    """Refuses the allocations of the conversations of a built program."""
     began = time.monotonic()
     talks = conversations.of_file(CRATES / program.name / "conversations" / "memory.txt")
     with concurrent.futures.ThreadPoolExecutor(PROCESSORS) as pool:
@@ -142,14 +156,21 @@ def refuse_conversations(program):
     return told(what, Counts(len(talks) - failed, failed), began, "\n".join(wrong))
 
 
-def refuse(wanted=()):
-    """Refuses each allocation of the calls with one of the words in their names; of all and of the conversations."""
+def refuse(wanted=(), players=tuple(PLAYERS)):
+    """Refuses each allocation of the calls with one of the words in their names; of all and of the players' conversations.
+
+    The programs are built without a proof."""
     if not shutil.which("cc"):
         return [told("refused memory", Counts(0, 0, 1), time.monotonic(), "")]
-    names = ["refusals"] if wanted else ["refusals", *PLAYERS]
+    names = [CRATE] if wanted else [CRATE, *players]
     with workspace() as crates, tempfile.TemporaryDirectory() as room:
         with concurrent.futures.ThreadPoolExecutor() as pool:
             programs = [*pool.map(lambda name: built(crates / name, pathlib.Path(room)), names)]
-        counts = [refuse_calls(programs[0], wanted)]
-        counts += [refuse_conversations(it) for it in programs[1:]]
-    return counts
+        return [refuse_calls(programs[0], wanted), *map(refuse_conversations, programs[1:])]
+
+
+def refuse_proved():
+    """Refuses the allocations of the players' conversations, with the programs that were proved."""
+    if not shutil.which("cc"):
+        return [told("refused memory", Counts(0, 0, 1), time.monotonic(), "")]
+    return [refuse_conversations(CRATES / name / "out" / name) for name in PLAYERS]

@@ -13,13 +13,22 @@ import tempfile
 import time
 
 from tools import conversations, examples, faults, library, mutants
-from tools.repository import CRATES, PROCESSORS, PROVED, TOP, Counts, below, counted, crates, run, tell, told
+from tools.repository import CRATES, PROCESSORS, PROVED, TOP, Counts, Crate, below, counted, crates, listed, run, tell, told, tried
 
 RESULT = re.compile(r"^test result: .*?(\d+) passed; (\d+) failed", re.M)
+# A line of `rt ci` on a crate of which a proof is kept.
+KEPT = re.compile(r"rt: (\w+) (?:proved$|is kept)")
 # A check takes less than this; what `rt` expects of it, by its lines, is up to three times as much.
 MEMORY_OF_A_CHECK = 5 * 1024**3
 # So much runs beside the proofs, on processors that they leave idle: it gives way to all else.
 BESIDE, LEAST = 2, 19
+# Crates of tests over the same libraries. The gate builds those of a line as one crate, so that the libraries are read once.
+ALIKE = {
+    "map_and_key_tests": ("map_tests", "odd_key_tests", "store_tests"),
+    "set_and_json_tests": ("set_tests", "multimap_tests", "json_tests"),
+    "page_tests": ("example_tests", examples.CRATE),
+    "lexer_tests": ("lexing_tests", "pattern_tests"),
+}
 
 
 def lanes():
@@ -28,8 +37,10 @@ def lanes():
     return max(1, min(PROCESSORS, memory // MEMORY_OF_A_CHECK))
 
 
-def proofs(names):
-    """Runs `rt ci`, of the crates that are named or of all, and tells all lines but those of what is proved."""
+def proofs(names, told_kept=lambda _: None):
+    """Runs `rt ci`, of the crates that are named or of all, and tells all lines but those of what is proved.
+
+    It calls `told_kept` with the name of each crate as soon as a proof of it is kept."""
     environment = {"RT_JOBS": str(lanes()), **os.environ, "PYTHONUNBUFFERED": "1"}
     how = {"stdout": subprocess.PIPE, "stderr": subprocess.STDOUT, "errors": "replace", "env": environment}
     with part(names) if names and not library.keeps_apart() else contextlib.nullcontext((TOP, names)) as (top, given):
@@ -38,6 +49,9 @@ def proofs(names):
         for line in map(str.rstrip, whole.stdout):
             if not line.endswith(": proved") and not line.startswith("statements "):
                 tell(line)
+            found = KEPT.match(line)
+            if found:
+                told_kept(found[1])
         return counted(line, whole.wait())
 
 
@@ -61,24 +75,52 @@ def gate():
     fresh = [examples.compared(), *fresh_mutants()]
     if any(it.failed for it in fresh):
         return fresh
-    with examples.workspace() as room, beside(BESIDE, LEAST) as pool:
-        tried = [pool.submit(faults.refuse), pool.submit(examples.run_in, room)]
-        tried += [pool.submit(tests, it, room) for it in crates().values() if not it.is_proved]
-        proved = proofs([])
+    with examples.workspace() as room, beside(BESIDE, LEAST) as pool, beside(1, LEAST) as lane:
+        joined = {faults.CRATE}.union(*ALIKE.values())
+        alone = [it for it in crates().values() if not it.is_proved and it.name not in joined]
+        runs = [pool.submit(faults.refuse, players=())]
+        runs += [pool.submit(tests, it, room) for it in [*(as_one(*it, room) for it in ALIKE.items()), *alone]]
+        languages = []
+
+        def run_languages(name):
+            if name == library.NAME and not languages:
+                languages.append(lane.submit(bindings))
+
+        proved = proofs([], run_languages if library.keeps_apart() else lambda _: None)
+        if not proved.failed:
+            run_languages(library.NAME)
         over = [] if proved.failed else over_proved()
-        refused, *ended = [it.result() for it in tried]
+        refused, *ended = [it.result() for it in [*runs, *languages]]
     return [*fresh, proved, *over, *refused, *ended]
 
 
+def as_one(name, parts, room):
+    """Makes one crate of several in a workspace, each of which is a module of it, and returns it."""
+    one, lists = room / name / "src", listed(room.parent / "crates.txt")
+    for part in parts:
+        source = room / part / "src"
+        for path in source.rglob("*.rt"):
+            inside = path.relative_to(source)
+            target = one / (f"{part}.rt" if inside.name == "lib.rt" else part / inside)
+            target.parent.mkdir(parents=True, exist_ok=True)
+            text = path.read_text().replace(f"Rattle.{part}.specs.declared.", f"Rattle.{name}.specs.declared.{part}.")
+            target.write_text(re.sub(r"\bcrate::", f"crate::{part}::", text))
+    (one / "lib.rt").write_text("".join(f"mod {part};\n" for part in parts))
+    used = sorted({it for part in parts for it in lists[part]})
+    with (room.parent / "crates.txt").open("a") as file:
+        file.write(f"{name}: {' '.join(used)}\n")
+    return Crate(name, used, False, room / name)
+
+
 def over_proved():
-    """Runs the programs that were proved, and the library for other languages."""
+    """Runs the programs that were proved."""
     programs = [it.folder for it in crates().values() if it.is_proved and it.has_conversations]
     with beside(PROCESSORS) as pool:
-        runs = [pool.submit(bindings)]
-        runs += [pool.submit(conversations.count, it, conversations.play_built) for it in programs]
+        refused = pool.submit(faults.refuse_proved)
+        runs = [pool.submit(conversations.count, it, conversations.play_built) for it in programs]
         runs.append(pool.submit(counting, "random conversations", ["crates/rangecalc/fuzz", "--conversations", "1000"]))
         runs.append(pool.submit(counting, "random lists", ["crates/cidr/fuzz", "--lists", "300"]))
-        return [it.result() for it in runs]
+        return [*refused.result(), *[it.result() for it in runs]]
 
 
 def beside(number, niceness=0):
@@ -171,11 +213,12 @@ def tests(crate, room):
     """Runs the tests of a crate, or the program that stands in their place."""
     if crate.is_program and not crate.has_tests:
         return program(crate, room)
-    began, ended = time.monotonic(), run(["rt", "try", "--test"], room / crate.name)
-    found = RESULT.search(ended.stdout)
+    began, ended = time.monotonic(), tried(room / crate.name, "--test")
+    said = (ended.out + ended.errors).decode(errors="replace")
+    found = RESULT.search(said)
     counts = Counts(int(found[1]), int(found[2])) if found else Counts(0, 1)
-    counts = counts._replace(failed=max(counts.failed, int(ended.returncode != 0)))
-    return told(f"{crate.name}: tests", counts, began, ended.stdout)
+    counts = counts._replace(failed=max(counts.failed, int(ended.status != 0)))
+    return told(f"{crate.name}: tests", counts, began, said)
 
 
 def program(crate, room):
@@ -191,13 +234,12 @@ def program(crate, room):
     if not crate.is_proved:
         files = sorted((room / crate.name).glob("conversations/*.txt"))
         given += b"\n".join(path.read_bytes() for path in files)
-    # `rt ci` runs a program in its folder `data`, `rt try` in that of the crate.
+    # `rt ci` runs a program in its folder `data`, this in that of the crate.
     named = read("args").decode().splitlines()
     named = [f"data/{it}" if (room / crate.name / "data" / it).is_file() else it for it in named]
-    began, words = time.monotonic(), ["rt", "try", "--", *named]
-    ended = subprocess.run(words, cwd=room / crate.name, input=given, capture_output=True)
-    is_well = ended.stdout == read("stdout") and ended.returncode == int(read("status") or 0)
-    said = (ended.stdout + ended.stderr).decode(errors="replace")
+    began, ended = time.monotonic(), tried(room / crate.name, given=given, arguments=named)
+    is_well = ended.out == read("stdout") and ended.status == int(read("status") or 0)
+    said = (ended.out + ended.errors).decode(errors="replace")
     return told(f"{crate.name}: program", Counts(int(is_well), int(not is_well)), began, said)
 
 

@@ -1,13 +1,16 @@
 """Mutants: wrong bodies of functions, each seen refused at a goal of its own function.
 
 The mutants of an edit of crates/CRATE/mutants/ are tried in one check, over what `rt check` keeps of
-the crate. One that is not seen refused among the others is tried again without those that were, and at
-last alone. Where each is refused stands in crates/CRATE/mutants/refused.txt, after a sum of the crate's
-files and of the definitions and contracts of all crates below.
+the crate, and the edits side by side. One that is not seen refused among the others is tried again
+without those that were, and at last alone. Where each is refused stands in
+crates/CRATE/mutants/refused.txt, after a sum of the crate's files and of the definitions and
+contracts of all crates below.
 """
 
 import collections
+import concurrent.futures
 import dataclasses
+import functools
 import hashlib
 import os
 import pathlib
@@ -16,7 +19,7 @@ import shutil
 import sys
 import tempfile
 
-from tools.repository import CRATES, TOP, Counts, below, crates, run
+from tools.repository import CRATES, PROCESSORS, TOP, Counts, below, crates, run
 
 FUNCTION = re.compile(r"( *)(?:pub(?:\([a-z]+\))? )?(?:final |const |unsafe |extern \"C\" )*fn (\w+)")
 IMPL = re.compile(r"(?:pub(?:\([a-z]+\))? )?(?:unsafe )?(?:impl|trait)\b")
@@ -258,10 +261,18 @@ def seen_above(text):
     return without_imports(seen)
 
 
-def sum_of(crate, every):
-    """Returns a sum of what is proved of the crate and of its mutants, and of the definitions and contracts below.
+@functools.cache
+def tokens_of(file, is_below):
+    """Returns the tokens of a file, of one of a crate below those on which crates above may rest. Comments and layout do not count."""
+    text = file.read_text()
+    lines = [line.strip() for line in (seen_above(text) if is_below else text).split("\n")]
+    text = "\n".join(line for line in lines if not line.startswith(("//", "--")))
+    tokens = " ".join(re.findall(r"\w+|[^\w\s]", text))
+    return re.sub(r"[,;] (?=[)}\]])", "", tokens)
 
-    Comments and layout do not count."""
+
+def sum_of(crate, every):
+    """Returns a sum of what is proved of the crate and of its mutants, and of the definitions and contracts below."""
     folders = [(crate, name) for name in ("src", "specs", "proofs", "mutants")]
     others = sorted(below(every, crate.name) - {crate.name})
     folders += [(CRATES / name, part) for name in others for part in ("specs", "src")]
@@ -269,13 +280,7 @@ def sum_of(crate, every):
     for folder, part in folders:
         files = (it for it in (folder / part).rglob("*") if it.suffix in (".rt", ".antt", ".edit"))
         for file in sorted(files):
-            text = file.read_text()
-            text = text if folder == crate else seen_above(text)
-            lines = [line.strip() for line in text.split("\n")]
-            text = "\n".join(line for line in lines if not line.startswith(("//", "--")))
-            tokens = " ".join(re.findall(r"\w+|[^\w\s]", text))
-            tokens = re.sub(r"[,;] (?=[)}\]])", "", tokens)
-            made.update(f"{file.relative_to(CRATES)}\n{tokens}\n".encode())
+            made.update(f"{file.relative_to(CRATES)}\n{tokens_of(file, folder != crate)}\n".encode())
     return made.hexdigest()
 
 
@@ -308,12 +313,13 @@ def show(goals, counts):
 def try_crate(crate):
     """Tries all mutants of a crate, writes where each is refused, and returns the counts of functions."""
     lines, counts = [HEAD + sum_of(crate, crates())], Counts(0)
-    for edit in sorted((crate / "mutants").glob("*.edit")):
-        goals, texts = try_edit(crate, edit)
-        lines += [f"\n## {edit.stem}", *show(goals, texts)]
-        missed = sum(not names for names in goals.values())
-        counts = counts.and_more([Counts(len(goals) - missed, missed)])
-        print(f"{crate.name}/{edit.stem}: {len(goals)} functions, {missed} not refused", flush=True)
+    edits = sorted((crate / "mutants").glob("*.edit"))
+    with concurrent.futures.ThreadPoolExecutor(PROCESSORS) as pool:
+        for edit, (goals, texts) in zip(edits, pool.map(lambda it: try_edit(crate, it), edits)):
+            lines += [f"\n## {edit.stem}", *show(goals, texts)]
+            missed = sum(not names for names in goals.values())
+            counts = counts.and_more([Counts(len(goals) - missed, missed)])
+            print(f"{crate.name}/{edit.stem}: {len(goals)} functions, {missed} not refused", flush=True)
     if counts.failed:
         lines[0] = "# Not all were refused"
     record_of(crate).write_text("\n".join(lines) + "\n")

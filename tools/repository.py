@@ -10,6 +10,8 @@ import tempfile
 import time
 import typing
 
+from bindings import unproved
+
 TOP = pathlib.Path(__file__).resolve().parent.parent
 CRATES = TOP / "crates"
 # The lists of the crates, each with those that it names: what is proved, and what is only run.
@@ -18,6 +20,8 @@ PROVED, UNPROVED = TOP / "crates.txt", TOP / "tests" / "tests.txt"
 UNPROVED_SUFFIX = ".rt.txt"
 PROCESSORS = len(os.sched_getaffinity(0))
 START = time.monotonic()
+# Loaded before there are threads: tools/library.py loads the kit's `rt`, which puts a module of its own under the same name.
+RTLIB = unproved.kit()
 
 os.environ["PATH"] += os.pathsep + "/opt/rattle/bin"
 
@@ -48,9 +52,9 @@ class Ended(typing.NamedTuple):
 class Crate:
     """A crate, the crates of the repository that it names, and whether it is proved or stands in tests/."""
 
-    def __init__(self, name, named, is_proved):
+    def __init__(self, name, named, is_proved, folder=None):
         self.name, self.named, self.is_proved = name, named, is_proved
-        self.folder = (CRATES if is_proved else TOP / "tests") / name
+        self.folder = folder or (CRATES if is_proved else TOP / "tests") / name
         sources = [path for path in self.folder.glob("src/**/*") if path.is_file()]
         self.is_program = any(path.name.startswith("main.rt") for path in sources)
         self.has_tests = any(b"#[test]" in path.read_bytes() for path in sources)
@@ -151,6 +155,24 @@ def counted(text, status):
     found = re.search(r"(\d+) passed, (\d+) failed(?:, (\d+) skipped)?", last)
     counts = Counts(*(int(it or 0) for it in found.groups())) if found else Counts(0, 1)
     return counts._replace(failed=max(counts.failed, int(status != 0)))
+
+
+def tried(folder, *flags, given=b"", arguments=()):
+    """Builds a crate without a proof and runs it, as `rt try` does without the check that looks for what only a check refuses.
+
+    Returns how it ended. Arguments that name files of the crate lie where it runs."""
+    crate = RTLIB.Crate(str(folder), str(folder.parent.parent), {})
+    options = ["--steps", RTLIB.STEPS, "--seconds", str(RTLIB.LIMIT)]
+    for it in arguments:
+        options += ["--arg", it, *(["--data", f"{it}={it}"] if (folder / it).is_file() else [])]
+    root = "src/main.rt" if crate.is_program else "src/lib.rt"
+    with tempfile.TemporaryDirectory() as room:
+        pathlib.Path(room, "stdin").write_bytes(given)
+        options += ["--stdin", f"{room}/stdin"]
+        words = unproved.trial(crate, RTLIB, f"{RTLIB.KIT}/toolchain", options, *flags, root)
+        ran = subprocess.run(words, cwd=folder, capture_output=True, env={**os.environ, "TMPDIR": room})
+    status = re.search(rb"^run=ended status=(\d+) ", ran.stderr, re.M)
+    return Ended(ran.stdout, ran.stderr, int(status[1]) if status and not ran.returncode else 2)
 
 
 def cases(folder, inputs, flags=()):
