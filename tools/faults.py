@@ -29,8 +29,8 @@ FREE = {"map: split_off after all ranges": "no range moves", "set: range_from_js
 
 
 def built(crate, folder):
-    """Builds the program of a crate without a proof, and returns its path."""
-    ended = run([sys.executable, TOP / "bindings" / "unproved.py", folder, crate])
+    """Builds the program of a crate without a proof, and returns its path. It is run briefly: to compile it takes longest."""
+    ended = run([sys.executable, TOP / "bindings" / "unproved.py", folder, crate, "-O1"])
     if ended.returncode:
         sys.exit(f"{ended.stdout[-2000:]}\n{crate.name}: cannot be built")
     return folder / crate.name
