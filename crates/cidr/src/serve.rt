@@ -97,6 +97,29 @@ fn combine(command: Command, list: &mut Addresses, other: &Addresses) -> Result<
     }
 }
 
+/// Puts some addresses together with those of one source more, as the command says.
+fn add_source<R: BufRead + Drop>(
+    alloc: Global,
+    command: Command,
+    list: &mut Addresses,
+    source: Source<R>,
+    reading: Reading,
+    left_out: &mut Vec<u64>,
+) -> Result<(), Stop>
+    ensures put { OnOk result ((other : Addresses) × IfSome (R.remaining source.reader)
+        (λ bytes. (others : ℕ) × IsList reading bytes (other, others)
+        × (left_out.new.items ≡ left_out.old.items ++ others ∷ []))
+        × HasJust list.new (Combined command (Has list.old) (Has other))) }
+    ensures bad { IfErr result (λ stop. IfSome (R.remaining source.reader)
+        (λ bytes. IsStop reading (source.name ∷ []) (bytes ∷ []) stop)) }
+{
+    let other = read_source(alloc, source, reading, left_out)?;
+    match combine(command, list, &other) {
+        Ok(()) => Ok(()),
+        Err(_) => Err(Stop::Memory),
+    }
+}
+
 /// What the command makes of some addresses and those of the sources.
 fn gathered<R: BufRead + Drop>(
     alloc: Global,
@@ -117,11 +140,7 @@ fn gathered<R: BufRead + Drop>(
         → IsStop reading (map (λ s. s.name) (into_iter_items sources)) files stop) }
 {
     while let Some(source) = sources.next() {
-        let other = read_source(alloc, source, reading, left_out)?;
-        match combine(command, &mut list, &other) {
-            Ok(()) => {}
-            Err(_) => return Err(Stop::Memory),
-        }
+        add_source(alloc, command, &mut list, source, reading, left_out)?;
     }
     Ok(list)
 }

@@ -31,10 +31,10 @@ loop-source-preserved g c =
           names files (g.R.Read.remaining c.in-Some.source.reader) c.in-Some.source.name
           (map (λ (s : Source _). g.R.Read.remaining s.reader) (into_iter_items c.next.new.self))
           (map (λ (s : Source _). s.name) (into_iter_items c.next.new.self))
-          numbers c.read_source.new.left_out.items c.loop-source.list c.in_ok-other.other
-          c.combine.new.list
+          numbers c.add_source.new.left_out.items c.loop-source.list c.in_ok-add_source.ensures.put.0
+          c.add_source.new.list
           (subst (IsPut files) steps (c.loop-source.invariant.1 files known))
-          c.in_ok-other.ensures.read c.in-Ok.ensures,
+          c.in_ok-add_source.ensures.put.1 c.in_ok-add_source.ensures.put.2,
     )
 
 pub loop-source-smaller : goal.loop-source-smaller
@@ -56,8 +56,8 @@ returns-clause-made g c = λ files known.
     numbers c.loop-source.list
     (subst IsPut ended (c.loop-source.invariant.1 files known))
 
-pub returns-in_err-other-clause-bad : goal.returns-in_err-other-clause-bad
-returns-in_err-other-clause-bad g c =
+pub returns-in_err-add_source-clause-bad : goal.returns-in_err-add_source-clause-bad
+returns-in_err-add_source-clause-bad g c =
     let error = err_from_is_err_and c.from_residual.result c.from_residual.ensures.1 in
     let numbers = c.loop-source.left_out.items in
     let names = map (λ (s : Source _). s.name) (into_iter_items c.args.sources) in
@@ -73,6 +73,6 @@ returns-in_err-other-clause-bad g c =
     c.in-Some.source.name
     (map (λ (s : Source _). g.R.Read.remaining s.reader) (into_iter_items c.next.new.self))
     (map (λ (s : Source _). s.name) (into_iter_items c.next.new.self))
-    numbers c.loop-source.list c.in_err-other.field-0.0
+    numbers c.loop-source.list c.in_err-add_source.field-0.0
     (subst (IsPut files) steps (c.loop-source.invariant.1 files known))
-    c.in_err-other.ensures.bad)
+    c.in_err-add_source.ensures.bad)
