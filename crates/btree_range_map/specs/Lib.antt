@@ -29,14 +29,14 @@ pub use Rattle.range_algebra.specs.References
 pub use Rattle.range_algebra.specs.Relations
 pub use Rattle.range_algebra.specs.Texts
 pub use Rattle.range_store.specs.Counting
-pub use Rattle.range_store.specs.Depth
-pub use Rattle.range_store.specs.Holding
+pub use Rattle.range_tree.specs.Depth
+pub use Rattle.range_tree.specs.Holding
 pub use Rattle.range_store.specs.ListPlaces
 pub use Rattle.range_runs.specs.Answers
-pub use Rattle.range_map.specs.Appending
+pub use Rattle.range_bulk.specs.Appending
 pub use Rattle.range_map.specs.Askable
 pub use Rattle.range_runs.specs.Bindings
-pub use Rattle.range_edit.specs.Clones as InfallibleClones
+pub use Rattle.range_runs.specs.Clones as InfallibleClones
 pub use Rattle.range_merge.specs.Combining
 pub use Rattle.range_edit.specs.Costs
 pub use Rattle.range_map.specs.Extending as MapExtending
@@ -60,8 +60,8 @@ pub use Rattle.range_map.specs.Retaining
 pub use Rattle.range_runs.specs.Searches
 pub use Rattle.range_map.specs.SimpleUpdates
 pub use Rattle.range_runs.specs.Spelling
-pub use Rattle.range_map.specs.Sorting
-pub use Rattle.range_map.specs.Splitting
+pub use Rattle.range_bulk.specs.Sorting
+pub use Rattle.range_bulk.specs.Splitting
 pub use Rattle.range_runs.specs.Stored
 pub use Rattle.range_map.specs.Texts as MapTexts
 pub use Rattle.range_map.specs.Together
@@ -102,10 +102,10 @@ pub use Rattle.range_algebra.specs.declared.ordering.RangeOrdering
 pub use Rattle.range_algebra.specs.declared.range.parts.Difference
 pub use Rattle.range_algebra.specs.declared.range.parts.Product
 pub use Rattle.range_algebra.specs.declared.range.parts.ProductArg
-pub use Rattle.range_store.specs.declared.btree.BoxStorage
+pub use Rattle.range_tree.specs.declared.btree.BoxStorage
 pub use Rattle.range_store.specs.declared.storage.Item
 pub use Rattle.range_edit.specs.declared.error.MapError
-pub use Rattle.range_edit.specs.declared.error.NotAppended
+pub use Rattle.range_bulk.specs.declared.append.NotAppended
 pub use Rattle.range_edit.specs.declared.error.NotInserted
 pub use Rattle.range_runs.specs.declared.error.UpdateError
 pub use Rattle.range_map.specs.declared.map.try_insert.NotFree
@@ -115,4 +115,4 @@ pub use Rattle.range_commands.specs.declared.command.Reply
 pub use Rattle.range_json.specs.declared.error.JsonError
 pub use Rattle.range_json.specs.declared.error.ReadError
 -- The least and the greatest number of items of a node.
-pub use Rattle.range_store.specs.declared.btree.nodes.TheConstants as NodeConstants
+pub use Rattle.range_nodes.specs.declared.nodes.TheConstants as NodeConstants

@@ -8,8 +8,8 @@ use Rattle.range_keys.specs.Unsigned.{unsigned_order}
 use Rattle.range_keys.specs.Signed.{signed_order}
 use Rattle.range_keys.specs.Characters.{character_order}
 use Rattle.range_algebra.specs.declared.any.AnyRange.{AnyRange}
-use Rattle.range_store.specs.Holding.{box_items}
-use Rattle.range_store.specs.declared.btree.BoxStorage.{BoxStorage}
+use Rattle.range_tree.specs.Holding.{box_items}
+use Rattle.range_tree.specs.declared.btree.BoxStorage.{BoxStorage}
 use Rattle.range_store.specs.declared.storage.Item.{Item}
 use Rattle.range_sets.specs.KeySets.{HoldsKey}
 

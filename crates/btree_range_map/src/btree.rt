@@ -1,3 +1,3 @@
 //! The B-tree in which a map keeps its ranges.
 
-pub use range_store::btree::BoxStorage;
+pub use range_tree::btree::BoxStorage;

@@ -5,11 +5,11 @@ use Rattle.range_keys.specs.Order.{KeyOrder}
 use Rattle.range_algebra.specs.Range.{IsEmptyRange}
 use Rattle.range_algebra.specs.declared.any.AnyRange.{AnyRange}
 use Rattle.range_algebra.proofs.Pieces.{empty_or_not}
-use Rattle.range_store.specs.Depth.{HasLevels}
-use Rattle.range_store.specs.Holding.{box_items}
-use Rattle.range_store.specs.declared.btree.BoxStorage.{BoxStorage}
-use Rattle.range_store.specs.declared.btree.nodes.TheConstants.{CAPACITY}
-use Rattle.range_store.specs.declared.btree.searching.TheConstants.{MAX_ASKS}
+use Rattle.range_tree.specs.Depth.{HasLevels}
+use Rattle.range_tree.specs.Holding.{box_items}
+use Rattle.range_tree.specs.declared.btree.BoxStorage.{BoxStorage}
+use Rattle.range_nodes.specs.declared.nodes.TheConstants.{CAPACITY}
+use Rattle.range_tree.specs.declared.btree.searching.TheConstants.{MAX_ASKS}
 use Rattle.range_store.specs.declared.storage.Item.{Item}
 use Rattle.range_edit.specs.Costs.{TakesAtLeast, TakesAsChange, IsGreatestLevel}
 use Rattle.range_commands.specs.CountedRuns.{least_if, HasNoMemory, IsDone, ChangeTakes, LookupTakes, TakesFor, IsDue, IsRunOfDue, IsCountedRun}

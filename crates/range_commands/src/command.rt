@@ -3,8 +3,8 @@ ghost use Rattle.std.specs.Prelude.{◌≡◌, ℕ, ◌+◌, ◌*◌, ◌≤◌,
 ghost use Rattle.std.specs.Option.{option_copied};
 ghost use Rattle.range_algebra.specs.Range.{ClonesAreEqual, IsEmptyRange};
 ghost use Rattle.range_runs.specs.Bindings.{Binds, IsBound};
-ghost use Rattle.range_store.specs.Holding.{box_items};
-ghost use Rattle.range_store.specs.declared.btree.searching.TheConstants.{MAX_ASKS};
+ghost use Rattle.range_tree.specs.Holding.{box_items};
+ghost use Rattle.range_tree.specs.declared.btree.searching.TheConstants.{MAX_ASKS};
 ghost use Rattle.range_edit.specs.Costs.{TakesAtLeast, greatest_level};
 ghost use Rattle.range_commands.specs.CountedRuns.{ChangeTakes, LookupTakes, TakesFor, least_if, IsCountedRun, IsRunOfDue, HasNoMemory};
 ghost use Rattle.range_commands.specs.Runs.{IsInsertion, IsStep, IsRun, HasNoUpdate};
@@ -15,7 +15,7 @@ ghost use Rattle.range_commands.specs.declared.command.Command.TheVariants.{Upda
 use range_algebra::any::AnyRange;
 use range_keys::traits::{Measure, PartialEnum};
 use range_map::map::{MapError, NotInserted, RangeMap, UpdateError};
-use range_store::btree::BoxStorage;
+use range_tree::btree::BoxStorage;
 use range_store::storage::{Item, Steps, Storage};
 use std::alloc::{AllocError, Global};
 

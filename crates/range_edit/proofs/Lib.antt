@@ -11,7 +11,6 @@ pub mod OuterBounds
 pub mod OuterRange
 pub mod Planned
 pub mod RangeSides
-pub mod Results
 pub mod SewnSides
 pub mod SidePlans
 pub mod SpelledChanges

@@ -123,7 +123,3 @@ module _ {K V : Type 0} where
       → (xs : List (Item (AnyRange K) V)) → Every (λ j. HasValue order same xs j.value) xs
   own_values order same equal [] = tt
   own_values order same equal (x ∷ xs) = grind (arith, common_steps, own_values order same equal xs, every_weaker)
-
-pub prefix_is_all : {X : Type 0} (done rest all : List X) → done ++ rest ≡ all → length rest ≡ 0
-    → done ≡ all
-prefix_is_all done rest all e h = grind (arith, common_steps)

@@ -3,7 +3,7 @@
 use Rattle.std.specs.Prelude.{◌+◌, ◌*◌, ◌≤◌, ◌≡◌, ◌-◌, ◌^◌, ◌⊎◌, if◌then◌else◌}
 use Rattle.range_edit.specs.Common.{ℕ, min, zero, suc, nat_lt}
 use Rattle.range_store.specs.Counting.{greatest_count}
-use Rattle.range_store.specs.declared.btree.nodes.TheConstants.{MIN_LEN}
+use Rattle.range_nodes.specs.declared.nodes.TheConstants.{MIN_LEN}
 
 -- from `before` to `after` a counter took at least so many steps
 abbrev pub TakesAtLeast : ℕ → ℕ → ℕ → Type 0

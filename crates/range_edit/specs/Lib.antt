@@ -1,7 +1,6 @@
 pub mod Apart
 pub mod Borders
 pub mod Changes
-pub mod Clones
 pub mod Common
 pub mod Costs
 pub mod Plans

@@ -1,13 +1,13 @@
-//! Where a range cuts a stored item, and the bound that the item then has.
+//! Where a range cuts a stored item, and what its parts need.
 ghost use Rattle.std.specs.Prelude.{◌≡◌, ◌↔◌, ◌≤◌, IfOk, IsOk, OnOk, IsTrue, slice_index_or};
 ghost use Rattle.range_keys.specs.Position.{bound_of, position_cmp};
-ghost use Rattle.range_algebra.specs.Clones.{IsBoundClone, SameBound};
+ghost use Rattle.range_algebra.specs.Clones.{SameBound};
 ghost use Rattle.range_algebra.specs.Cuts.{lower, upper};
 ghost use Rattle.range_algebra.specs.Intervals.{Lt};
 ghost use Rattle.range_algebra.specs.Range.{ClonesAreEqual, IsKnownBound};
 ghost use Rattle.range_algebra.specs.declared.any.AnyRange.{AnyRange};
 ghost use Rattle.range_store.specs.declared.storage.Item.{Item};
-ghost use Rattle.range_edit.specs.Clones.{ClonesNeverFail};
+ghost use Rattle.range_runs.specs.Clones.{ClonesNeverFail};
 ghost use Rattle.range_runs.specs.Edits.{flipped_bound, KeepsPositions};
 
 use range_algebra::any::AnyRange;
@@ -15,37 +15,10 @@ use range_algebra::inner;
 use range_algebra::range::AsRange;
 use range_keys::bound::Directed;
 use range_keys::traits::{Measure, PartialEnum};
-use range_runs::bounds::{flip, known_bound};
+use range_runs::bounds::{cut_bound, flip};
 use range_store::storage::{Item, Storage};
 use std::alloc::AllocError;
 use std::ops::{Bound, RangeBounds};
-
-/// A clone of the bound on the other side of the one that is referred to.
-fn flip_clone<K: Clone>(bound: Bound<&K>) -> Result<Bound<K>, AllocError>
-    ensures clone { IfOk result
-        (λ copy. IsBoundClone K.is_clone (flipped_bound (bound_of bound.entry)) copy) }
-    ensures succeeds { ClonesNeverFail K.is_infallible → IsOk result }
-{
-    Ok(match bound {
-        Bound::Included(key) => Bound::Excluded(key.clone()?),
-        Bound::Excluded(key) => Bound::Included(key.clone()?),
-        Bound::Unbounded => Bound::Unbounded,
-    })
-}
-
-/// The bound that an item has where it is cut at a bound: that one on its other side, with a clone
-/// of its value.
-pub fn cut_bound<K: PartialEnum + Clone>(bound: Bound<&K>) -> Result<Bound<K>, AllocError>
-    requires { ClonesAreEqual K.is_clone K.eq }
-    ensures known { IfOk result (λ cut. IsKnownBound K.order cut) }
-    ensures flipped { IfOk result
-        (λ cut. SameBound K.order (flipped_bound (bound_of bound.entry)) cut) }
-    ensures succeeds { ClonesNeverFail K.is_infallible → IsOk result }
-{
-    let cut = flip_clone(bound)?;
-    known_bound(&cut);
-    Ok(cut)
-}
 
 /// What the parts of an item need where a range is cut out of it.
 #[derive(Drop)]

@@ -1,7 +1,6 @@
 //! Why a call was refused.
 ghost use Rattle.std.specs.Prelude.{◌≡◌};
 ghost use Rattle.range_edit.specs.declared.error.MapError.TheVariants.{Memory};
-ghost use Rattle.range_edit.specs.declared.error.NotAppended.TheVariants.{Memory as AppendMemory};
 
 use range_algebra::any::AnyRange;
 use std::alloc::{AllocError, AllocFailed};
@@ -56,24 +55,5 @@ impl<K: Debug, V: Debug> Debug for NotInserted<K, V> {
             .field(&range.end)
             .field(value)
             .finish()
-    }
-}
-
-/// Why the ranges of a map were not moved to the end of another.
-#[derive(Debug, Drop, Clone, Copy, PartialEq, Eq, Error)]
-pub enum NotAppended {
-    /// Some range of the other map does not lie after all ranges of the one.
-    #[error("a range does not lie after all ranges of the map")]
-    OutOfOrder,
-    /// There was not enough memory.
-    #[error("out of memory")]
-    Memory,
-}
-
-impl From<AllocError> for NotAppended {
-    ghost from_gives = { λ _ e. e ≡ AppendMemory };
-
-    fn from(_error: AllocError) -> NotAppended {
-        NotAppended::Memory
     }
 }

@@ -4,7 +4,7 @@ ghost use Rattle.std.specs.Prelude.{◌≡◌, ◌+◌, ◌*◌, ◌≤◌, ◌<
 ghost use Rattle.range_algebra.specs.Range.{ClonesAreEqual, IsEmptyRange};
 ghost use Rattle.range_store.specs.Counting.{AddsSteps};
 ghost use Rattle.range_runs.specs.Bindings.{IsUnboundAfter};
-ghost use Rattle.range_edit.specs.Clones.{ClonesNeverFail};
+ghost use Rattle.range_runs.specs.Clones.{ClonesNeverFail};
 ghost use Rattle.range_runs.specs.Stored.{IsStored};
 ghost use Rattle.range_runs.specs.Window.{IsWindowOf};
 ghost use Rattle.range_edit.specs.Reach.{AreApart, IsReachOf, IsSurroundedOf};

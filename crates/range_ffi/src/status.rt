@@ -1,7 +1,7 @@
 //! What a call answers.
 ghost use Rattle.std.specs.Prelude.{◌≡◌, ◌≢◌, ◌↔◌, ◌⊎◌, IsTrue};
 ghost use Rattle.range_edit.specs.Apart.{IsConnectedError};
-ghost use Rattle.range_map.specs.Appending.{IsOutOfOrder};
+ghost use Rattle.range_bulk.specs.Appending.{IsOutOfOrder};
 ghost use Rattle.range_map.specs.Freeing.{IsOccupied};
 
 use range_map::map::{NotAppended, NotFree, NotInserted};

@@ -2,7 +2,7 @@
 use Rattle.range_map.proofs.ClosureAnswers.{every_one}
 use Rattle.range_map.proofs.Common.{arith, common_steps, ◌≡◌, List, [], ◌∷◌, inl, inr, Option, Some, None, Included, KeyOrder, IsLawful, IsComplete, start_position, end_position, Beside, At, AnyRange, Holds, IsEmptyRange, any_none, every_weaker, Item, IsBound, Overlap, BindsAllOf, AreGapsWithin, LiesIn, IsCommonPart, IsFreePart, IsPiece, ArePieces, not_greater, not_both_greater_and_not, holds_by_position, any_use, later_over, earlier_under, binding_meets, le_refl, eq_le, eq_ge, le_trans, not_lt, nonempty_holds}
 use Rattle.range_merge.proofs.HeldInside.{lies_in_holds}
-use Rattle.range_map.proofs.BoundKeys.{bound_or_not, none_holds}
+use Rattle.range_bulk.proofs.BoundKeys.{bound_or_not, none_holds}
 
 -- a common part of two ranges lies in both
 pub common_lies_in : {K : Type 0} (order : KeyOrder K) (lawful : IsLawful order)

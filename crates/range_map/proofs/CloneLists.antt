@@ -1,7 +1,7 @@
 -- A list of clones: equal item by item to its source, and in the same form.
 use Rattle.range_map.proofs.Common.{arith, common_steps, ◌≡◌, sym, ◌∙◌, List, [], ◌∷◌, Bool, true, ◌&&◌, IsTrue, All, AllZip, Every, Equal, is_eq, eq_by_cmp, Equal-is, Ordering, IsEquivalence, alike_right, tied_back, and_from, and_parts, KeyOrder, IsLawful, start_position, end_position, position_cmp, position_total, Position, Bound, IsBoundClone, range_clone, IsKnownRange, IsEmptyRange, range_cmp, range_total, AnyRange, Item, IsCopyOf, LiesBefore, Touches, IsStored, both_equal, eq_is_equal, before_is, nonempty_good, touches_is, IsListed, stored_list_is_listed, stored_by, eq_le, eq_ge, le_trans, recursion_from_All}
 use Rattle.range_algebra.specs.Clones.{IsBoundInfallible}
-use Rattle.range_edit.specs.Clones.{ClonesNeverFail}
+use Rattle.range_runs.specs.Clones.{ClonesNeverFail}
 use Rattle.range_runs.proofs.Extents.{past_le}
 
 -- clones of keys are tied in their order where clones are equal

@@ -3,7 +3,7 @@
 use Rattle.range_map.proofs.Common.{common_steps, ◌≡◌, refl, ap, ◌∙◌, ℕ, suc, ◌≤◌, List, [], ◌∷◌, length, ◌⊎◌, inl, inr, Bool, true, IsTrue, Some, arith, is_gt, IsEquivalence, tied_itself, KeyOrder, IsLawful, Below, Holds, AnyRange, Item, LiesBetween, IsBound, BindsTo, BindAlike, AreDisjoint, IsCoarse, AreAlike, not_not_less, binds_bound, Any, any_over}
 use Rattle.std.proofs.lemmas.Bool.Decides.{leb_tells}
 use Rattle.range_algebra.proofs.Pieces.{start_up, end_down}
-use Rattle.range_map.proofs.BoundKeys.{bound_value}
+use Rattle.range_bulk.proofs.BoundKeys.{bound_value}
 
 -- what is decided may be shown by two denials
 

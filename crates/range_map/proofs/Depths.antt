@@ -1,8 +1,8 @@
 -- There is one greatest number of levels, and `greatest_level` is it.
 use Rattle.range_map.proofs.Common.{common_steps, ◌≡◌, ℕ, zero, suc, ◌+◌, ◌-◌, ◌*◌, ◌^◌, ◌<◌, ◌≤◌, ◌⊎◌, inl, refl, arith}
 use Rattle.std.proofs.lemmas.Bool.Decides.{leb_tells}
-use Rattle.range_store.specs.declared.btree.nodes.TheConstants.{MIN_LEN}
-use Rattle.range_store.proofs.Levels.{pow_more}
+use Rattle.range_nodes.specs.declared.nodes.TheConstants.{MIN_LEN}
+use Rattle.range_tree.proofs.Levels.{pow_more}
 use Rattle.range_edit.specs.Costs.{IsGreatestLevel, greatest_level, greatest_level_to}
 
 -- the level may be reached

@@ -1,6 +1,6 @@
 -- One item more that is bound after others.
 use Rattle.range_map.proofs.Common.{arith, common_steps, ◌≡◌, Bool, List, [], ◌∷◌, ◌++◌, ◌↔◌, ◌⊎◌, inl, inr, Option, KeyOrder, Holds, AnyRange, Item, Binds, IsBound, IsBoundAfter, IsSomeOf, AreBoundAfter}
-use Rattle.range_map.proofs.BoundKeys.{bound_split}
+use Rattle.range_bulk.proofs.BoundKeys.{bound_split}
 
 -- where the last of a list stands, that is parted at an item
 record PartsBefore {X : Type 0} (xs front rest : List X) (x i : X) : Type 0 where

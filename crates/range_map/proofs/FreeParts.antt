@@ -1,12 +1,12 @@
 -- What stands free between the items of a stored list is all of its gaps.
 use Rattle.std.proofs.Common.{◌≡◌, refl, sym, ap, Option, Some, Bool, List, [], ◌∷◌, ◌++◌, inl, inr, map, if◌then◌else◌, ◌+◌, ◌≤◌, arith, length, length-append}
 use Rattle.range_map.proofs.Common.{common_steps, append-nil, IsEquivalence, Bound, Unbounded, KeyOrder, IsLawful, AnyRange, any_left, any_right, any_none, every_append, every_weaker, flipped, Any, Every, Holds, IsEmptyRange, IsKnownRange, LiesBefore, Item, full_range, item_ranges, IsHeldOnce, AreGaps, between, free_from, free_ranges, free_piece, pieces_from, LiesIn, Overlap, ArePieces, AreGapsWithin, IsStored, not_both_greater_and_not, every_nonempty, every_with, stored_list_is_listed, start_position, end_position, position_cmp, Le, held_between, unbounded_start, stored_known, any_with, AreOverlapping, le_trans, lt_not_le}
-use Rattle.range_map.proofs.BoundKeys.{bound_or_not, bound_ranges, shared_key_is_overlap}
+use Rattle.range_bulk.proofs.BoundKeys.{bound_or_not, bound_ranges, shared_key_is_overlap}
 use Rattle.range_map.proofs.BindingAll.{point_is_free, within_nonempty}
 use Rattle.range_runs.proofs.RunItems.{ends_full}
 use Rattle.range_reads.proofs.FreeRanges.{free_append}
 use Rattle.range_map.proofs.FreePieces.{Pairs, all_free, all_pieces, any_free, free_pairs, gaps_within_are, pieces_ascend}
-use Rattle.range_map.proofs.Together.{IsAscending, stored_ascends}
+use Rattle.range_bulk.proofs.Ascending.{IsAscending, stored_ascends}
 
 pairs_append : {X : Type 0} (R : X → X → Type 0) (xs ys : List X) → Pairs R xs → Pairs R ys
     → Every (λ y. Every (λ x. R x y) xs) ys → Pairs R (xs ++ ys)

@@ -4,7 +4,7 @@ use Rattle.range_map.proofs.Common.{arith, common_steps, IsEquivalence, Equal, K
 use Rattle.range_runs.specs.Neighbours.{EachNext}
 use Rattle.range_runs.proofs.PieceLists.{IsOver, pieces_are, free_shows}
 use Rattle.range_map.proofs.BindingAll.{no_pieces, no_free_part}
-use Rattle.range_map.proofs.Together.{IsAscending, ascends}
+use Rattle.range_bulk.proofs.Ascending.{IsAscending, ascends}
 
 -- what holds between each member and those after it
 abbrev pub Pairs : {X : Type 0} → (X → X → Type 0) → List X → Type 0

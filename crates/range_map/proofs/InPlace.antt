@@ -1,6 +1,6 @@
 -- The items of a list that are bound one after the other, and ranges that are unbound so.
 use Rattle.range_map.proofs.Common.{arith, common_steps, append_assoc, ◌≡◌, refl, subst, ◌∙◌, ◌↔◌, ◌⊎◌, inl, inr, Bool, true, List, [], ◌∷◌, ◌++◌, Option, Some, None, IsEquivalence, Equal, KeyOrder, IsLawful, Any, Holds, range_cmp, AnyRange, Item, IsBound, BindsTo, Binds, IsSomeOf, IsBoundAfter, IsUnboundAfter, IsStored, item_ranges, IsHeldOnce, IsOverlaid, IsRestricted, IsWithout, equal_is_same, held_or_not, AreUnboundAfter}
-use Rattle.range_map.proofs.BoundKeys.{bound_split, binds_split, binds_by}
+use Rattle.range_bulk.proofs.BoundKeys.{bound_split, binds_split, binds_by}
 use Rattle.range_map.proofs.HeldOnce.{one_of_two}
 use Rattle.range_map.proofs.Once.{bound_once}
 

@@ -2,7 +2,7 @@
 use Rattle.range_map.proofs.Common.{common_steps, ◌≡◌, ◌∙◌, refl, sym, ap, ℕ, ◌+◌, ◌-◌, ◌<◌, ◌≤◌, Bool, true, false, List, [], ◌∷◌, ◌++◌, length, arith, subst, remove, slice_index_or, items_where_true, IsEquivalence, length-append, length_push, append_assoc, append-nil, remove-append_right, KeyOrder, IsLawful, Every, AnyRange, Item, BindsTo, Line, Follows, IsChain, line_of, IsStored, strictly_leads, stored_known, stored_chain, chain_stored, binds_bound, BindOnlyAsBefore}
 use Rattle.std.specs.List.Retain.{ReturnsInTurn}
 use Rattle.range_algebra.specs.Orders.{le_lt_trans, lt_le_trans}
-use Rattle.range_map.proofs.BoundKeys.{bound_value, bound_to_equal}
+use Rattle.range_bulk.proofs.BoundKeys.{bound_value, bound_to_equal}
 use Rattle.range_map.proofs.Once.{bound_once}
 
 every_kept : {X : Type 0} (P : X → Type 0) (bs : List Bool) (xs : List X) → Every P xs

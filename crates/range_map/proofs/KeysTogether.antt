@@ -4,7 +4,7 @@ use Rattle.range_map.proofs.Common.{arith, common_steps, ◌≡◌, refl, inl, i
 use Rattle.range_keys.proofs.BoundPositions.{starts_lie_at_starts, ends_lie_at_ends}
 use Rattle.range_algebra.proofs.Canonical.{NotPast, IsBefore, KeyFrom, key_from}
 use Rattle.range_merge.proofs.HeldInside.{inside_holds}
-use Rattle.range_map.proofs.BoundKeys.{below_all}
+use Rattle.range_bulk.proofs.BoundKeys.{below_all}
 use Rattle.range_map.proofs.StoredLists.{tail_is_stored}
 
 abbrev any_same : {V : Type 0} → V → V → Bool

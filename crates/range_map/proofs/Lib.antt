@@ -1,7 +1,5 @@
 mod Common
-pub mod AppendedLists
 pub mod BindingAll
-pub mod BoundKeys
 pub mod CloneLists
 pub mod ClosureAnswers
 pub mod Coarse
@@ -10,7 +8,6 @@ pub mod ExtendedLists
 pub mod FreeParts
 pub mod HeldOnce
 pub mod InPlace
-pub mod JoinedItems
 pub mod KeysTogether
 pub mod Likeness
 pub mod MappedValues
@@ -22,8 +19,6 @@ pub mod FreePieces
 pub mod ReboundKeys
 pub mod KeptItems
 pub mod Scans
-pub mod SortedLists
-pub mod SplitLists
 pub mod StoredLists
 pub mod Together
 pub mod WrittenItems

@@ -7,7 +7,7 @@ use Rattle.range_algebra.specs.Numbers.{IsNumberOfKeys}
 use Rattle.range_algebra.proofs.MeasureSums.{list_measure_fits, list_measure_is_number, first_known, rest_in_order}
 use Rattle.range_algebra.proofs.Measuring.{full_measure}
 use Rattle.range_algebra.proofs.Numbers.{number_same}
-use Rattle.range_map.proofs.BoundKeys.{bound_ranges}
+use Rattle.range_bulk.proofs.BoundKeys.{bound_ranges}
 
 zero_sum : (o : Option ℕ) → o ≡ measure_sum (Some 0) o
 zero_sum option = grind (arith, common_steps)

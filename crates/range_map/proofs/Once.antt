@@ -1,6 +1,6 @@
 -- A list in stored form binds a key once.
 use Rattle.range_map.proofs.Common.{arith, common_steps, Bool, IsTrue, List, [], ◌∷◌, inl, inr, IsEquivalence, KeyOrder, IsLawful, Position, AnyRange, Item, BindsTo, item_upper, IsStored, binds_bound}
-use Rattle.range_map.proofs.JoinedItems.{RisesFrom, first_alone, stored_rises}
+use Rattle.range_bulk.proofs.JoinedItems.{RisesFrom, first_alone, stored_rises}
 
 module _ {K : Type 0} {order : KeyOrder K} (lawful : IsLawful order) {V : Type 0}
     {same : V → V → Bool} (equal : IsEquivalence same) where

@@ -1,6 +1,6 @@
 -- What a copy of one of the two values of each key makes of two lists.
 use Rattle.range_map.proofs.Common.{arith, common_steps, ◌≡◌, refl, subst, ◌↔◌, inl, inr, Bool, true, false, List, Option, Some, None, Result, Ok, IsEquivalence, Shared, FnReturnsAt, Bor, KeyOrder, IsLawful, ClonesAreEqual, AnyRange, Item, IsAsAnswered, IsBound, Binds, IsCombinedAt, AreCombined, IsSecondOrFirst, MayOverlay, first_where, IsCopyOfValue, IsOverlaid, IsRestricted, IsWithout, IsStored, binds_bound}
-use Rattle.range_map.proofs.BoundKeys.{bound_or_not, bound_to_equal, binds_by}
+use Rattle.range_bulk.proofs.BoundKeys.{bound_or_not, bound_to_equal, binds_by}
 use Rattle.range_map.proofs.Once.{bound_once}
 
 -- the second value, or the first where there is none

@@ -1,7 +1,7 @@
 -- What the keys of a piece are bound to, and what they come to be bound to by an answer to it.
 use Rattle.range_map.proofs.Common.{arith, common_steps, ◌≡◌, Bool, List, [], ◌∷◌, map, Option, ◌↔◌, Result, Ok, Bor, Shared, IsEquivalence, KeyOrder, IsLawful, Any, Every, every_weaker, Holds, AnyRange, Item, Answered, IsAsAnswered, MayAnswer, IsUpdated, piece_of, Binds, BindsTo, IsPiece, IsCommonPart, IsRebound, AreRebound}
 use Rattle.range_map.proofs.BindingAll.{common_lies_in}
-use Rattle.range_map.proofs.BoundKeys.{none_holds, shared_key_is_overlap}
+use Rattle.range_bulk.proofs.BoundKeys.{none_holds, shared_key_is_overlap}
 use Rattle.range_merge.proofs.HeldInside.{lies_in_holds}
 
 module _ {K : Type 0} {order : KeyOrder K} (lawful : IsLawful order) (k : K)

@@ -1,5 +1,5 @@
 -- Where the items of a list do not hold a key.
-use Rattle.range_map.proofs.BoundKeys.{none_holds as none_are_held}
+use Rattle.range_bulk.proofs.BoundKeys.{none_holds as none_are_held}
 use Rattle.range_map.proofs.Common.{arith, ℕ, List, length, take, ◌≤◌, All, take_all, KeyOrder, Holds, AnyRange, Item, IsBound, recursion_from_All}
 
 module _ {K : Type 0} (order : KeyOrder K) {V : Type 0} where

@@ -2,7 +2,7 @@
 -- key alike.
 use Rattle.range_map.proofs.Common.{arith, common_steps, ◌≡◌, refl, sym, ap, ◌∙◌, List, [], ◌∷◌, length, ◌↔◌, Bool, IsTrue, Some, Ordering, Equal, is_eq, eq_by_cmp, IsEquivalence, IsTotalOrder, Equal-is, alike_right, first_so, second_so, KeyOrder, IsLawful, IsComplete, Holds, IsKnownRange, IsEmptyRange, IsKeyless, AnyRange, Every, and_from, Item, IsBound, BindsTo, BindAlike, IsCoarse, AreAlike, IsOnlyCoarse, IsLeastCount, IsStored, same_list, list_cmp, lists_tied, lists_order, empty_is_keyless, same_is_equal, equal_is_same, binds_bound, nonempty_holds}
 use Rattle.range_algebra.proofs.Meeting.{not_greater}
-use Rattle.range_map.proofs.BoundKeys.{bound_value, bound_to_equal, bound_by, binds_by}
+use Rattle.range_bulk.proofs.BoundKeys.{bound_value, bound_to_equal, bound_by, binds_by}
 use Rattle.range_map.proofs.Coarse.{coarse_alike, coarse_shortest}
 use Rattle.range_algebra.proofs.Joined.{before_is, ends_below, joined_touch, is_before_of}
 

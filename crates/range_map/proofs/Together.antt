@@ -1,6 +1,6 @@
 -- Two lists of ranges in one pass over both: what the first ranges say of all.
-use Rattle.range_map.proofs.Common.{common_steps, ◌≡◌, ◌<◌, ◌↔◌, inl, inr, Bool, Option, Some, None, List, [], ◌∷◌, ◌++◌, length, arith, MatchOption, option_map, Bor, KeyOrder, IsLawful, start_position, end_position, position_cmp, Le, Any, Every, IsEmptyRange, LiesBefore, AnyRange, any_none, every_weaker, Item, shown_item, MeetsSome, LiesIn, IsStored, not_greater, MeetNowhere, LieInside, IsListed, stored_list_is_listed, le_trans, lt_le, lt_not_le, lt_le_trans}
-use Rattle.range_runs.specs.Neighbours.{EachNext}
+use Rattle.range_map.proofs.Common.{common_steps, ◌≡◌, ◌<◌, ◌↔◌, inl, inr, Bool, Option, Some, None, List, [], ◌∷◌, ◌++◌, length, arith, MatchOption, option_map, Bor, KeyOrder, IsLawful, position_cmp, Le, Any, Every, IsEmptyRange, LiesBefore, AnyRange, any_none, Item, shown_item, MeetsSome, LiesIn, IsStored, MeetNowhere, LieInside, le_trans, lt_le, lt_not_le, lt_le_trans}
+use Rattle.range_bulk.proofs.Ascending.{IsAscending, before_rest, before_through, stored_ascends, within}
 use Rattle.range_runs.specs.Window.{option_items}
 
 -- an iterator and what it gave next, as the list of both
@@ -36,20 +36,13 @@ none_met order W [] = tt
 none_met order W (i ∷ items) = (λ h. h, none_met order W items)
 
 module _ {K : Type 0} (order : KeyOrder K) where
-  -- nonempty ranges, each before all that follow
-  abbrev pub IsAscending : {V : Type 0} → List (Item (AnyRange K) V) → Type 0
-  IsAscending [] = Unit {0}
-  IsAscending (i ∷ rest) =
-      (¬ IsEmptyRange order i.key) × Every (λ j. LiesBefore order i.key j.key) rest
-      × IsAscending rest
-
   module _ {V W : Type 0} (M : List (Item (AnyRange K) V) → List (Item (AnyRange K) W) → Type 0)
     where
       -- what is left of two lists, which are so exactly where what is left is
       pub record IsLeft (items : List (Item (AnyRange K) V)) (others : List (Item (AnyRange K) W))
           (left : List (Item (AnyRange K) V)) (right : List (Item (AnyRange K) W)) : Type 0 where
-        pub left_ascends : IsAscending left
-        pub right_ascends : IsAscending right
+        pub left_ascends : IsAscending order left
+        pub right_ascends : IsAscending order right
         pub same : M items others ↔ M left right
 
       -- what is left where the iterators gave these next and have these left
@@ -72,52 +65,10 @@ module _ {K : Type 0} (order : KeyOrder K) where
 
       abbrev pub Tells : (AnyRange K → AnyRange K → Type 0) → Type 0
       Tells F = (i : Item (AnyRange K) V) (left : List (Item (AnyRange K) V))
-          (j : Item (AnyRange K) W) (right : List (Item (AnyRange K) W)) → IsAscending (i ∷ left)
-          → IsAscending (j ∷ right) → IsTold F i left j right
+          (j : Item (AnyRange K) W) (right : List (Item (AnyRange K) W)) → IsAscending order (i ∷ left)
+          → IsAscending order (j ∷ right) → IsTold F i left j right
 
 module _ {K : Type 0} {order : KeyOrder K} (lawful : IsLawful order) where
-  within : (r : AnyRange K) → (¬ IsEmptyRange order r)
-      → Le (position_cmp order.cmp) (start_position order r.start) (end_position order r.end)
-  within r full = not_greater _ full
-
-  -- what lies before a range lies before what that range lies before
-  before_through : (r s t : AnyRange K) → (¬ IsEmptyRange order s) → LiesBefore order r s
-      → LiesBefore order s t → LiesBefore order r t
-  before_through r s t full h k =
-      lt_le_trans lawful _ _ _ h (le_trans lawful _ _ _ (within s full) (lt_le lawful _ _ k))
-
-  before_rest : {V : Type 0} (r s : AnyRange K) (rest : List (Item (AnyRange K) V))
-      → LiesBefore order r s → (¬ IsEmptyRange order s)
-      → Every (λ l. LiesBefore order s l.key) rest → Every (λ l. LiesBefore order r l.key) rest
-  before_rest r s rest h full all =
-      every_weaker _ _ rest (λ l k. before_through r s l.key full h k) all
-
-  module _ {V : Type 0} where
-    pub ascends : (items : List (Item (AnyRange K) V))
-        → Every (λ i. ¬ IsEmptyRange order i.key) items
-        → EachNext (λ i j. LiesBefore order i.key j.key) items → IsAscending order items
-    ascends [] full rising = tt
-    ascends (i ∷ []) full rising = (full.0, tt, tt)
-    ascends (i ∷ j ∷ rest) full rising =
-        let later = ascends (j ∷ rest) full.1 rising.1 in (
-          full.0,
-          (rising.0, before_rest i.key j.key rest rising.0 later.0 later.1),
-          later,
-        )
-
-    listed_ascends : (same : V → V → Bool) (items : List (Item (AnyRange K) V))
-        → IsListed order lawful same items → IsAscending order items
-    listed_ascends same [] h = tt
-    listed_ascends same (i ∷ []) h = (h.1, tt, tt)
-    listed_ascends same (i ∷ j ∷ rest) h =
-        let later = listed_ascends same (j ∷ rest) h.4 in
-        (h.1, (h.2, before_rest i.key j.key rest h.2 later.0 later.1), later)
-
-    pub stored_ascends : {same : V → V → Bool} {items : List (Item (AnyRange K) V)}
-        → IsStored order same items → IsAscending order items
-    stored_ascends {same = same} {items = items} h =
-        listed_ascends same items (stored_list_is_listed order lawful same items h)
-
   module _ {V W : Type 0} where
     -- at first both lists are left
     pub sets_out : (M : List (Item (AnyRange K) V) → List (Item (AnyRange K) W) → Type 0)
@@ -130,7 +81,7 @@ module _ {K : Type 0} {order : KeyOrder K} (lawful : IsLawful order) where
         → Gives before next ranges → Gives before_other near rest
         → IsPass order M items others next ranges near rest
     sets_out M before ranges items next before_other rest others near e f stored stored_other steps
-        steps_other = grind (arith, common_steps, stepped, stored_ascends, drained)
+        steps_other = grind (arith, common_steps, stepped, stored_ascends lawful, drained)
 
     -- a range before all of the first list tells nothing of them
     past_second : (P : Item (AnyRange K) V → List (Item (AnyRange K) W) → Type 0)
@@ -140,7 +91,7 @@ module _ {K : Type 0} {order : KeyOrder K} (lawful : IsLawful order) where
         → P x (j ∷ right) ↔ P x right) → IsAscending order (i ∷ left) → LiesBefore order j.key i.key
         → Every (λ x. P x (j ∷ right)) (i ∷ left) ↔ Every (λ x. P x right) (i ∷ left)
     past_second P i left j right f rising h =
-        past_all (i ∷ left) rising (h, before_rest j.key i.key left h rising.0 rising.1)
+        past_all (i ∷ left) rising (h, before_rest lawful j.key i.key left h rising.0 rising.1)
       where
         past_all : (xs : List (Item (AnyRange K) V)) → IsAscending order xs
             → Every (λ x. LiesBefore order j.key x.key) xs
@@ -158,7 +109,7 @@ module _ {K : Type 0} {order : KeyOrder K} (lawful : IsLawful order) where
     }
       where
         unmet : LiesBefore order i.key j.key → ¬ MeetsSome order (j ∷ right) i.key
-        unmet h either = grind (arith, common_steps, any_none, before_through)
+        unmet h either = grind (arith, common_steps, any_none, before_through lawful)
 
         unmet_by : (x : Item (AnyRange K) V) → LiesBefore order j.key x.key
             → (¬ MeetsSome order right x.key) → ¬ MeetsSome order (j ∷ right) x.key
@@ -178,7 +129,7 @@ module _ {K : Type 0} {order : KeyOrder K} (lawful : IsLawful order) where
             → Any (λ l. LiesIn order x.key l.key) right
         in_rest x before full (inl inside) =
             absurd (lt_not_le lawful _ _ before
-            (le_trans lawful _ _ _ (within x.key full) inside.ends))
+            (le_trans lawful _ _ _ (within lawful x.key full) inside.ends))
         in_rest x before full (inr inside) = inside
 
 module _ {K V W : Type 0} {order : KeyOrder K}

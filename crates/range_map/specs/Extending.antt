@@ -1,12 +1,9 @@
 -- What items that are bound one after the other make of a list, and how far an iterator over them
 -- was taken.
 use Rattle.std.specs.Prelude.{◌≡◌, ◌↔◌, ◌∷◌, ◌++◌, Bool, Option, Some, List, map}
+pub use Rattle.range_bulk.specs.Sorting.{item_of}
 use Rattle.range_map.specs.Common.{KeyOrder, Holds, IsEmptyRange, AnyRange, Item, Binds, IsBound, IsSomeOf}
 use Rattle.std.specs.Iterator.{Drains, YieldsThen}
-
--- the item that what is read as a range and a value are
-abbrev pub item_of : {R K V : Type 0} → (R → AnyRange K) → R × V → Item (AnyRange K) V
-item_of range pair = record { key = range pair.0; value = pair.1 }
 
 module _ {U S R V K : Type 0} (becomes : U → S → Type 0)
     (steps : S → Option (R × V) → S → Type 0) (range : R → AnyRange K) (iter : U) where

@@ -1,4 +1,3 @@
-pub mod Appending
 pub mod Askable
 mod Common
 pub mod Extending
@@ -11,7 +10,5 @@ pub mod PartWay
 pub mod Rebinding
 pub mod Retaining
 pub mod SimpleUpdates
-pub mod Sorting
-pub mod Splitting
 pub mod Texts
 pub mod Together

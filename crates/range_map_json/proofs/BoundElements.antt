@@ -11,7 +11,7 @@ use Rattle.range_runs.specs.Bindings.{BindsTo, Binds, BindAlike, IsBoundAfter}
 use Rattle.range_runs.specs.Frames.{IsInsertionFrame}
 use Rattle.range_runs.specs.Lookups.{MeetsSome, MeetAlso}
 use Rattle.range_runs.proofs.Overlaps.{binding_meets, binds_bound}
-use Rattle.range_map.proofs.BoundKeys.{bound_split, binds_split}
+use Rattle.range_bulk.proofs.BoundKeys.{bound_split, binds_split}
 use Rattle.range_json.specs.MapFaults.{MeetNonempty, MeetsOne, AreApart}
 
 module _ {K V : Type 0} (order : KeyOrder K) where

@@ -2,8 +2,8 @@
 use Rattle.std.specs.Prelude.{Bool}
 use Rattle.range_keys.specs.Order.{KeyOrder}
 use Rattle.range_algebra.specs.declared.any.AnyRange.{AnyRange}
-use Rattle.range_store.specs.Holding.{box_items}
-use Rattle.range_store.specs.declared.btree.BoxStorage.{BoxStorage}
+use Rattle.range_tree.specs.Holding.{box_items}
+use Rattle.range_tree.specs.declared.btree.BoxStorage.{BoxStorage}
 use Rattle.range_store.specs.declared.storage.Item.{Item}
 use Rattle.range_multimaps.specs.Pairs.{HasPair}
 

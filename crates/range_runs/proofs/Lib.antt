@@ -16,6 +16,7 @@ pub mod PieceLists
 pub mod PieceSteps
 pub mod PlaceOrder
 pub mod RangePieces
+pub mod Results
 pub mod RunItems
 pub mod Sewn
 pub mod Spelling

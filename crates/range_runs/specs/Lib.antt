@@ -1,6 +1,7 @@
 pub mod Answers
 pub mod Bindings
 pub mod Chains
+pub mod Clones
 pub mod Common
 pub mod Edits
 pub mod Frames

@@ -1,12 +1,15 @@
-//! Bounds as seen from their other side.
-ghost use Rattle.std.specs.Prelude.{◌≡◌};
+//! Bounds as seen from their other side, and clones of these.
+ghost use Rattle.std.specs.Prelude.{◌≡◌, IfOk, IsOk};
 ghost use Rattle.std.specs.Option.{option_map};
 ghost use Rattle.range_keys.specs.Position.{bound_of};
+ghost use Rattle.range_algebra.specs.Clones.{IsBoundClone, SameBound};
 ghost use Rattle.range_algebra.specs.Compared.{flipped};
-ghost use Rattle.range_algebra.specs.Range.{IsKnownBound};
+ghost use Rattle.range_algebra.specs.Range.{ClonesAreEqual, IsKnownBound};
+ghost use Rattle.range_runs.specs.Clones.{ClonesNeverFail};
 ghost use Rattle.range_runs.specs.Edits.{flipped_bound};
 
 use range_keys::traits::PartialEnum;
+use std::alloc::AllocError;
 use std::ops::Bound;
 
 /// The bound just past a bound, on its other side.
@@ -39,4 +42,31 @@ pub fn known_bound<K: PartialEnum>(bound: &Bound<K>)
         Bound::Included(key) | Bound::Excluded(key) => key.known(),
         Bound::Unbounded => (),
     }
+}
+
+/// A clone of the bound on the other side of the one that is referred to.
+fn flip_clone<K: Clone>(bound: Bound<&K>) -> Result<Bound<K>, AllocError>
+    ensures clone { IfOk result
+        (λ copy. IsBoundClone K.is_clone (flipped_bound (bound_of bound.entry)) copy) }
+    ensures succeeds { ClonesNeverFail K.is_infallible → IsOk result }
+{
+    Ok(match bound {
+        Bound::Included(key) => Bound::Excluded(key.clone()?),
+        Bound::Excluded(key) => Bound::Included(key.clone()?),
+        Bound::Unbounded => Bound::Unbounded,
+    })
+}
+
+/// The bound that an item has where it is cut at a bound: that one on its other side, with a clone
+/// of its value.
+pub fn cut_bound<K: PartialEnum + Clone>(bound: Bound<&K>) -> Result<Bound<K>, AllocError>
+    requires { ClonesAreEqual K.is_clone K.eq }
+    ensures known { IfOk result (λ cut. IsKnownBound K.order cut) }
+    ensures flipped { IfOk result
+        (λ cut. SameBound K.order (flipped_bound (bound_of bound.entry)) cut) }
+    ensures succeeds { ClonesNeverFail K.is_infallible → IsOk result }
+{
+    let cut = flip_clone(bound)?;
+    known_bound(&cut);
+    Ok(cut)
 }

@@ -23,7 +23,7 @@ use Rattle.range_runs.specs.Lookups.{Overlap}
 use Rattle.range_map.proofs.FreeParts.{gaps_are}
 use Rattle.range_map.proofs.FreePieces.{Pairs}
 use Rattle.range_runs.proofs.Forms.{stored_known}
-use Rattle.range_map.proofs.Together.{IsAscending, stored_ascends}
+use Rattle.range_bulk.proofs.Ascending.{IsAscending, stored_ascends}
 use Rattle.range_sets.proofs.Filling.{all_equal}
 use Rattle.range_sets.proofs.FullRanges.{IsFull, all_full, ascending_pairs, ends_full}
 use Rattle.range_runs.proofs.Listed.{stored_list_is_listed}

@@ -22,7 +22,7 @@ use Rattle.range_runs.proofs.Extents.{end_le}
 use Rattle.range_runs.proofs.Forms.{before_is}
 use Rattle.range_reads.specs.FreeRanges.{between}
 use Rattle.range_map.proofs.FreePieces.{Pairs}
-use Rattle.range_map.proofs.Together.{IsAscending}
+use Rattle.range_bulk.proofs.Ascending.{IsAscending}
 
 module _ {K : Type 0} (order : KeyOrder K) (lawful : IsLawful order) where
   -- the range starts at the bound or after it

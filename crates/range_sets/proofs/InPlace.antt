@@ -7,7 +7,7 @@ use Rattle.range_runs.specs.Bindings.{Binds}
 use Rattle.range_runs.proofs.Overlaps.{binds_bound}
 use Rattle.range_map.specs.Overlays.{IsOverlaid, IsRestricted, IsWithout}
 use Rattle.range_map.specs.PartWay.{AreUnboundAfter, BeforeOne, BeforeOneGap}
-use Rattle.range_map.proofs.BoundKeys.{bound_or_not}
+use Rattle.range_bulk.proofs.BoundKeys.{bound_or_not}
 use Rattle.range_set_extend.specs.KeySets.{HoldsKey, HoldsWithoutAll}
 use Rattle.range_sets.specs.TwoSets.{HoldsEither, HoldsBoth, HoldsFirstAlone}
 use Rattle.range_set_extend.proofs.Membership.{bound_to}

@@ -7,7 +7,7 @@ use Rattle.range_algebra.specs.declared.any.AnyRange.{AnyRange}
 use Rattle.range_store.specs.declared.storage.Item.{Item}
 use Rattle.range_runs.proofs.Overlaps.{binds_bound}
 use Rattle.range_map.specs.MappedValues.{AreMapped}
-use Rattle.range_map.proofs.BoundKeys.{bound_or_not}
+use Rattle.range_bulk.proofs.BoundKeys.{bound_or_not}
 use Rattle.range_set_extend.specs.KeySets.{HoldsKeysOf}
 
 -- a list whose values were answered anew holds the same keys

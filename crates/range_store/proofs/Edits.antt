@@ -1,10 +1,16 @@
 -- Edits just after a front.
 use Rattle.std.proofs.Common.{◌≡◌, ℕ, zero, suc, ◌+◌, ◌-◌, ◌<◌, ◌≤◌, List, [], ◌∷◌, ◌++◌, length, take, drop, ap, sym, ◌∙◌, add-one, arith, length-append, append_assoc}
 use Rattle.std.specs.List.{remove}
-use Rattle.std.proofs.lemmas.List.{append-nil, drop_all, take_at, drop_at, drop_more, length-take-le, drop-drop}
+use Rattle.std.proofs.lemmas.List.{append-nil, drop_all, take_at, drop_at, drop_more, length-take-le, drop-drop, take-append-drop, take-set, drop-set}
 use Rattle.std.proofs.Math.ListN.{set}
 use Rattle.std.proofs.lemmas.List.Edits.{remove-append_right}
-use Rattle.range_store.specs.Written.{set_parts}
+
+pub set_parts : {X : Type 0} (xs : List X) (i : ℕ) (y : X) → i < length xs
+    → set xs i y ≡ take i xs ++ y ∷ drop (i + 1) xs
+set_parts xs i y within =
+    sym (take-append-drop i (set xs i y))
+    ∙ (ap (λ ys. ys ++ drop i (set xs i y)) (take-set xs i y)
+    ∙ ap (λ ys. take i xs ++ ys) (drop-set xs i y within))
 
 pub remove_behind : {T : Type 0} (front back : List T) (x : T) (place : ℕ) → length front ≡ place
     → remove (front ++ x ∷ back) place ≡ front ++ back

@@ -1,23 +1,18 @@
 //! A map built of ranges that are in order.
 ghost use Rattle.std.specs.List.{AllByRecursion as Every};
-ghost use Rattle.std.specs.Prelude.{◌≡◌, ◌↔◌, ℕ, IfOk, IfSome, IsOk, IsTrue, Err, None, length, map};
-ghost use Rattle.std.specs.Option.{option_map};
+ghost use Rattle.std.specs.Prelude.{◌≡◌, ◌↔◌, ℕ, IfOk, IsOk, Err, length, map};
 ghost use Rattle.range_keys.specs.Order.{IsComplete};
 ghost use Rattle.range_algebra.specs.Range.{IsKnownRange};
-ghost use Rattle.range_algebra.specs.Relations.{LiesBefore};
+ghost use Rattle.range_bulk.specs.Sorting.{IsFirstFault, IsSorted, item_of};
 ghost use Rattle.range_runs.specs.Bindings.{BindAlike, IsCoarse, IsOnlyCoarse};
 ghost use Rattle.range_runs.specs.Stored.{IsStored};
-ghost use Rattle.range_map.specs.Extending.{item_of};
-ghost use Rattle.range_map.specs.Sorting.{IsFirstFault, IsNext, IsSorted};
 ghost use Rattle.range_map.specs.declared.map.from_sorted.NotSorted.TheVariants.{OutOfOrder as FaultAt};
 
 use crate::inner::build::map_of;
 use crate::map::RangeMap;
-use crate::map::append::push;
 use range_algebra::any::AnyRange;
-use range_algebra::inner;
-use range_algebra::range::{AsRange, IntoRange};
-use range_keys::bound::Directed;
+use range_algebra::range::IntoRange;
+use range_bulk::sorted::{first_fault, list_of};
 use range_keys::traits::Measure;
 use range_store::storage::{Item, Storage};
 use std::alloc::{AllocError, Global};
@@ -35,48 +30,6 @@ pub enum NotSorted {
     Memory,
 }
 
-/// Whether the first range ends before the second starts.
-fn lies_before<K: Measure, R: AsRange<Item = K>>(first: &R, second: &R) -> bool
-    ensures { IsTrue result ↔ LiesBefore K.order (R.range first.now) (R.range second.now) }
-{
-    Directed::End(first.end()) < Directed::Start(second.start())
-}
-
-/// Whether the range is nonempty, and lies after the one before it, where there is one.
-fn is_next<K: Measure, R: AsRange<Item = K>>(before: Option<&R>, range: &R) -> bool
-    ensures next { IsTrue result
-        ↔ IsNext K.order (option_map (λ r. R.range r.now) before.entry) (R.range range.now) }
-    ensures known { IsKnownRange K.order (R.range range.now) }
-{
-    inner::known_range(range);
-    if range.is_empty() {
-        return false;
-    }
-    match before {
-        Some(before) => lies_before::<K, R>(before, range),
-        None => true,
-    }
-}
-
-/// The position of the first range that is empty or does not lie after the one before it.
-fn first_fault<K: Measure, R: AsRange<Item = K>, V>(pairs: &[(R, V)]) -> Option<usize>
-    ensures fault { IfSome result
-        (IsFirstFault K.order (map (item_of R.range) pairs.now)) }
-    ensures sorted { result ≡ None → IsSorted K.order (map (item_of R.range) pairs.now) }
-    ensures known { result ≡ None
-        → Every (λ i. IsKnownRange K.order i.key) (map (item_of R.range) pairs.now) }
-{
-    let mut before = None;
-    for index in 0..pairs.len() {
-        let range = &pairs[index].0;
-        if !is_next::<K, R>(before, range) {
-            return Some(index);
-        }
-        before = Some(range);
-    }
-    None
-}
-
 /// A map of ranges that are in order.
 fn build<K: Measure, V: Eq + Drop, C: Storage<Item<AnyRange<K>, V>>, R: IntoRange<Item = K>>(
     alloc: Global,
@@ -90,15 +43,7 @@ fn build<K: Measure, V: Eq + Drop, C: Storage<Item<AnyRange<K>, V>>, R: IntoRang
     ensures form { IfOk result (λ new. IsStored K.order V.eq (C.items new)) }
     ensures none_needed { length pairs.items ≡ 0 → IsOk result }
 {
-    let mut items = Vec::with_capacity(alloc, pairs.len())?;
-    for (range, value) in pairs {
-        let item = Item {
-            key: range.into_range(),
-            value,
-        };
-        push(&mut items, item, 0)?;
-    }
-    map_of(alloc, items)
+    map_of(alloc, list_of(alloc, pairs)?)
 }
 
 impl<K: Measure, V: Eq + Drop, C: Storage<Item<AnyRange<K>, V>>> RangeMap<K, V, C> {

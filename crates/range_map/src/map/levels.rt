@@ -1,14 +1,14 @@
 //! The levels of a map's tree.
 ghost use Rattle.std.specs.Prelude.{ℕ, ◌≡◌, ◌+◌, ◌-◌, ◌*◌, ◌^◌, ◌<◌, ◌≤◌, length};
-ghost use Rattle.range_store.specs.Holding.{box_items, level_count};
+ghost use Rattle.range_tree.specs.Holding.{box_items, level_count};
 ghost use Rattle.range_edit.specs.Costs.{IsGreatestLevel, greatest_level};
-ghost use Rattle.range_store.specs.declared.btree.nodes.TheConstants.{MIN_LEN, CAPACITY};
+ghost use Rattle.range_nodes.specs.declared.nodes.TheConstants.{MIN_LEN, CAPACITY};
 
 use crate::map::RangeMap;
 use range_algebra::any::AnyRange;
 use range_keys::traits::PartialEnum;
-use range_store::btree::BoxStorage;
 use range_store::storage::Item;
+use range_tree::btree::BoxStorage;
 
 impl<K: PartialEnum, V: Eq + Drop> RangeMap<K, V, BoxStorage<Item<AnyRange<K>, V>>> {
     /// How many levels of nodes the tree has in which the ranges are kept: 0 for a map without any.

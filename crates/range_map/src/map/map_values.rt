@@ -12,10 +12,10 @@ ghost use Rattle.range_runs.specs.declared.error.UpdateError.TheVariants.{Closur
 
 use crate::inner::build::map_of;
 use crate::map::RangeMap;
-use crate::map::append::push;
 use crate::map::parts::next_part;
 use range_algebra::any::AnyRange;
 use range_algebra::inner;
+use range_bulk::append::push;
 use range_keys::traits::PartialEnum;
 use range_merge::merged::{Part, keys_of};
 use range_runs::error::UpdateError;

@@ -5,7 +5,7 @@ ghost use Rattle.range_algebra.specs.Clones.{IsBoundClone};
 ghost use Rattle.range_algebra.specs.Range.{ClonesAreEqual, IsEmptyRange};
 ghost use Rattle.range_runs.specs.Answers.{MayAnswer, MayBeAsked, FailsAt, SucceedsAtFirst, IsUpdated};
 ghost use Rattle.range_map.specs.Askable.{MayBeAskedOfEach};
-ghost use Rattle.range_edit.specs.Clones.{ClonesNeverFail};
+ghost use Rattle.range_runs.specs.Clones.{ClonesNeverFail};
 ghost use Rattle.range_runs.specs.Bindings.{IsCoarse, IsOnlyCoarse};
 ghost use Rattle.range_runs.specs.Frames.{IsUpdateFrame};
 ghost use Rattle.range_map.specs.Rebinding.{AreRebound};

@@ -1,7 +1,7 @@
 //! Adding the keys of a range.
 ghost use Rattle.std.specs.Prelude.{◌≡◌, ◌+◌, ◌≤◌, true, length, IsOk, OnOk, OnErr};
 ghost use Rattle.range_algebra.specs.Range.{ClonesAreEqual, IsEmptyRange};
-ghost use Rattle.range_edit.specs.Clones.{ClonesNeverFail};
+ghost use Rattle.range_runs.specs.Clones.{ClonesNeverFail};
 ghost use Rattle.range_edit.specs.Costs.{TakesAtLeast, TakesAsChange};
 ghost use Rattle.range_runs.specs.Frames.{IsInsertionFrame};
 ghost use Rattle.range_runs.specs.Lookups.{MeetAlso};

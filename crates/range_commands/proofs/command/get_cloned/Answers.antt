@@ -1,7 +1,7 @@
 use Rattle.range_runs.specs.Bindings.{IsBound}
 use Rattle.range_runs.proofs.Overlaps.{binds_bound}
-use Rattle.range_edit.proofs.Results.{on_error}
-use Rattle.range_map.proofs.BoundKeys.{bound_to_equal}
+use Rattle.range_runs.proofs.Results.{on_error}
+use Rattle.range_bulk.proofs.BoundKeys.{bound_to_equal}
 use Rattle.range_commands.proofs.command.get_cloned.Goals as goal
 
 pub returns-in_ok-clone-in-Some-clause-value : goal.returns-in_ok-clone-in-Some-clause-value

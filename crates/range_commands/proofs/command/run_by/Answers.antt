@@ -2,7 +2,7 @@ use Rattle.std.proofs.Common.{◌≡◌, ◌++◌, ◌∷◌, [], length, sym, a
 use Rattle.range_commands.specs.Tagged.{MayAnswerTo}
 use Rattle.range_commands.specs.CountedRuns.{least_if}
 use Rattle.range_commands.proofs.CountedRuns.{one_more_counted}
-use Rattle.range_edit.proofs.OuterBounds.{prefix_is_all}
+use Rattle.range_store.proofs.Moved.{moved_all}
 use Rattle.range_commands.proofs.command.run_by.Goals as goal
 
 pub loop-command-preserved : goal.loop-command-preserved
@@ -31,7 +31,7 @@ returns-clause-run g c =
     let rest = c.loop-command.command-iterator.rest in
     let none : length rest.items ≡ 0 = omega (arith, rest.ok.0, c.in-None.ensures.steps.0) in
     let all =
-    prefix_is_all c.loop-command.yielded rest.items c.args.commands.items
+    moved_all c.loop-command.yielded rest.items c.args.commands.items
     c.loop-command.invariant.left none in
     rw (← all) c.loop-command.invariant.chain
 

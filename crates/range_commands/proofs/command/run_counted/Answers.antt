@@ -1,5 +1,5 @@
 use Rattle.std.proofs.Common.{ℕ, ◌+◌, ◌*◌, ◌≤◌, length, arith}
-use Rattle.range_store.specs.Holding.{box_items}
+use Rattle.range_tree.specs.Holding.{box_items}
 use Rattle.range_edit.specs.Costs.{greatest_level}
 use Rattle.range_commands.specs.LastCommands.{last_command_decides}
 use Rattle.range_commands.specs.Tagged.{MayAnswerTo}

@@ -1,5 +1,6 @@
 use Rattle.range_edit.proofs.Common.{common_steps, ◌≡◌, ◌+◌, ◌-◌, ◌∷◌, ◌++◌, [], length, take, ap, sym, ◌∙◌, arith, length-append, append_assoc, append-nil, list_is_take_and_drop, place_before, place_at, at_place}
-use Rattle.range_edit.proofs.OuterBounds.{put_next, put_all, prefix_is_all}
+use Rattle.range_store.proofs.Moved.{moved_all}
+use Rattle.range_edit.proofs.OuterBounds.{put_next, put_all}
 use Rattle.range_edit.proofs.splice.replace_run_by.Goals as goal
 
 pub loop-item-init : goal.loop-item-init
@@ -59,7 +60,7 @@ returns g c =
     (length (storage.items now)) c.loop-item.cursor.at (place + length done) was.position in
     let rest = c.loop-item.item-iterator.rest in
     let none : length rest.items ≡ 0 = omega (arith, rest.ok.0, c.in-None.ensures.steps.0) in
-    let all = prefix_is_all done rest.items c.args.items.items was.parted none in
+    let all = moved_all done rest.items c.args.items.items was.parted none in
     rw (← all) (put_all before (storage.items now)
     (storage.items c.remove_rest.new.stored) done place c.args.run.left c.loop-item.cursor.left
     was.changed was.fewer c.requires.in_range (rw here at c.remove_rest.ensures.list))

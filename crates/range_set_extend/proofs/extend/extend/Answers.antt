@@ -1,7 +1,7 @@
 use Rattle.std.proofs.Common.{refl, true, ◌∷◌, [], map}
 use Rattle.std.proofs.lemmas.List.{map-append}
 use Rattle.std.proofs.lemmas.Bool.{false≢true}
-use Rattle.range_edit.proofs.Results.{error_has_no_value, on_error}
+use Rattle.range_runs.proofs.Results.{error_has_no_value, on_error}
 use Rattle.range_set_extend.proofs.Membership.{added, none_added, one_more}
 use Rattle.range_set_extend.proofs.extend.extend.Goals as goal
 

@@ -1,9 +1,9 @@
 use Rattle.range_map.proofs.Common.{common_steps, ◌≡◌, ◌∙◌, Result, Ok, Err, ap, arith, refl, false≢true, rules, LieBefore, appended, error_has_no_value, on_error}
 use Rattle.std.specs.Result.{IsErrAnd}
-use Rattle.range_edit.specs.declared.error.NotAppended.{NotAppended}
-use Rattle.range_edit.specs.declared.error.NotAppended.TheVariants.{Memory}
-use Rattle.range_map.specs.Appending.{IsOutOfOrder}
-use Rattle.range_map.proofs.AppendedLists.{appended_binds, appended_length, appended_stored}
+use Rattle.range_bulk.specs.declared.append.NotAppended.{NotAppended}
+use Rattle.range_bulk.specs.declared.append.NotAppended.TheVariants.{Memory}
+use Rattle.range_bulk.specs.Appending.{IsOutOfOrder}
+use Rattle.range_bulk.proofs.AppendedLists.{appended_binds, appended_length, appended_stored}
 use Rattle.range_map.proofs.StoredLists.{stored_coarse, stored_only}
 use Rattle.range_map.proofs.map.RangeMap.append.Goals as goal
 

@@ -1,7 +1,7 @@
 use Rattle.range_map.proofs.Common.{◌≡◌, ℕ, refl, ap, subst, map, Result, Ok, Err, item_of, IsFirstFault}
 use Rattle.range_map.specs.declared.map.from_sorted.NotSorted.{NotSorted}
 use Rattle.range_map.specs.declared.map.from_sorted.NotSorted.TheVariants.{Memory, OutOfOrder as FaultAt}
-use Rattle.range_map.proofs.SortedLists.{one_fault, sorted_has_none}
+use Rattle.range_bulk.proofs.SortedLists.{one_fault, sorted_has_none}
 use Rattle.range_map.proofs.StoredLists.{stored_coarse, stored_only}
 use Rattle.range_map.proofs.map.RangeMap.from_sorted.Goals as goal
 

@@ -1,5 +1,5 @@
 use Rattle.range_map.proofs.Common.{◌≡◌, refl, List, ◌∷◌, [], Every, LiesBefore, shown_item}
-use Rattle.range_map.proofs.AppendedLists.{ends_tell}
+use Rattle.range_bulk.proofs.AppendedLists.{ends_tell}
 use Rattle.range_map.proofs.map.RangeMap.lies_before.Goals as goal
 
 -- each of the ones stands so to each of no others

@@ -2,7 +2,7 @@ use Rattle.std.proofs.lemmas.Bool.{cases_lt}
 use Rattle.range_map.proofs.Common.{◌≡◌, sym, ap, arith, inl, inr, length, [], rules, false≢true, error_has_no_value, lower, full_range}
 use Rattle.range_merge.specs.Merged.{part_item}
 use Rattle.range_map.proofs.ClosureAnswers.{memory_is_no_closure}
-use Rattle.range_map.proofs.JoinedItems.{built_none, stored_rises}
+use Rattle.range_bulk.proofs.JoinedItems.{built_none, stored_rises}
 use Rattle.range_map.proofs.MappedValues.{first_left, mapped_more, next_answered}
 use Rattle.range_map.proofs.CloneLists.{clones_tied}
 use Rattle.range_map.proofs.map.map_values.answers_to.Goals as goal

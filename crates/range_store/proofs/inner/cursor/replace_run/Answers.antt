@@ -1,7 +1,6 @@
 use Rattle.std.proofs.Common.{arith}
-use Rattle.range_store.specs.Written.{set_parts}
 use Rattle.range_store.proofs.ListPlaces.{place_at}
-use Rattle.range_store.proofs.Edits.{replaced_run}
+use Rattle.range_store.proofs.Edits.{replaced_run, set_parts}
 use Rattle.range_store.proofs.inner.cursor.replace_run.Goals as goal
 
 pub returns-in-Some-clause-list : goal.returns-in-Some-clause-list

@@ -1,0 +1,4 @@
+pub mod Appending
+mod Common
+pub mod Sorting
+pub mod Splitting

@@ -1,5 +1,0 @@
-use Rattle.range_edit.proofs.Common.{arith, common_steps}
-use Rattle.range_edit.proofs.cut.cut_bound.Goals as goal
-
-pub returns-clause-flipped : goal.returns-clause-flipped
-returns-clause-flipped g c = grind (arith, common_steps)

@@ -1,0 +1,4 @@
+pub mod Heap
+pub mod Occurrences
+pub mod Rows
+pub mod Spares

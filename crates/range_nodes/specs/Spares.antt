@@ -1,0 +1,54 @@
+-- How `Nodes` keeps its nodes: under the numbers of a slab, with their items in rows, but for
+-- spares, which are empty and stand in no tree. No public clause cites this file.
+use Rattle.std.specs.Prelude.{◌≡◌, ℕ, ◌+◌, ◌<◌, ◌≤◌, List, [], ◌∷◌, length, Option, Some, None, IsSome, slice_set}
+use Rattle.slab.specs.Slab.{Slab, get, slab_len}
+use Rattle.range_nodes.specs.declared.node.Node.{Node}
+use Rattle.range_nodes.specs.Heap.{Heap, Content}
+use Rattle.range_nodes.specs.Occurrences.{occurrences}
+use Rattle.range_nodes.specs.Rows.{row_of}
+
+-- the slots, with nothing under these numbers
+unfoldable pub without : {X : Type 0} → List ℕ → List (Option X) → List (Option X)
+without [] slots = slots
+without (n ∷ ns) slots = slice_set (without ns slots) n None
+
+-- a node with so many items has no child, or one more than those if another comes with an item
+abbrev pub FitsCount : Option ℕ → ℕ → List ℕ → Type 0
+FitsCount None many ks = length ks ≡ 0
+FitsCount (Some k) many ks = length ks ≡ many + 1
+
+-- how many items a node has
+abbrev pub len_of : Option Node → ℕ
+len_of None = 0
+len_of (Some node) = node.len
+
+module _ {T : Type 0} where
+  -- what a node with these items has
+  abbrev pub content_of : List T → Option Node → Option (Content T)
+  content_of xs None = None
+  content_of xs (Some node) = Some (record { items = xs; children = node.children.items })
+
+  abbrev pub nothing : Content T
+  nothing = record { items = []; children = [] }
+
+  -- what each has
+  unfoldable pub contents : List (List T) → List (Option Node) → List (Option (Content T))
+  contents rows [] = []
+  contents [] (slot ∷ slots) = content_of [] slot ∷ contents [] slots
+  contents (xs ∷ rows) (slot ∷ slots) = content_of xs slot ∷ contents rows slots
+
+  -- what all of them have but the spares
+  abbrev pub heap_of : Slab Node → List (List T) → List ℕ → Heap T
+  heap_of slab rows spares = record {
+    slots = without spares (contents rows slab.slots);
+    capacity = slab_len slab;
+  }
+
+  -- each node has a row with as many items as it tells, and no other number has any; each spare is
+  -- an empty node, told once
+  pub record IsWhole (slab : Slab Node) (rows : List (List T)) (spares : List ℕ) : Type 0 where
+    pub there : (k : ℕ) → IsSome (get slab k) → k < length rows
+    pub lens : (k : ℕ) → length (row_of rows k) ≡ len_of (get slab k)
+    pub empty : (k : ℕ) → 0 < occurrences k spares
+        → content_of (row_of rows k) (get slab k) ≡ Some nothing
+    pub once : (k : ℕ) → occurrences k spares ≤ 1

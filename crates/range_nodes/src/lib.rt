@@ -1,0 +1,15 @@
+//! The nodes of a B-tree by their numbers: their items, their children, and how both move.
+//!
+//! Where to find what:
+//!
+//! - what the slab keeps of a node: `src/node.rt`
+//! - the items of all nodes, in a row of cells for each number: how one is put, taken and moved:
+//!   `src/rows.rt`, `specs/Rows.antt`, `proofs/{Cells,RowItems,RowMoves,Halves}.antt`
+//! - the nodes by their numbers in a slab, with spares that an insertion takes, and how items
+//!   move between nodes: `src/nodes.rt`, `specs/{Heap,Spares}.antt`,
+//!   `proofs/{Heaps,Siblings,Spares}.antt`
+#![tactic(auto)]
+
+pub mod node;
+pub mod nodes;
+pub mod rows;

@@ -1,4 +1,0 @@
-use Rattle.range_store.proofs.btree.BoxStorage.edge_at.Goals as goal
-
-pub edge_before-requires : goal.edge_before-requires
-edge_before-requires g c = (c.requires c.in-Some.edge c.in-Some.is).is

@@ -1,4 +1,0 @@
-use Rattle.range_store.proofs.btree.path.+preceding.Given as goal
-
-abbrev pub decreases-preceding : goal.decreases-preceding
-decreases-preceding g l = l.below

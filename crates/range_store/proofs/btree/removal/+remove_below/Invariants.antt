@@ -1,4 +1,0 @@
-use Rattle.range_store.proofs.btree.removal.+remove_below.Given as goal
-
-abbrev pub decreases-remove_below : goal.decreases-remove_below
-decreases-remove_below g l = l.below

@@ -1,9 +1,0 @@
-use Rattle.std.proofs.Common.{◌∙◌}
-use Rattle.range_store.proofs.RowMoves.{absorbed}
-use Rattle.range_store.proofs.btree.rows.Rows.absorb.Goals as goal
-
-pub returns : goal.returns
-returns g c =
-    c.move_end.ensures
-    ∙ absorbed c.args.self.now c.put.new.self c.args.left c.args.right c.args.len c.args.middle
-    c.requires.left c.requires.apart c.requires.len c.put.ensures

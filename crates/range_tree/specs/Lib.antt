@@ -1,0 +1,10 @@
+pub mod Building
+pub mod Contents
+pub mod Depth
+pub mod Edges
+pub mod Falling
+pub mod Frame
+pub mod Holding
+pub mod Nodes
+pub mod Weave
+pub mod Written

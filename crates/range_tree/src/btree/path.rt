@@ -1,0 +1,283 @@
+//! Edges between the items of the tree, each with the path to it, and the steps from one to the
+//! next.
+ghost use Rattle.std.specs.Prelude.{◌≡◌, ℕ, suc, ◌+◌, ◌-◌, ◌*◌, ◌%◌, ◌/◌, ◌^◌, ◌<◌, ◌≤◌, length, MatchOption};
+ghost use Rattle.range_nodes.specs.Heap.{node_items};
+ghost use Rattle.range_tree.specs.Nodes.{items_below, ShapedBut};
+ghost use Rattle.range_tree.specs.Edges.{turn, inside, seat_of, is_start, IsEdge, place, home_of};
+
+use range_nodes::nodes::{CAPACITY, Nodes};
+
+// A path has a digit for each level: the child through which it goes, from the lowest digit on.
+pub const PATH_BASE: u64 = 16;
+
+// As many digits has a path. No tree has more levels, since it has at most `MAX_LEN` items.
+pub const MAX_LEVELS: usize = 16;
+
+/// A place between two items of a `BoxStorage`: an index in a leaf, and the path to that. It stands
+/// for the item before it.
+#[derive(Clone, Copy)]
+pub struct Edge {
+    pub(crate) path: u64,
+    pub(crate) leaf: usize,
+    pub(crate) index: usize,
+}
+
+// Where an item stands: its node, and its index there.
+#[derive(Clone, Copy)]
+pub struct Home {
+    pub node: usize,
+    pub index: usize,
+}
+
+// A node over so many levels, with the path to its first edge.
+#[derive(Clone, Copy)]
+struct Subtree {
+    node: usize,
+    below: usize,
+    path: u64,
+}
+
+// The child through which the path goes first.
+pub fn first_turn(edge: Edge) -> usize
+    ensures { result ≡ turn edge }
+{
+    (edge.path % PATH_BASE) as usize
+}
+
+// The edge as that child sees it.
+pub fn seen_inside(edge: Edge) -> Edge
+    ensures { result ≡ inside edge }
+{
+    Edge {
+        leaf: edge.leaf,
+        path: edge.path / PATH_BASE,
+        index: edge.index,
+    }
+}
+
+// The edge as the node above sees it, of which it is below the child at `index`.
+pub fn seen_above(edge: Edge, index: usize) -> Edge
+    requires index { index ≤ CAPACITY }
+    requires path { edge.path < 2 ^ 60 }
+    ensures turn { turn result ≡ index }
+    ensures inside { inside result ≡ edge }
+{
+    Edge {
+        leaf: edge.leaf,
+        path: edge.path * PATH_BASE + index as u64,
+        index: edge.index,
+    }
+}
+
+// The edge at a seat of a node: between the items of a leaf, or below the child at that index.
+pub fn edge_at(below: usize, number: usize, seat: usize, inner: Edge) -> Edge
+    requires seat { seat ≤ CAPACITY }
+    requires path { 0 < below → inner.path < 2 ^ 60 }
+    ensures leaf { below ≡ 0 → result ≡ record { leaf = number; path = 0; index = seat } }
+    ensures turn { 0 < below → turn result ≡ seat }
+    ensures inside { 0 < below → inside result ≡ inner }
+{
+    if below == 0 {
+        return Edge {
+            leaf: number,
+            path: 0,
+            index: seat,
+        };
+    }
+    seen_above(inner, seat)
+}
+
+// The seat of an edge in the node that it is seen from.
+pub fn seat(below: usize, edge: Edge) -> usize
+    ensures { result ≡ seat_of below edge }
+{
+    if below == 0 {
+        edge.index
+    } else {
+        first_turn(edge)
+    }
+}
+
+// Whether the edge stands before all items below the node that it is seen from.
+pub fn stands_first(edge: Edge) -> bool
+    ensures { result ≡ is_start edge }
+{
+    edge.path == 0 && edge.index == 0
+}
+
+// The edge before all items below a node.
+pub fn first_edge<T: Drop>(nodes: &Nodes<T>, below: usize, number: usize) -> Edge
+    requires shaped { ShapedBut 1 CAPACITY nodes.now below number }
+    requires deep { below < MAX_LEVELS }
+    ensures edge { IsEdge nodes.now below number result }
+    ensures place { place nodes.now below number result ≡ 0 }
+{
+    let mut leaf = number;
+    let mut left = below;
+    'down: while left > 0 {
+        leaf = nodes.child_at(leaf, 0);
+        left -= 1;
+    }
+    Edge {
+        leaf,
+        path: 0,
+        index: 0,
+    }
+}
+
+// The edge after all items below a node.
+pub fn end_edge<T: Drop>(nodes: &Nodes<T>, below: usize, number: usize) -> Edge
+    requires shaped { ShapedBut 1 CAPACITY nodes.now below number }
+    requires deep { below < MAX_LEVELS }
+    ensures edge { IsEdge nodes.now below number result }
+    ensures place { place nodes.now below number result
+        ≡ length (items_below nodes.now (suc below) number) }
+{
+    let mut leaf = number;
+    let mut left = below;
+    let mut path: u64 = 0;
+    let mut weight: u64 = 1;
+    'down: while left > 0 {
+        let last = nodes.item_count(leaf);
+        path += weight * (last as u64);
+        weight *= PATH_BASE;
+        leaf = nodes.child_at(leaf, last);
+        left -= 1;
+    }
+    Edge {
+        leaf,
+        path,
+        index: nodes.item_count(leaf),
+    }
+}
+
+// The home before an index of a node: the item there, or another home where it has none.
+#[inline(always)]
+fn home_before(node: usize, index: usize, otherwise: Home) -> Home
+    ensures none { index ≡ 0 → result ≡ otherwise }
+    ensures some { 0 < index → result ≡ record { node = node; index = index - 1 } }
+{
+    if index == 0 {
+        return otherwise;
+    }
+    let index = index - 1;
+    Home { node, index }
+}
+
+// Where the item before an edge stands, and the edge after the item behind its leaf. That is the
+// first edge below the child after the one on the path, in the lowest node that has such a child.
+// One walk finds both. Out of line, so that a step within a leaf is no call.
+#[inline(never)]
+pub fn around_leaf<T: Drop>(
+    nodes: &Nodes<T>,
+    below: usize,
+    number: usize,
+    edge: Edge,
+) -> (Home, Option<Edge>)
+    requires shaped { ShapedBut 1 CAPACITY nodes.now below number }
+    requires deep { below < MAX_LEVELS }
+    requires edge { IsEdge nodes.now below number edge }
+    requires some { 0 < place nodes.now below number edge }
+    ensures home { result.0 ≡ home_of nodes.now below number edge }
+    ensures behind { let end = record edge { index = length (node_items nodes.now edge.leaf) }
+        in MatchOption result.1
+        (place nodes.now below number end ≡ length (items_below nodes.now (suc below) number))
+        (λ h. IsEdge nodes.now below number h
+        × (place nodes.now below number h ≡ place nodes.now below number end + 1)) }
+{
+    let mut at = number;
+    let mut left = below;
+    let mut inner = edge;
+    let mut path: u64 = 0;
+    let mut weight: u64 = 1;
+    let mut home = Home {
+        node: number,
+        index: 0,
+    };
+    let mut behind = None;
+    'down: while left > 0 {
+        let node = at;
+        let index = first_turn(inner);
+        at = nodes.child_at(node, index);
+        left -= 1;
+        inner = seen_inside(inner);
+        home = home_before(node, index, home);
+        path += weight * (index as u64);
+        let later = path + weight;
+        weight *= PATH_BASE;
+        if index < nodes.item_count(node) {
+            behind = Some(Subtree {
+                node: nodes.child_at(node, index + 1),
+                below: left,
+                path: later,
+            });
+        }
+    }
+    let found = home_before(at, inner.index, home);
+    match behind {
+        None => (found, None),
+        Some(subtree) => {
+            let first = first_edge(nodes, subtree.below, subtree.node);
+            let edge = Edge {
+                path: subtree.path,
+                ..first
+            };
+            (found, Some(edge))
+        }
+    }
+}
+
+// The edge before the item before an edge below a node.
+pub fn preceding<T: Drop>(nodes: &Nodes<T>, below: usize, number: usize, edge: Edge) -> Option<Edge>
+    requires shaped { ShapedBut 1 CAPACITY nodes.now below number }
+    requires deep { below < MAX_LEVELS }
+    requires edge { IsEdge nodes.now below number edge }
+    ensures { MatchOption result (place nodes.now below number edge ≡ 0)
+        (λ h. IsEdge nodes.now below number h
+        × (place nodes.now below number h + 1 ≡ place nodes.now below number edge)) }
+{
+    if below == 0 {
+        if edge.index == 0 {
+            return None;
+        }
+        return Some(Edge {
+            leaf: number,
+            path: 0,
+            index: edge.index - 1,
+        });
+    }
+    let index = first_turn(edge);
+    let child = nodes.child_at(number, index);
+    if let Some(earlier) = preceding(nodes, below - 1, child, seen_inside(edge)) {
+        return Some(seen_above(earlier, index));
+    }
+    if index == 0 {
+        return None;
+    }
+    let last = nodes.child_at(number, index - 1);
+    Some(seen_above(end_edge(nodes, below - 1, last), index - 1))
+}
+
+// Where the item before an edge stands, of which there is one below the node.
+pub fn find_home<T: Drop>(nodes: &Nodes<T>, below: usize, number: usize, edge: Edge) -> Home
+    requires shaped { ShapedBut 1 CAPACITY nodes.now below number }
+    requires edge { IsEdge nodes.now below number edge }
+    requires some { 0 < place nodes.now below number edge }
+    ensures { result ≡ home_of nodes.now below number edge }
+{
+    let mut at = number;
+    let mut left = below;
+    let mut inner = edge;
+    let mut home = Home {
+        node: number,
+        index: 0,
+    };
+    'down: while left > 0 {
+        let index = first_turn(inner);
+        home = home_before(at, index, home);
+        at = nodes.child_at(at, index);
+        inner = seen_inside(inner);
+        left -= 1;
+    }
+    home_before(at, inner.index, home)
+}

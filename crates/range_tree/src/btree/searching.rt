@@ -1,0 +1,129 @@
+//! A search below a node: one path down to a leaf, with at most four asks in each node.
+ghost use Rattle.std.specs.Prelude.{◌≡◌, ℕ, suc, ◌+◌, ◌-◌, ◌*◌, ◌<◌, ◌≤◌, length, count_by};
+ghost use Rattle.range_store.specs.Counting.{AddsSteps, one_step_after};
+ghost use Rattle.range_tree.specs.Falling.{Falls};
+ghost use Rattle.range_nodes.specs.Rows.{HoldsItems, items_in};
+ghost use Rattle.range_tree.specs.Nodes.{items_below, ShapedBut};
+ghost use Rattle.range_tree.specs.Edges.{IsEdge, place};
+
+use crate::btree::path::{Edge, MAX_LEVELS, PATH_BASE};
+use range_nodes::nodes::{CAPACITY, MIN_LEN, Nodes};
+use range_store::storage::Probe;
+
+// How often a node is asked at most.
+pub const MAX_ASKS: usize = 4;
+
+// How many items are known to pass once one is asked: all before `end`, or `low` still. The answer
+// is a number and not a branch, since a processor cannot guess it.
+#[inline(always)]
+fn ask_ahead<T, P: Probe<T>>(cells: &[Option<T>], low: usize, end: usize, probe: &mut P) -> usize
+    requires held { HoldsItems cells.now (items_in cells.now) }
+    requires falls { Falls (P.test probe.old) (items_in cells.now) }
+    requires some { low < end }
+    requires within { end ≤ length (items_in cells.now) }
+    ensures passes { end ≤ count_by (P.test probe.old) (items_in cells.now) → result ≡ end }
+    ensures fails { count_by (P.test probe.old) (items_in cells.now) < end → result ≡ low }
+    ensures kept { P.test probe.new ≡ P.test probe.old }
+    ensures counted { P.steps_taken probe.new ≡ one_step_after (P.steps_taken probe.old) }
+{
+    match &cells[end - 1] {
+        Some(item) => low + (end - low) * usize::from(probe.ask(item)),
+        None => unreachable!(),
+    }
+}
+
+// How many cells have an item. It reads each, so that the lines of memory in which a node's cells
+// lie come together, and not one after the other as they are asked.
+#[inline(always)]
+fn count_full<T>(cells: &[Option<T>]) -> usize
+    ensures { result ≡ length (items_in cells.now) }
+{
+    let mut len = 0;
+    for cell in cells {
+        len += usize::from(cell.is_some());
+    }
+    len
+}
+
+// How many of fewer than `MIN_LEN` items pass, as only a root has so few.
+#[inline(always)]
+fn count_few<T, P: Probe<T>>(cells: &[Option<T>], len: usize, probe: &mut P) -> usize
+    requires held { HoldsItems cells.now (items_in cells.now) }
+    requires falls { Falls (P.test probe.old) (items_in cells.now) }
+    requires len { len ≡ length (items_in cells.now) }
+    requires some { 0 < len }
+    requires few { len < MIN_LEN }
+    ensures count { result ≡ count_by (P.test probe.old) (items_in cells.now) }
+    ensures kept { P.test probe.new ≡ P.test probe.old }
+    ensures asked { AddsSteps (P.steps_taken probe.old) (P.steps_taken probe.new) 1 MAX_ASKS }
+{
+    let mut low = 0;
+    let mut left = len;
+    while left > 0 {
+        let step = left.div_ceil(2);
+        low = ask_ahead(cells, low, low + step, probe);
+        left -= step;
+    }
+    low
+}
+
+// How many of the items of a node pass. Of `MIN_LEN` or more, four asks are enough, whatever they
+// answer: so many items at a time that the next steps reach each of those between. The second asks
+// the same item whatever the first answers, so that a processor reads both at once.
+#[inline(always)]
+pub fn count_passing<T, P: Probe<T>>(cells: &[Option<T>], probe: &mut P) -> usize
+    requires held { HoldsItems cells.now (items_in cells.now) }
+    requires falls { Falls (P.test probe.old) (items_in cells.now) }
+    requires some { 0 < length (items_in cells.now) }
+    ensures count { result ≡ count_by (P.test probe.old) (items_in cells.now) }
+    ensures kept { P.test probe.new ≡ P.test probe.old }
+    ensures asked { AddsSteps (P.steps_taken probe.old) (P.steps_taken probe.new) 1 MAX_ASKS }
+{
+    let len = count_full(cells);
+    if len < MIN_LEN {
+        return count_few(cells, len, probe);
+    }
+    let first = len.max(8) - 7;
+    let low = ask_ahead(cells, 0, first, probe);
+    let low = ask_ahead(cells, low, len - 3, probe);
+    let low = ask_ahead(cells, low, low + 2, probe);
+    ask_ahead(cells, low, low + 1, probe)
+}
+
+// The edge after the items below a node that pass, by one path down to a leaf.
+#[inline(always)]
+pub fn search_below<T: Drop, P: Probe<T>>(
+    nodes: &Nodes<T>,
+    below: usize,
+    number: usize,
+    probe: &mut P,
+) -> Edge
+    requires shaped { ShapedBut 1 CAPACITY nodes.now below number }
+    requires deep { below < MAX_LEVELS }
+    requires falls { Falls (P.test probe.old) (items_below nodes.now (suc below) number) }
+    ensures edge { IsEdge nodes.now below number result }
+    ensures count { place nodes.now below number result
+        ≡ count_by (P.test probe.old) (items_below nodes.now (suc below) number) }
+    ensures kept { P.test probe.new ≡ P.test probe.old }
+    ensures asked { AddsSteps (P.steps_taken probe.old) (P.steps_taken probe.new) (suc below)
+        (MAX_ASKS * suc below) }
+{
+    let mut at = number;
+    let mut left = below;
+    let mut path: u64 = 0;
+    let mut weight: u64 = 1;
+    'down: loop {
+        let index = count_passing(nodes.cells(at), probe);
+        if left == 0 {
+            return Edge {
+                path,
+                leaf: at,
+                index,
+            };
+        }
+        path += weight * (index as u64);
+        weight *= PATH_BASE;
+        at = nodes.child_at(at, index);
+        left -= 1;
+    }
+}
