@@ -6,10 +6,10 @@ ghost use Rattle.btree_range_map.specs.Bindings.{Binds, IsBoundAfter, IsUnboundA
 ghost use Rattle.btree_range_map.specs.Names.{i32_order, range_from_to};
 
 use btree_range_map::generic::RangeMap;
-use btree_range_map::generic::map::{NotInserted, UpdateError, binary_search};
+use btree_range_map::generic::map::{UpdateError, binary_search};
 use btree_range_map::storage::{Item, Steps, Storage};
 use btree_range_map::{AnyRange, IntoRange, MapError};
-use std::alloc::{AllocError, Global};
+use std::alloc::Global;
 use std::cmp::Ordering;
 use std::hash::{DefaultHasher, Hash};
 
@@ -31,14 +31,6 @@ fn has_none<C: Storage<Binding>>(map: &Map<C>) -> bool
     ensures { IsTrue result ↔ C.items map.now ≡ [] }
 {
     map.is_empty()
-}
-
-fn copied<C: Storage<Binding>>(map: &Map<C>) -> Result<Map<C>, AllocError> {
-    map.clone()
-}
-
-fn bind_apart<C: Storage<Binding>>(map: &mut Map<C>) -> Result<(), NotInserted<i32, i64>> {
-    map.insert_disconnected(0..5, 1)
 }
 
 fn value_counted<C: Storage<Binding>>(map: &Map<C>, steps: &mut Steps) -> Option<i64>

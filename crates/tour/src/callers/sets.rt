@@ -8,7 +8,7 @@ ghost use Rattle.btree_range_map.specs.Numbers.{IsNumberOfKeys};
 use btree_range_map::generic::RangeSet;
 use btree_range_map::storage::{Item, Storage};
 use btree_range_map::{AnyRange, MapError};
-use std::alloc::{AllocError, Global};
+use std::alloc::Global;
 use std::cmp::Ordering;
 use std::hash::{DefaultHasher, Hash};
 
@@ -36,10 +36,6 @@ fn sizes<C: Storage<Key>>(set: &Set<C>) -> (bool, usize, u128)
     ensures keys { IsNumberOfKeys u8_order (HoldsKey u8_order (C.items set.now)) result.2 }
 {
     (set.is_empty(), set.range_count(), set.len())
-}
-
-fn copied<C: Storage<Key>>(set: &Set<C>) -> Result<Set<C>, AllocError> {
-    set.clone()
 }
 
 fn is_equal_across<C: Storage<Key>, D: Storage<Key>>(set: &Set<C>, other: &Set<D>) -> bool {
