@@ -15,8 +15,8 @@ ghost use Rattle.range_commands.specs.declared.command.Command.TheVariants.{Upda
 use range_algebra::any::AnyRange;
 use range_keys::traits::{Measure, PartialEnum};
 use range_map::map::{MapError, NotInserted, RangeMap, UpdateError};
-use range_tree::btree::BoxStorage;
 use range_store::storage::{Item, Steps, Storage};
+use range_tree::btree::BoxStorage;
 use std::alloc::{AllocError, Global};
 
 /// One call of a map.
