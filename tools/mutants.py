@@ -65,12 +65,13 @@ def heading(lines):
 
 def last_line(lines, number, indent):
     """Returns the last line of a function that begins on the line of this number; in a trait it may have no body."""
-    has_body = False
+    has_body, depth = False, 0
     for at, line in enumerate(lines[number - 1 :], number):
         is_head = at == number or line.startswith(indent + ")")
+        depth += line.count("{") - line.count("}")
         has_body = has_body or line == indent + "{" or is_head and line.endswith("{")
         is_end = line.startswith((indent + "}", indent + "{ "))
-        if is_end or not has_body and line.endswith(("};", ";" if is_head else "};")):
+        if is_end or not has_body and not depth and line.endswith(";"):
             return at
     return number
 
