@@ -20,6 +20,8 @@ PROVED, UNPROVED = TOP / "crates.txt", TOP / "tests" / "tests.txt"
 UNPROVED_SUFFIX = ".rt.txt"
 PROCESSORS = len(os.sched_getaffinity(0))
 START = time.monotonic()
+# A program that has not ended after so many seconds hangs. The gate runs some at the lowest priority, beside proofs on all processors.
+SECONDS = 1800
 # Loaded before there are threads: tools/library.py loads the kit's `rt`, which puts a module of its own under the same name.
 RTLIB = unproved.kit()
 
@@ -162,7 +164,7 @@ def tried(folder, *flags, given=b"", arguments=()):
 
     Returns how it ended. Arguments that name files of the crate lie where it runs."""
     crate = RTLIB.Crate(str(folder), str(folder.parent.parent), {})
-    options = ["--steps", RTLIB.STEPS, "--seconds", str(RTLIB.LIMIT)]
+    options = ["--steps", RTLIB.STEPS, "--seconds", str(SECONDS)]
     for it in arguments:
         options += ["--arg", it, *(["--data", f"{it}={it}"] if (folder / it).is_file() else [])]
     root = "src/main.rt" if crate.is_program else "src/lib.rt"
