@@ -1,0 +1,13 @@
+-- The table of a map routes as the map, and none that does is shorter.
+pub mod Blocks
+pub mod Costs
+pub mod Descends
+pub mod Gathers
+pub mod Joins
+pub mod Least
+pub mod Made
+pub mod Numbered
+pub mod Seen
+pub mod Theorem
+pub mod Walks
+pub mod Writes

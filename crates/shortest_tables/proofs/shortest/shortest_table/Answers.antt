@@ -1,0 +1,36 @@
+use Rattle.std.proofs.Common.{◌≡◌, ◌≤◌, ◌^◌, ◌++◌, nat_eq, reverse, ap, ◌∙◌, arith, pow_mono}
+use Rattle.std.proofs.lemmas.Bool.Decides.{Decides-eqb}
+use Rattle.std.proofs.lemmas.List.{reverse-reverse}
+use Rattle.shortest_tables.specs.Numbers.{block}
+use Rattle.shortest_tables.proofs.Numbered.{Made, are_fewest, routes_as}
+use Rattle.shortest_tables.proofs.shortest.shortest_table.Goals as goal
+
+pub gather-requires-clause-fits : goal.gather-requires-clause-fits
+gather-requires-clause-fits c = let p : 2 ^ c.args.width ≤ 2 ^ 128 = pow_mono c.requires.small in omega (arith, p)
+
+pub push_entries-requires-clause-fits : goal.push_entries-requires-clause-fits
+push_entries-requires-clause-fits c = let p : 2 ^ c.args.width ≤ 2 ^ 128 = pow_mono c.requires.small in omega (arith, p)
+
+pub returns-clause-routes : goal.returns-clause-routes
+returns-clause-routes c =
+    let made = Made nat_eq Decides-eqb c.args.otherwise c.args.spans.now c.args.width in
+    let added = c.in_ok-gather.ensures.added in
+    let written = c.in_ok-push_entries.ensures
+    (block c.args.otherwise c.args.spans.now c.args.width 0) added.0 c.in_ok-marks.marks.nodes.items
+    c.in_ok-marks.marks.labels.items added.1 added.2 in
+    let e : c.reverse.new.self.items ≡ made =
+    c.reverse.ensures.items ∙ ap (λ x. reverse x) (written.2
+    ∙ ap (λ x. x ++ reverse made) c.new-table.ensures.items) ∙ reverse-reverse made in
+    rw e (routes_as nat_eq Decides-eqb c.args.otherwise c.args.spans.now c.args.width)
+
+pub returns-clause-fewest : goal.returns-clause-fewest
+returns-clause-fewest c =
+    let made = Made nat_eq Decides-eqb c.args.otherwise c.args.spans.now c.args.width in
+    let added = c.in_ok-gather.ensures.added in
+    let written = c.in_ok-push_entries.ensures
+    (block c.args.otherwise c.args.spans.now c.args.width 0) added.0 c.in_ok-marks.marks.nodes.items
+    c.in_ok-marks.marks.labels.items added.1 added.2 in
+    let e : c.reverse.new.self.items ≡ made =
+    c.reverse.ensures.items ∙ ap (λ x. reverse x) (written.2
+    ∙ ap (λ x. x ++ reverse made) c.new-table.ensures.items) ∙ reverse-reverse made in
+    rw e (are_fewest nat_eq Decides-eqb c.args.otherwise c.args.spans.now c.args.width)
