@@ -37,8 +37,10 @@ import subprocess
 import tempfile
 import time
 
-from tools.repository import Counts, Ended, cases, told
+from tools.repository import SECONDS, Counts, Ended, cases, told
 
+# The processor time that a program may take for a conversation. How long that takes by the clock depends on what runs beside.
+CPU_SECONDS = 60
 ESCAPE = re.compile(rb"\\(?:(r|\\|\n)|x([0-9a-f]{2})|(\d+)\{([^}]*)\})")
 
 
@@ -134,8 +136,11 @@ def play(program, talk, kind, room):
     """Plays a conversation with a built program."""
     size = resource.RLIM_INFINITY if room is None else room
     # A write beyond the limit, or to a shut pipe, gives an error: the signals for it stay ignored, as Python has them.
-    limit = lambda: resource.setrlimit(resource.RLIMIT_FSIZE, (size, size))
-    how = {"preexec_fn": limit, "restore_signals": False, "stderr": subprocess.PIPE, "timeout": 60}
+    def limit():
+        resource.setrlimit(resource.RLIMIT_FSIZE, (size, size))
+        resource.setrlimit(resource.RLIMIT_CPU, (CPU_SECONDS, CPU_SECONDS))
+
+    how = {"preexec_fn": limit, "restore_signals": False, "stderr": subprocess.PIPE, "timeout": SECONDS}
     folder = program.parent.parent
     with opened(talk.input(), kind) as given, unread() if talk.closed else tempfile.TemporaryFile() as out:
         ran = subprocess.run([program, *talk.words], cwd=folder, stdout=out, **given, **how)

@@ -1,19 +1,17 @@
 """The gate, the same work for some crates, and all tests without a proof."""
 
 import concurrent.futures
-import contextlib
 import hashlib
 import os
 import pathlib
 import re
-import shutil
 import subprocess
 import sys
 import tempfile
 import time
 
 from tools import conversations, examples, faults, library, mutants
-from tools.repository import CRATES, PROCESSORS, PROVED, TOP, Counts, Crate, below, counted, crates, listed, run, tell, told, tried
+from tools.repository import PROCESSORS, PROVED, TOP, Counts, Crate, below, counted, crates, listed, run, task, tell, told, tried, watched
 
 RESULT = re.compile(r"^test result: .*?(\d+) passed; (\d+) failed", re.M)
 # A line of `rt ci` on a crate of which a proof is kept.
@@ -37,37 +35,25 @@ def lanes():
     return max(1, min(PROCESSORS, memory // MEMORY_OF_A_CHECK))
 
 
-def proofs(names, told_kept=lambda _: None):
+def proofs(names, told_kept=lambda _: None, of=None):
     """Runs `rt ci`, of the crates that are named or of all, and tells all lines but those of what is proved.
 
-    It calls `told_kept` with the name of each crate as soon as a proof of it is kept."""
+    It calls `told_kept` with the name of each crate as soon as a proof of it is kept, and counts them, of so many."""
+    of = of or len(listed(PROVED))
     environment = {"RT_JOBS": str(lanes()), **os.environ, "PYTHONUNBUFFERED": "1"}
     how = {"stdout": subprocess.PIPE, "stderr": subprocess.STDOUT, "errors": "replace", "env": environment}
-    with part(names) if names and not library.keeps_apart() else contextlib.nullcontext((TOP, names)) as (top, given):
-        whole = subprocess.Popen(["rt", "ci", *given], cwd=top, **how)
-        line = ""
+    whole = subprocess.Popen(["rt", "ci", *names], cwd=TOP, **how)
+    line, number = "", 0
+    with task("proofs") as under_way:
         for line in map(str.rstrip, whole.stdout):
             if not line.endswith(": proved") and not line.startswith("statements "):
                 tell(line)
             found = KEPT.match(line)
             if found:
+                number += 1
+                under_way.what = f"proofs, crate {number + 1} of {of}"
                 told_kept(found[1])
-        return counted(line, whole.wait())
-
-
-@contextlib.contextmanager
-def part(names):
-    """Gives a copy of the crates that are named and of those below, for a kit whose `rt ci` takes no names."""
-    every = crates()
-    chosen = set().union(*(below(every, it) for it in names))
-    with tempfile.TemporaryDirectory() as room:
-        top = pathlib.Path(room)
-        for name in chosen:
-            shutil.copytree(CRATES / name, top / "crates" / name, ignore=shutil.ignore_patterns("out", "mutants"))
-        lines = PROVED.read_text().splitlines(keepends=True)
-        (top / "crates.txt").write_text("".join(it for it in lines if re.match(r"\w*", it)[0] in chosen))
-        shutil.copy(TOP / "HANDLES", top)
-        yield top, []
+    return counted(line, whole.wait())
 
 
 def gate():
@@ -75,7 +61,7 @@ def gate():
     fresh = [examples.compared(), *fresh_mutants()]
     if any(it.failed for it in fresh):
         return fresh
-    with examples.workspace() as room, beside(BESIDE, LEAST) as pool, beside(1, LEAST) as lane:
+    with watched(), examples.workspace() as room, beside(BESIDE, LEAST) as pool, beside(1, LEAST) as lane:
         joined = {faults.CRATE}.union(*ALIKE.values())
         alone = [it for it in crates().values() if not it.is_proved and it.name not in joined]
         runs = [pool.submit(faults.refuse, players=())]
@@ -86,10 +72,10 @@ def gate():
             if name == library.NAME and not languages:
                 languages.append(lane.submit(bindings))
 
-        proved = proofs([], run_languages if library.keeps_apart() else lambda _: None)
+        proved = proofs([], run_languages)
         if not proved.failed:
             run_languages(library.NAME)
-        over = [] if proved.failed else over_proved()
+        over = [] if proved.failed else [*over_proved(), users_crate()]
         refused, *ended = [it.result() for it in [*runs, *languages]]
     return [*fresh, proved, *over, *refused, *ended]
 
@@ -121,6 +107,22 @@ def over_proved():
         runs.append(pool.submit(counting, "random conversations", ["crates/rangecalc/fuzz", "--conversations", "1000"]))
         runs.append(pool.submit(counting, "random lists", ["crates/cidr/fuzz", "--lists", "300"]))
         return [*refused.result(), *[it.result() for it in runs]]
+
+
+def users_crate():
+    """Makes a workspace as a user would, and checks and tries the crate in it over what was proved.
+
+    The crates of this checkout are given what was proved too, so that a check after an edit proves the edited crate alone."""
+    began = time.monotonic()
+    run([sys.executable, "-m", "tools.kept", TOP, *(it.name for it in crates().values() if it.is_proved)])
+    with task("a user's workspace"), tempfile.TemporaryDirectory() as room:
+        made = run([TOP / "check", "new", f"{room}/workspace", "ports"])
+        folder = pathlib.Path(room, "workspace/crates/ports")
+        checked, ended = run(["rt", "check", "--jobs", "1"], folder), tried(folder, "--test")
+    is_quick = "over the library as it was proved" in made.stdout
+    passed = [is_quick, not checked.returncode, not ended.status and RESULT.search((ended.out + ended.errors).decode())]
+    counts = Counts(sum(map(bool, passed)), 3 - sum(map(bool, passed)))
+    return told("a user's workspace", counts, began, f"{made.stdout}\n{checked.stdout[-2000:]}\n{ended.errors.decode()[-2000:]}")
 
 
 def beside(number, niceness=0):
@@ -184,8 +186,9 @@ def quickly(every, chosen):
                 digest.update(f"{path.relative_to(TOP)}\0".encode() + path.read_bytes())
         digest.update(examples.read_by(crate))
         tasks += [(crate, call, digest.hexdigest()) for call in calls(crate)]
-    with examples.workspace() as room, concurrent.futures.ThreadPoolExecutor(PROCESSORS) as pool:
-        ended = [*pool.map(lambda task: unless_passed(*task, room), tasks)]
+    tell(f"{len(tasks)} tasks, {PROCESSORS} at a time, each built without a proof")
+    with watched(), examples.workspace() as room, concurrent.futures.ThreadPoolExecutor(PROCESSORS) as pool:
+        ended = [*pool.map(lambda it: unless_passed(*it, room), tasks)]
     return [*ended, examples.compared()]
 
 
@@ -202,7 +205,8 @@ def unless_passed(crate, call, digest, room):
     kept = crate.folder / "out" / f"quick-{call.__name__}"
     if kept.exists() and kept.read_text() == digest:
         return told(f"{crate.name}: {call.__name__}, as before", Counts(1), time.monotonic(), "")
-    counts = call(crate, room)
+    with task(f"{crate.name}: {call.__name__}"):
+        counts = call(crate, room)
     if not counts.failed:
         kept.parent.mkdir(exist_ok=True)
         kept.write_text(digest)

@@ -1,12 +1,14 @@
 """The crates of this repository, copies of them for what is built without a proof, and runs of `rt`."""
 
 import contextlib
+import dataclasses
 import os
 import pathlib
 import re
 import shutil
 import subprocess
 import tempfile
+import threading
 import time
 import typing
 
@@ -22,7 +24,10 @@ PROCESSORS = len(os.sched_getaffinity(0))
 START = time.monotonic()
 # A program that has not ended after so many seconds hangs. The gate runs some at the lowest priority, beside proofs on all processors.
 SECONDS = 1800
-# Loaded before there are threads: tools/library.py loads the kit's `rt`, which puts a module of its own under the same name.
+# After so many seconds without a line, one tells what is under way.
+QUIET = 10
+UNDER_WAY, last_told = [], START
+# Loaded before there are threads: tools/kept.py loads the kit's `rt`, which puts a module of its own under the same name.
 RTLIB = unproved.kit()
 
 os.environ["PATH"] += os.pathsep + "/opt/rattle/bin"
@@ -133,8 +138,47 @@ def workspace(more=""):
 
 
 def tell(text):
-    minutes, seconds = divmod(int(time.monotonic() - START), 60)
+    global last_told
+    last_told = time.monotonic()
+    minutes, seconds = divmod(int(last_told - START), 60)
     print(f"{minutes:3}:{seconds:02}  {text}", flush=True)
+
+
+@dataclasses.dataclass(eq=False)
+class Task:
+    what: str
+    began: float
+
+
+@contextlib.contextmanager
+def task(what):
+    """Counts what runs within as a task under way. Gives the task, whose text may change."""
+    made = Task(what, time.monotonic())
+    UNDER_WAY.append(made)
+    try:
+        yield made
+    finally:
+        UNDER_WAY.remove(made)
+
+
+@contextlib.contextmanager
+def watched():
+    """Tells what is under way wherever so many seconds pass without a line, until what runs within has ended."""
+    ended = threading.Event()
+
+    def watch():
+        while not ended.wait(1):
+            now = time.monotonic()
+            if UNDER_WAY and now - last_told >= QUIET:
+                tell("under way: " + "; ".join(f"{it.what} ({now - it.began:.0f} s)" for it in [*UNDER_WAY]))
+
+    watcher = threading.Thread(target=watch, daemon=True)
+    watcher.start()
+    try:
+        yield
+    finally:
+        ended.set()
+        watcher.join()
 
 
 def run(words, folder=TOP):

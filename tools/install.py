@@ -1,0 +1,45 @@
+"""The programs under a prefix, with what belongs to them: man pages, completions for bash, and rules of `tokens`.
+
+    PREFIX/bin                                    cidr, tokens, rangerun, rangecalc
+    PREFIX/share/man/man1                         a page of each
+    PREFIX/share/bash-completion/completions      what bash completes of each
+    PREFIX/share/btree_range_map/tokens           files of rules
+"""
+
+import os
+import shutil
+
+from tools import programs
+from tools.repository import CRATES, TOP, Counts, tell
+
+PROGRAMS = ("cidr", "tokens", "rangerun", "rangecalc")
+SHARE = "share/btree_range_map"
+
+
+def put(source, target):
+    """Copies a file, if it is there, to where others may read it."""
+    if source.exists():
+        target.parent.mkdir(parents=True, exist_ok=True)
+        # A program that runs is not written over, but replaced.
+        shutil.copy2(source, f"{target}.new")
+        os.chmod(f"{target}.new", 0o755 if os.access(source, os.X_OK) else 0o644)
+        os.replace(f"{target}.new", target)
+
+
+def install(prefix, is_proved):
+    """Puts all there. Returns how many programs were."""
+    prefix = prefix.resolve()
+    for name in PROGRAMS:
+        if is_proved:
+            program = programs.proved(name, lambda: tell(f"{name}: proving what no gate has proved here yet: up to an hour"))
+        else:
+            program = programs.built(name, "-O3", lambda: tell(f"{name}: building it without a proof: about a minute"))
+        put(program, prefix / "bin" / name)
+        put(CRATES / name / f"{name}.1", prefix / "share/man/man1" / f"{name}.1")
+        put(CRATES / name / f"{name}.bash", prefix / "share/bash-completion/completions" / name)
+        tell(f"{prefix}/bin/{name}")
+    for rules in sorted((CRATES / "tokens/data").iterdir()):
+        if not rules.suffix:
+            put(rules, prefix / SHARE / "tokens" / rules.name)
+    put(TOP / "LICENSE", prefix / SHARE / "LICENSE")
+    return [Counts(len(PROGRAMS))]
