@@ -36,7 +36,7 @@ COMMANDS = {
     "tokens": (
         CRATES / "tokens/data",
         "tokens calculator sum.txt",
-        f"tokens json {TOP / 'tests/samples/port.json'}",
+        "tokens json port.json",
         f"tokens c {TOP / 'bindings/c/demo.c'}",
     ),
 }
