@@ -12,7 +12,7 @@ import pathlib
 import re
 import sys
 
-from tools.mutants import heading
+from tools.source import heading
 from tools.pages import HEAD, IMPL, definitions_of, imported, text_from
 from tools.repository import Crate, listed
 

@@ -11,13 +11,11 @@ import tempfile
 import time
 
 from tools import conversations, examples, faults, library, mutants
-from tools.repository import PROCESSORS, PROVED, TOP, Counts, Crate, below, counted, crates, listed, run, task, tell, told, tried, watched
+from tools.repository import PROCESSORS, PROVED, TOP, Counts, Crate, below, counted, crates, lanes, listed, run, task, tell, told, tried, watched
 
 RESULT = re.compile(r"^test result: .*?(\d+) passed; (\d+) failed", re.M)
 # A line of `rt ci` on a crate of which a proof is kept.
 KEPT = re.compile(r"rt: (\w+) (?:proved$|is kept)")
-# A check takes less than this; what `rt` expects of it, by its lines, is up to three times as much.
-MEMORY_OF_A_CHECK = 5 * 1024**3
 # So much runs beside the proofs, on processors that they leave idle: it gives way to all else.
 BESIDE, LEAST = 2, 19
 # Crates of tests over the same libraries. The gate builds those of a line as one crate, so that the libraries are read once.
@@ -27,12 +25,6 @@ ALIKE = {
     "page_tests": ("example_tests", examples.CRATE),
     "lexer_tests": ("lexing_tests", "pattern_tests"),
 }
-
-
-def lanes():
-    """Returns how many checks run side by side: one a processor, as far as there is memory."""
-    memory = os.sysconf("SC_PAGE_SIZE") * os.sysconf("SC_PHYS_PAGES")
-    return max(1, min(PROCESSORS, memory // MEMORY_OF_A_CHECK))
 
 
 def proofs(names, told_kept=lambda _: None, of=None):
@@ -58,7 +50,7 @@ def proofs(names, told_kept=lambda _: None, of=None):
 
 def gate():
     """Does the whole of it: what can be seen at once comes first, and what needs no proof runs beside the proofs."""
-    fresh = [examples.compared(), *fresh_mutants()]
+    fresh = [examples.compared(), tools_tried(), *fresh_mutants()]
     if any(it.failed for it in fresh):
         return fresh
     with watched(), examples.workspace() as room, beside(BESIDE, LEAST) as pool, beside(1, LEAST) as lane:
@@ -146,9 +138,14 @@ def fresh_mutants():
     changed, never = mutants.stale()
     for name in never:
         tell(f"{name}: its mutants were not tried yet")
-    for name in changed:
-        tell(f"{name}: changed since its mutants were tried: ./check mutants {name}")
+    for name, again in changed.items():
+        shown = ", ".join(str(it.function) for it in again[:4]) + (", .." if len(again) > 4 else "")
+        tell(f"{name}: {len(again)} of its mutants rest on what changed ({shown}): ./check mutants {name}")
     return [Counts(0, 1) for _ in changed]
+
+
+def tools_tried():
+    return counting("which changes make records of mutants stale", [sys.executable, "-m", "tools.test_records"])
 
 
 def counting(what, words):
@@ -189,7 +186,7 @@ def quickly(every, chosen):
     tell(f"{len(tasks)} tasks, {PROCESSORS} at a time, each built without a proof")
     with watched(), examples.workspace() as room, concurrent.futures.ThreadPoolExecutor(PROCESSORS) as pool:
         ended = [*pool.map(lambda it: unless_passed(*it, room), tasks)]
-    return [*ended, examples.compared()]
+    return [*ended, examples.compared(), tools_tried()]
 
 
 def calls(crate):

@@ -3,15 +3,13 @@
 The mutants of an edit of crates/CRATE/mutants/ are tried in one check, over what `rt check` keeps of
 the crate, and the edits side by side. One that is not seen refused among the others is tried again
 without those that were, and at last alone. Where each is refused stands in
-crates/CRATE/mutants/refused.txt, after a sum of the crate's files and of the definitions and
-contracts of all crates below.
+crates/CRATE/mutants/refused.txt, after a sum of what that rests on (tools/records.py). Only a mutant
+whose sum changed is tried again.
 """
 
 import collections
 import concurrent.futures
 import dataclasses
-import functools
-import hashlib
 import os
 import pathlib
 import re
@@ -19,29 +17,14 @@ import shutil
 import sys
 import tempfile
 
-from tools.repository import CRATES, PROCESSORS, TOP, Counts, below, crates, run
+from tools import records
+from tools.repository import CRATES, TOP, Counts, below, crates, lanes, run
+from tools.source import Function, functions, heading
 
-FUNCTION = re.compile(r"( *)(?:pub(?:\([a-z]+\))? )?(?:final |const |unsafe |extern \"C\" )*fn (\w+)")
-IMPL = re.compile(r"(?:pub(?:\([a-z]+\))? )?(?:unsafe )?(?:impl|trait)\b")
 GOAL = re.compile(r"(?:note: |\./)*(src|proofs)/(\S+?)\.(?:rt|antt):(\d+):\d+: (?:error: `([^`]+)`|.*\(`([^`]+)`\))")
+HEAD = "# Where ./check mutants saw each mutant refused, after a sum of what that rests on."
+ENTRY = re.compile(r"  ([0-9a-f]{12}|-) (.+?)(?: \(\d+\))?: (.*)")
 UNREAD = re.compile(r"\berror\[[\w-]+\]|^(\./)?src/\S+: error: [^`]", re.M)
-IMPORT = re.compile(r"^ *(?:ghost )?use ([^{\n]*?)(?:\{(.*)\}|([^\s.:;{}]+));?$", re.M)
-HEAD = "# What ./check mutants saw; sum of the files and of the contracts below: "
-
-
-@dataclasses.dataclass(frozen=True)
-class Function:
-    """A function of a file of src/, with its first line, which may be an attribute's, its last line
-    and the type that it is of."""
-
-    file: str
-    name: str
-    owner: str
-    first: int
-    last: int
-
-    def __str__(self):
-        return f"{self.name} of {self.owner}" if self.owner else self.name
 
 
 @dataclasses.dataclass(frozen=True)
@@ -50,48 +33,6 @@ class Change:
     old: str
     new: str
     line: int
-
-
-def heading(lines):
-    """Returns what an impl is of, as `Ord for Directed`, from its first lines."""
-    text = " ".join(lines).partition("{")[0].partition(" where ")[0]
-    depth, bare = 0, ""
-    for before, letter in zip(" " + text, text):
-        depth += (letter == "<") - (letter == ">" and before != "-")
-        bare += letter if depth == 0 and letter != ">" else ""
-    bare = re.split(r":\s", bare)[0]
-    return " ".join(word for word in bare.split() if word not in ("pub", "unsafe", "impl", "trait"))
-
-
-def last_line(lines, number, indent):
-    """Returns the last line of a function that begins on the line of this number; in a trait it may have no body."""
-    has_body, depth = False, 0
-    for at, line in enumerate(lines[number - 1 :], number):
-        is_head = at == number or line.startswith(indent + ")")
-        depth += line.count("{") - line.count("}")
-        has_body = has_body or line == indent + "{" or is_head and line.endswith("{")
-        is_end = line.startswith((indent + "}", indent + "{ "))
-        if is_end or not has_body and not depth and line.endswith(";"):
-            return at
-    return number
-
-
-def functions(path, text):
-    """Returns the functions of a file, each with the impl or trait in which it stands."""
-    lines, owner, found = text.split("\n"), "", []
-    for number, line in enumerate(lines, 1):
-        if IMPL.match(line):
-            owner = heading(lines[number - 1 : number + 11])
-        elif line.startswith("}"):
-            owner = ""
-        head = FUNCTION.match(line)
-        if head:
-            last = last_line(lines, number, head[1])
-            first = number
-            while first > 1 and lines[first - 2].lstrip().startswith("#["):
-                first -= 1
-            found.append(Function(path, head[2], owner if head[1] else "", first, last))
-    return found
 
 
 def read_edit(crate, edit):
@@ -138,7 +79,7 @@ def check(crate, texts):
         room = pathlib.Path(room)
         for name in ("HANDLES", "crates.txt"):
             shutil.copy2(TOP / name, room)
-        for other in CRATES.iterdir():
+        for other in (CRATES / it for it in below(crates(), crate.name)):
             names = ["src", "specs", "proofs", "out/rlib", *(["out/incremental"] if other == crate else [])]
             for name in names:
                 if (other / name).is_dir():
@@ -204,12 +145,92 @@ def written(change):
     return Function(change.file, name[1], owner, change.line, change.line) if name else None
 
 
-def try_edit(crate, edit):
-    """Returns the goals of each mutated function of the edit, none where it is not refused."""
+@dataclasses.dataclass(frozen=True)
+class Mutant:
+    """A function that an edit turns, how many texts of it, and the sum of what a record of it rests on.
+
+    `same` is how many before it have its name in the edit."""
+
+    edit: str
+    function: Function
+    texts: int
+    same: int
+    sum: str
+
+    @property
+    def key(self):
+        return self.edit, self.function.file, str(self.function), self.same
+
+
+def mutants_of(crate, sources):
+    """Returns the mutants of a crate, in the order of its record."""
+    found = []
+    for edit in sorted((crate / "mutants").glob("*.edit")):
+        texts, changes = read_edit(crate, edit)
+        turned, seen = by_function(texts, changes), collections.Counter()
+        common = turned.pop(None, [])
+        for function, of in sorted(turned.items(), key=lambda it: (it[0].file, it[0].first)):
+            written = [text for it in [*common, *of] for text in (it.old, it.new)]
+            name = function.file, str(function)
+            sum_ = sources.sum_of(crate.name, function, written)
+            found.append(Mutant(edit.stem, function, len(of), seen[name], sum_))
+            seen[name] += 1
+    return found
+
+
+def record_of(crate):
+    return crate / "mutants" / "refused.txt"
+
+
+def recorded(crate):
+    """Returns the sum and the goals that the crate's record has of each mutant, by its key."""
+    found, edit, file, path = {}, "", "", record_of(crate)
+    for line in path.read_text().splitlines() if path.exists() else []:
+        entry = ENTRY.fullmatch(line)
+        if line.startswith("## "):
+            edit = line[3:]
+        elif entry:
+            key = edit, file, entry[2]
+            found[(*key, sum(it[:3] == key for it in found))] = entry[1], entry[3]
+        elif line.startswith("src/"):
+            file = line
+    return found
+
+
+def stale():
+    """Returns the mutants of each crate that are to be tried again, by its name, and the crates of which none was tried."""
+    sources, found, never = records.Sources(TOP), {}, []
+    for crate in sorted(it.parent for it in CRATES.glob("*/mutants") if any(it.glob("*.edit"))):
+        known = recorded(crate)
+        if known:
+            again = [it for it in mutants_of(crate, sources) if known.get(it.key, "")[:1] != (it.sum,)]
+            found |= {crate.name: again} if again else {}
+        else:
+            never.append(crate.name)
+    return found, never
+
+
+def write_record(crate, entries):
+    """Writes the record of a crate: the mutants in order, each with its sum and its goals."""
+    lines, edit, file = [HEAD], "", ""
+    for it, (sum_, goals) in entries:
+        if it.edit != edit:
+            edit, file = it.edit, ""
+            lines.append(f"\n## {edit}")
+        if it.function.file != file:
+            file = it.function.file
+            lines.append(f"\n{file}")
+        lines.append(f"  {sum_} {it.function}{f' ({it.texts})' if it.texts > 1 else ''}: {goals}")
+    record_of(crate).write_text("\n".join(lines) + "\n")
+
+
+def try_edit(crate, edit, wanted=None):
+    """Returns the goals of each mutated function of the edit, of all or of those that are wanted, none where it is not refused."""
     texts, changes = read_edit(crate, edit)
     turned = by_function(texts, changes)
     common = turned.pop(None, [])
-    goals, left = {it: {} for it in turned}, list(turned)
+    goals = {it: {} for it in turned if wanted is None or it in wanted}
+    left = list(goals)
     while left:
         chosen = {id(it) for function in left for it in [*turned[function], *common]}
         said = check(crate, changed(texts, [it for it in changes if id(it) in chosen]))
@@ -228,119 +249,54 @@ def try_edit(crate, edit):
         if not goals[function] and "logic=not-proved" in said:
             first = next((it for it in said.splitlines() if GOAL.match(it)), "")
             goals[function] = {f"elsewhere: {first[:100]}": None}
-    return goals, {function: len(of) for function, of in turned.items()}
+    return {it: ", ".join(names) for it, names in goals.items()}
 
 
-def without_imports(text):
-    """Returns the text with those imports alone whose names it uses, each on a line, in their order by name."""
-    rest, kept = IMPORT.sub("", text), set()
-    words = set(re.findall(r"\w+|[^\w\s]", re.sub(r"^ *(?://|--).*", "", rest, flags=re.M)))
-    for path, names, last in IMPORT.findall(text):
-        for name in (names or last).split(","):
-            bound = path.rstrip(".:") if name.strip() == "self" else name
-            bound = re.split(r"\bas\b|[\s.:]+", bound)[-1]
-            if words.issuperset(re.findall(r"\w+|[^\w\s◌]", bound)):
-                kept.add(f"{path}{name.strip()}")
-    return "\n".join([*sorted(kept), rest])
+def try_crate(crate, chosen, every, pool):
+    """Tries mutants of a crate, writes where each is refused, and returns their counts."""
+    known, tasks = recorded(crate), {}
+    for edit in sorted({it.edit for it in chosen}):
+        wanted = {it.function for it in chosen if it.edit == edit}
+        tasks[edit] = pool.submit(try_edit, crate, crate / "mutants" / f"{edit}.edit", wanted)
+    found = {it.key: (it.sum, tasks[it.edit].result()[it.function]) for it in chosen}
+    tried = {key: (sum_, goals) if goals else ("-", "NOT REFUSED") for key, (sum_, goals) in found.items()}
+    write_record(crate, [(it, (known | tried)[it.key]) for it in every])
+    missed = sum(not goals for _, goals in found.values())
+    print(f"{crate.name}: {len(found)} of {len(every)} mutants tried, {missed} not refused", flush=True)
+    return Counts(len(found) - missed, missed)
 
 
-def seen_above(text):
-    """Returns the lines of a file on which crates above may rest, as `rt fmt` lays it out: not the bodies of functions,
-    nor a private function beside the types, hints on inlining, or imports that only these use."""
-    lines = text.split("\n")
-    left_out = {number for number, line in enumerate(lines, 1) if line.lstrip().startswith("#[inline")}
-    for it in functions("", text):
-        head = next(at for at in range(it.first, it.last + 1) if FUNCTION.match(lines[at - 1]))
-        if not it.owner and not lines[head - 1].startswith("pub "):
-            left_out.update(range(it.first, it.last + 1))
-        indent = lines[it.last - 1][: len(lines[it.last - 1]) - len(lines[it.last - 1].lstrip())]
-        opens = range(it.first, it.last)
-        start = next((at for at in opens if lines[at - 1] == indent + "{"), None)
-        start = start or next((at for at in opens if lines[at - 1].endswith("{")), it.last)
-        left_out.update(range(start + 1, it.last))
-    seen = "\n".join(line for number, line in enumerate(lines, 1) if number not in left_out)
-    return without_imports(seen)
+def prove(crate):
+    ended = run(["rt", "check", "--jobs", "1"], crate)
+    if ended.returncode:
+        sys.exit(f"{ended.stdout[-3000:]}\n{crate.name}: is not proved as it stands")
 
 
-@functools.cache
-def tokens_of(file, is_below):
-    """Returns the tokens of a file, of one of a crate below those on which crates above may rest. Comments and layout do not count."""
-    text = file.read_text()
-    lines = [line.strip() for line in (seen_above(text) if is_below else text).split("\n")]
-    text = "\n".join(line for line in lines if not line.startswith(("//", "--")))
-    tokens = " ".join(re.findall(r"\w+|[^\w\s]", text))
-    return re.sub(r"[,;] (?=[)}\]])", "", tokens)
-
-
-def sum_of(crate, every):
-    """Returns a sum of what is proved of the crate and of its mutants, and of the definitions and contracts below."""
-    folders = [(crate, name) for name in ("src", "specs", "proofs", "mutants")]
-    others = sorted(below(every, crate.name) - {crate.name})
-    folders += [(CRATES / name, part) for name in others for part in ("specs", "src")]
-    made = hashlib.sha256()
-    for folder, part in folders:
-        files = (it for it in (folder / part).rglob("*") if it.suffix in (".rt", ".antt", ".edit"))
-        for file in sorted(files):
-            made.update(f"{file.relative_to(CRATES)}\n{tokens_of(file, folder != crate)}\n".encode())
-    return made.hexdigest()
-
-
-def record_of(crate):
-    return crate / "mutants" / "refused.txt"
-
-
-def stale():
-    """Returns the crates that changed since their mutants were tried, and those that were never tried."""
-    every = crates()
-    found = sorted(it.parent for it in CRATES.glob("*/mutants") if any(it.glob("*.edit")))
-    never = [it.name for it in found if not record_of(it).exists()]
-    tried = [it for it in found if record_of(it).exists()]
-    heads = {it: record_of(it).read_text().partition("\n")[0] for it in tried}
-    return [it.name for it in tried if heads[it] != HEAD + sum_of(it, every)], never
-
-
-def show(goals, counts):
-    """Returns a line for each function: how many texts of it were turned, and where it is refused."""
-    lines, file = [], ""
-    for function, names in sorted(goals.items(), key=lambda it: (it[0].file, it[0].first)):
-        if function.file != file:
-            file = function.file
-            lines.append(f"\n{file}")
-        times = f" ({counts[function]})" if counts[function] > 1 else ""
-        lines.append(f"  {function}{times}: {', '.join(names) or 'NOT REFUSED'}")
-    return lines
-
-
-def try_crate(crate):
-    """Tries all mutants of a crate, writes where each is refused, and returns the counts of functions."""
-    lines, counts = [HEAD + sum_of(crate, crates())], Counts(0)
-    edits = sorted((crate / "mutants").glob("*.edit"))
-    with concurrent.futures.ThreadPoolExecutor(PROCESSORS) as pool:
-        for edit, (goals, texts) in zip(edits, pool.map(lambda it: try_edit(crate, it), edits)):
-            lines += [f"\n## {edit.stem}", *show(goals, texts)]
-            missed = sum(not names for names in goals.values())
-            counts = counts.and_more([Counts(len(goals) - missed, missed)])
-            print(f"{crate.name}/{edit.stem}: {len(goals)} functions, {missed} not refused", flush=True)
-    if counts.failed:
-        lines[0] = "# Not all were refused"
-    record_of(crate).write_text("\n".join(lines) + "\n")
-    return counts
+def try_alone(crate, edit):
+    """Tries a single edit of mutants/ or must-fail/, and prints its goals."""
+    prove(crate)
+    (path,) = crate.glob(f"*/{edit}.edit")
+    goals = try_edit(crate, path)
+    for function, names in goals.items():
+        print(f"{function.file}: {function}: {names or 'NOT REFUSED'}")
+    missed = sum(not names for names in goals.values())
+    return Counts(len(goals) - missed, missed)
 
 
 def try_all(names):
-    """Tries the mutants of crates, or a single edit as CRATE/EDIT of mutants/ or must-fail/, whose goals it prints."""
-    counts = []
+    """Tries the mutants of crates whose records are stale, several crates side by side, the lowest first; a single edit as CRATE/EDIT."""
+    counts, sources = [], records.Sources(TOP)
+    ordered = [it for it in crates() if it in names]
+    with concurrent.futures.ThreadPoolExecutor(lanes()) as pool, concurrent.futures.ThreadPoolExecutor(lanes()) as ends:
+        tasks = []
+        for crate in (CRATES / it for it in ordered):
+            every, known = mutants_of(crate, sources), recorded(crate)
+            chosen = [it for it in every if known.get(it.key, "")[:1] != (it.sum,)]
+            if chosen:
+                prove(crate)
+            tasks.append(ends.submit(try_crate, crate, chosen, every, pool))
+        counts += [it.result() for it in tasks]
     for name in names:
         crate, _, edit = name.partition("/")
-        ended = run(["rt", "check", "--jobs", "1"], CRATES / crate)
-        if ended.returncode:
-            sys.exit(f"{ended.stdout[-3000:]}\n{crate}: is not proved as it stands")
-        if edit:
-            (found,) = (CRATES / crate).glob(f"*/{edit}.edit")
-            goals, texts = try_edit(CRATES / crate, found)
-            print("\n".join(show(goals, texts)))
-            missed = sum(not names for names in goals.values())
-            counts.append(Counts(len(goals) - missed, missed))
-        else:
-            counts.append(try_crate(CRATES / crate))
+        counts += [try_alone(CRATES / crate, edit)] if edit else []
     return counts

@@ -7,7 +7,7 @@ the definitions of its `specs/`, to which each name in a clause is linked.
 import html
 import re
 
-from tools.mutants import IMPL, heading
+from tools.source import IMPL, heading
 from tools.repository import below, crates
 
 HEAD = re.compile(r"( *)(pub )?(?:const |unsafe )?(fn|struct|enum|trait|type) (\w+)")

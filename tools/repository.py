@@ -21,6 +21,8 @@ PROVED, UNPROVED = TOP / "crates.txt", TOP / "tests" / "tests.txt"
 # Files of tests/ that hold Rattle, which no tool is to take for Rust, nor `rt ci` for proved code.
 UNPROVED_SUFFIX = ".rt.txt"
 PROCESSORS = len(os.sched_getaffinity(0))
+# A check takes less than this; what `rt` expects of it, by its lines, is up to three times as much.
+MEMORY_OF_A_CHECK = 5 * 1024**3
 START = time.monotonic()
 # A program that has not ended after so many seconds hangs. The gate runs some at the lowest priority, beside proofs on all processors.
 SECONDS = 1800
@@ -31,6 +33,12 @@ UNDER_WAY, last_told = [], START
 RTLIB = unproved.kit()
 
 os.environ["PATH"] += os.pathsep + "/opt/rattle/bin"
+
+
+def lanes():
+    """Returns how many checks run side by side: one a processor, as far as there is memory."""
+    memory = os.sysconf("SC_PAGE_SIZE") * os.sysconf("SC_PHYS_PAGES")
+    return max(1, min(PROCESSORS, memory // MEMORY_OF_A_CHECK))
 
 
 class Counts(typing.NamedTuple):
