@@ -18,7 +18,7 @@ import sys
 import tempfile
 
 from tools import records
-from tools.repository import CRATES, TOP, Counts, below, crates, lanes, run
+from tools.repository import CRATES, PROVED, TOP, Counts, below, crates, lanes, run
 from tools.source import Function, functions, heading
 
 GOAL = re.compile(r"(?:note: |\./)*(src|proofs)/(\S+?)\.(?:rt|antt):(\d+):\d+: (?:error: `([^`]+)`|.*\(`([^`]+)`\))")
@@ -76,10 +76,11 @@ def linked(source, target):
 def check(crate, texts):
     """Returns what a check says of a copy of the crate with these texts, over what is kept of the crate."""
     with tempfile.TemporaryDirectory(dir=TOP.parent) as room:
-        room = pathlib.Path(room)
-        for name in ("HANDLES", "crates.txt"):
-            shutil.copy2(TOP / name, room)
-        for other in (CRATES / it for it in below(crates(), crate.name)):
+        room, used = pathlib.Path(room), below(crates(), crate.name)
+        shutil.copy2(TOP / "HANDLES", room)
+        lines = PROVED.read_text().splitlines(keepends=True)
+        (room / "crates.txt").write_text("".join(it for it in lines if re.match(r"\w*", it)[0] in used))
+        for other in (CRATES / it for it in used):
             names = ["src", "specs", "proofs", "out/rlib", *(["out/incremental"] if other == crate else [])]
             for name in names:
                 if (other / name).is_dir():
