@@ -102,19 +102,21 @@ def over_proved():
 
 
 def users_crate():
-    """Makes a workspace as a user would, and checks and tries the crate in it over what was proved.
+    """Installs the programs and makes a workspace as a user would, and checks and tries its crate over what was proved.
 
     The crates of this checkout are given what was proved too, so that a check after an edit proves the edited crate alone."""
     began = time.monotonic()
     run([sys.executable, "-m", "tools.kept", TOP, *(it.name for it in crates().values() if it.is_proved)])
     with task("a user's workspace"), tempfile.TemporaryDirectory() as room:
+        installed = run([TOP / "check", "install", f"{room}/prefix", "--proved"])
         made = run([TOP / "check", "new", f"{room}/workspace", "ports"])
         folder = pathlib.Path(room, "workspace/crates/ports")
         checked, ended = run(["rt", "check", "--jobs", "1"], folder), tried(folder, "--test")
     is_quick = "over the library as it was proved" in made.stdout
-    passed = [is_quick, not checked.returncode, not ended.status and RESULT.search((ended.out + ended.errors).decode())]
-    counts = Counts(sum(map(bool, passed)), 3 - sum(map(bool, passed)))
-    return told("a user's workspace", counts, began, f"{made.stdout}\n{checked.stdout[-2000:]}\n{ended.errors.decode()[-2000:]}")
+    is_tested = not ended.status and b"1 passed; 0 failed" in ended.out + ended.errors
+    passed = sum([not installed.returncode, is_quick, not checked.returncode, is_tested])
+    said = "\n".join([installed.stdout, made.stdout, checked.stdout[-2000:], ended.errors.decode()[-2000:]])
+    return told("a user's programs and workspace", Counts(passed, 4 - passed), began, said)
 
 
 def beside(number, niceness=0):
