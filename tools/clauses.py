@@ -12,9 +12,8 @@ import pathlib
 import re
 import sys
 
-from tools.source import heading
-from tools.pages import HEAD, IMPL, definitions_of, imported, text_from
 from tools.repository import Crate, listed
+from tools.source import HEAD, IMPL, definitions_of, heading, imported, text_from
 
 
 def crates_of(top):

@@ -1,25 +1,27 @@
 """The public calls of the library with their doc comments, signatures and clauses, as static HTML.
 
-`index.html` lists all of them with a search box. A page of each crate has its calls, and another one
-the definitions of its `specs/`, to which each name in a clause is linked.
+`index.html` begins as the root does: its doc comment, and the names that it exports, in its order. A type has a page with its calls and its
+impls of traits, a module one with its functions, its laws last. `definitions.html` has the definitions by the topics of DESIGN's reading
+order; each name in a clause leads there.
 """
 
+import functools
 import html
 import re
 
-from tools.source import IMPL, heading
-from tools.repository import below, crates
+from tools.repository import CRATES, TOP, below, crates
+from tools.source import HEAD, IMPL, comment_before, definitions_of, heading, imported, text_from
 
-HEAD = re.compile(r"( *)(pub )?(?:const |unsafe )?(fn|struct|enum|trait|type) (\w+)")
-IMPORT = re.compile(r"^ *(?:ghost )?use Rattle\.(\w+)\.specs\.([\w.]+)\.\{([^}]*)\}", re.M)
-DEFINED = re.compile(r"( *)(?:abbrev )?pub (?:record |data )?([\w<≡≤]+)\b(?! use)")
+ROOT = "btree_range_map"
+DECLARED = re.compile(r"(?:(pub) )?(?:unsafe |final |const )*(mod|use|struct|enum|trait|type|fn|const)\b (.*)")
 STYLE = """
 body { font: 16px/1.5 sans-serif; margin: 2rem auto; max-width: 62rem; padding: 0 1rem; }
 pre { background: #f4f4f0; overflow-x: auto; padding: .7rem 1rem; font-size: 13px; }
-h2 { border-top: 1px solid #ccc; margin-top: 2rem; padding-top: 1rem; font-size: 1.1rem; }
-h2 small, .place { color: #666; font-weight: normal; }
+h2 { border-top: 1px solid #ccc; margin-top: 2rem; padding-top: 1rem; } h3 { margin-top: 2rem; }
+.place { color: #666; font-weight: normal; font-size: .9rem; }
 input { box-sizing: border-box; font-size: 1.1rem; padding: .4rem; width: 100%; }
 li[hidden] { display: none; } ul.calls { list-style: none; padding: 0; } a { color: #0645ad; }
+td { padding: .2rem 1rem .2rem 0; vertical-align: top; } td:first-child { white-space: nowrap; }
 """
 SEARCH = """
 const box = document.querySelector("input"), rows = [...document.querySelectorAll("ul.calls li")];
@@ -32,170 +34,316 @@ search();
 """
 
 
-class Item:
-    """A public item: where it stands, what it is of, its doc comment and its text without a body."""
+class Module:
+    """A module: its crate, the names that lead to it, its file, and what it declares or brings in, in order."""
 
-    def __init__(self, place, owner, kind, name, comment, text, imports):
-        self.place, self.owner, self.kind, self.name = place, owner, kind, name
-        self.comment, self.text, self.imports = comment, text, imports
-        self.of_type = re.match(r"\w*", owner.rpartition(" for ")[2].split("::")[-1])[0]
-        self.title = f"{self.of_type}::{name}" if self.of_type else name
-        self.anchor = re.sub(r"\W+", "-", f"{place}-{owner}-{name}").strip("-")
+    def __init__(self, crate, names):
+        self.crate, self.names = crate, names
+        folder = CRATES / crate / "src"
+        path = folder / ("/".join(names) + ".rt" if names else "lib.rt")
+        self.file, text = str(path.relative_to(folder)), path.read_text()
+        self.comment = [re.sub(r"^//! ?", "", line) for line in text.split("\n") if line.startswith("//!")]
+        self.entries = []
+        for line in re.sub(r"(?m)^((?:pub )?use [^;]*);", lambda it: " ".join(it[0].split()), text).split("\n"):
+            found = DECLARED.match(line)
+            if not found:
+                continue
+            is_public, kind, rest = bool(found[1]), found[2], found[3]
+            if kind == "use":
+                self.entries += [(is_public, "use", *it) for it in brought(rest.rstrip(";"))]
+            else:
+                name, alias = re.match(r"\w+", rest)[0], re.match(r"[\w:]*", rest.partition("= ")[2])[0].split("::")
+                # An alias under the name of its type stands for that.
+                stands_for = alias if kind == "type" and alias[-1] == name else None
+                self.entries.append((is_public, "use" if stands_for else kind, name, stands_for))
 
 
-def imported(text):
-    """Returns the crate and the file of each definition that a file imports, by its name."""
-    found = {}
-    for crate, path, names in IMPORT.findall(text):
-        for name in names.split(","):
-            found[name.strip()] = (crate, path.replace(".", "/"))
+def brought(use):
+    """Gives the name and the path of each item that a `use` brings in."""
+    path, _, names = use.partition("::{")
+    for name in names.rstrip("}").split(",") if names else [""]:
+        name, _, other = name.strip().partition(" as ")
+        if names and not name:
+            continue
+        whole = path if name in ("", "self") else f"{path}::{name}"
+        yield other or whole.rpartition("::")[2], whole.split("::")
+
+
+@functools.cache
+def module(crate, names=()):
+    return Module(crate, names)
+
+
+def looked_up(crate, names, path):
+    """Returns what a path means in a module: a Module, or the crate, the module's names, the kind and the name of an item."""
+    if path[0] == "crate":
+        return inside(module(crate), path[1:])
+    if path[0] in ("self", "super"):
+        return inside(module(crate, names if path[0] == "self" else names[:-1]), path[1:])
+    if any(it[2] == path[0] for it in module(crate, names).entries):
+        return inside(module(crate, names), path)
+    return inside(module(path[0]), path[1:]) if (CRATES / path[0]).is_dir() else None
+
+
+def inside(place, path):
+    """Returns what a path means from a module on."""
+    for at, name in enumerate(path):
+        entry = next((it for it in place.entries if it[2] == name), None)
+        if not entry:
+            return None
+        _, kind, _, target = entry
+        if kind == "use":
+            found = looked_up(place.crate, place.names, target)
+        elif kind == "mod":
+            found = module(place.crate, (*place.names, name))
+        else:
+            found = place.crate, place.names, kind, name
+        if not isinstance(found, Module):
+            return found if at + 1 == len(path) else None
+        place = found
+    return place
+
+
+def exported(place, path, found):
+    """Adds the public items that can be named from a module on, with the paths that lead to each, in order."""
+    for is_public, kind, name, _ in place.entries:
+        target = inside(place, [name]) if is_public else None
+        if isinstance(target, Module):
+            found.setdefault(target, []).append((*path, name))
+            exported(target, (*path, name), found)
+        elif target:
+            found.setdefault(target, []).append((*path, name))
     return found
 
 
-def text_from(lines, at, indent):
-    """Returns the lines of an item up to its body, a type's with its public fields."""
-    taken, is_type = [], re.match(r" *pub (struct|enum|type)", lines[at])
-    for line in lines[at:]:
-        if is_type and is_type[1] == "struct" and re.match(r" +(pub\(|//[^/]|[a-z_]+:|ghost )", line):
-            continue
-        if line in (indent + "{", indent + "{}"):
-            break
-        taken.append(line[len(indent) :])
-        is_whole = "".join(taken).count("{") == "".join(taken).count("}")
-        if line.startswith(indent + "}") or line.endswith(";") and is_whole:
-            break
-        if not is_type and line.endswith("{") and not re.search(r"\b(requires|ensures)\b", line):
-            taken[-1] = taken[-1].removesuffix("{").rstrip()
-            break
-    return "\n".join(taken).replace("{\n}", "{ .. }")
+class Call:
+    """A function or a type as users see it: where it stands, what it is of, its doc comment and its text without a body."""
+
+    def __init__(self, crate, file, owner, kind, name, comment, text, imports):
+        self.crate, self.file, self.owner, self.kind, self.name = crate, file, owner, kind, name
+        self.comment, self.text, self.imports = comment, text, imports
+        self.of = re.match(r"\W*(\w*)", owner.rpartition(" for ")[2].split("::")[-1])[1]
+        self.trait = owner.rpartition(" for ")[0]
+        self.is_law = kind == "fn" and not owner and "->" not in text.partition("requires")[0].partition("ensures")[0]
 
 
-def comment_before(lines, at):
-    """Returns the doc comment above an item, and its attributes left out."""
-    taken = []
-    while at > 0 and lines[at - 1].lstrip().startswith(("///", "#[")):
-        at -= 1
-        taken.insert(0, lines[at].strip())
-    return [re.sub(r"^/// ?", "", line) for line in taken if line.startswith("///")]
-
-
-def exported(every):
-    """Returns the names that the root exports, and those of its module `json`."""
-    folders = [every[name].folder for name in ("btree_range_map", "range_json", "range_set_json")]
-    paths = [it for folder in folders for it in (folder / "src").rglob("*.rt") if it.name != "inner.rt"]
-    uses = (it for path in paths for it in re.findall(r"^ *pub use ([^;]*);", path.read_text(), re.M))
-    return {word for use in uses for word in re.findall(r"\w+", use)} | {"RangeMap", "RangeSet", "RangeMultiMap"}
-
-
-def items_of(crate, names):
-    """Returns the public items of a crate with a doc comment that have such names, or are of such types."""
+def calls_of(crate):
+    """Returns the public items of a crate with a doc comment, the methods of its traits and impls, and the impls themselves."""
     found = []
-    for path in sorted((crate.folder / "src").rglob("*.rt")):
+    for path in sorted((CRATES / crate / "src").rglob("*.rt")):
         text = path.read_text()
         lines, owner, is_trait, imports = text.split("\n"), "", False, imported(text)
-        place = str(path.relative_to(crate.folder / "src"))
+        file = str(path.relative_to(CRATES / crate / "src"))
         for at, line in enumerate(lines):
-            if IMPL.match(line.removeprefix("pub ")):
-                owner = heading([it.removeprefix("pub ") for it in lines[at : at + 12]])
-                is_trait = "trait " in line
+            if IMPL.match(line):
+                owner, is_trait = heading(lines[at : at + 12]), line.startswith(("trait", "pub trait"))
+                if " for " in owner:
+                    end = next(it for it in range(at, len(lines)) if lines[it].endswith(("{", "{}")))
+                    head = "\n".join(lines[at : end + 1]).removesuffix("{").removesuffix("{}").rstrip()
+                    found.append(Call(crate, file, owner, "impl", "", comment_before(lines, at), head, imports))
             elif line.startswith("}"):
                 owner, is_trait = "", False
             head = HEAD.match(line)
-            if not head or "#[test]" in lines[max(0, at - 1)] or not (head[2] or head[1] and is_trait):
+            if not head or "#[test]" in lines[max(0, at - 1)]:
                 continue
-            of = owner if head[1] else ""
-            comment, shown = comment_before(lines, at), text_from(lines, at, head[1])
-            item = Item(place, of, head[3], head[4], comment, shown, imports)
-            if comment and (item.of_type or item.name) in names and not place.startswith("inner"):
-                found.append(item)
+            of, comment = owner if head[1] else "", comment_before(lines, at)
+            if head[2] and comment or head[1] and (is_trait or " for " in owner):
+                shown = text_from(lines, at, head[1])
+                found.append(Call(crate, file, of, head[3], head[4], comment, shown, imports))
     return found
 
 
-def definitions_of(crate):
-    """Returns the definitions of a crate by their files and names: comment and text of each."""
-    found, common = {}, crate.folder / "specs/Common.antt"
-    passed_on = imported(common.read_text().replace("pub use", "use")) if common.exists() else {}
-    for path in sorted((crate.folder / "specs").rglob("*.antt")):
-        file = str(path.relative_to(crate.folder / "specs").with_suffix(""))
-        for block in re.split(r"\n\s*\n", path.read_text()):
-            lines = block.split("\n")
-            at = next((it for it, line in enumerate(lines) if DEFINED.match(line)), None)
-            if at is not None and not re.match(r" *(pub )?(use|mod)\b", lines[at]):
-                head = DEFINED.match(lines[at])
-                comment = [it.strip()[2:].strip() for it in lines[:at] if it.strip().startswith("--")]
-                text = "\n".join(it[len(head[1]) :] for it in lines[at:])
-                imports = imported(path.read_text())
-                common_names = {it for it, place in imports.items() if place[1] == "Common"}
-                imports |= {it: passed_on[it] for it in common_names & passed_on.keys()}
-                found[file, head[2]] = comment, text, imports
-    return found
+def of_type(call, item):
+    """Returns whether a call is of the type or trait that is exported."""
+    crate, _, _, name = item
+    if call.of != name:
+        return False
+    file = (CRATES / call.crate / "src" / call.file).read_text()
+    used = re.search(rf"^use (\w+)[^;]*\b{name}\b[^;]*;", file, re.M)
+    declares = any(it.kind in ("struct", "enum", "trait", "type") and it.name == name and not it.owner for it in all_calls(call.crate))
+    return call.crate == crate if declares else bool(used) and crate in (used[1], call.crate) or call.crate == crate
+
+
+@functools.cache
+def all_calls(crate):
+    return calls_of(crate)
 
 
 def linked(text, imports, own, known):
     """Returns a text as HTML, in which each name of a known definition leads to it, but for comments."""
 
     def link(found):
-        crate, file = imports.get(found[0], own)
-        if (crate, file, found[0]) not in known:
-            return found[0]
-        return f'<a href="{crate}.specs.html#{file.replace("/", "-")}-{found[0]}">{found[0]}</a>'
+        place = (*imports.get(found[0], own), found[0])
+        return f'<a href="definitions.html#{anchor_of(place)}">{found[0]}</a>' if place in known else found[0]
 
     lines = html.escape(text, quote=False).split("\n")
     is_comment = re.compile(r"\s*(//|--)")
     return "\n".join(it if is_comment.match(it) else re.sub(r"\b[A-Za-z_]\w*", link, it) for it in lines)
 
 
-def code(text):
-    """Returns a text as HTML, what stands between backticks as code."""
-    return re.sub(r"\[?`([^`]*)`\]?", r"<code>\1</code>", html.escape(text, quote=False))
+def anchor_of(place):
+    return "-".join(place).replace("/", "-")
 
 
-def prose(lines):
-    """Returns a doc comment as HTML: paragraphs, and blocks between fences."""
-    parts, is_code, out = "\n".join(lines).split("```"), False, []
-    for part in parts:
+def code(text, page_of=lambda _: ""):
+    """Returns a text as HTML: what stands between backticks as code, a name in brackets with a link to its page if it has one."""
+
+    def shown(found):
+        name, file = f"<code>{found[2]}</code>", page_of(found[2]) if found[1] else ""
+        return f'<a href="{file}">{name}</a>' if file else name
+
+    return re.sub(r"(\[?)`([^`]*)`\]?", shown, html.escape(text, quote=False))
+
+
+def prose(lines, page_of=lambda _: ""):
+    """Returns a doc comment as HTML: paragraphs, lists, and blocks between fences."""
+    parts, out = "\n".join(lines).split("```"), []
+    for is_code, part in zip([False, True] * len(parts), parts):
         if is_code:
             out.append(f"<pre>{html.escape(part.partition(chr(10))[2].rstrip())}</pre>")
-        else:
-            for paragraph in filter(str.strip, part.split("\n\n")):
-                out.append(f"<p>{code(paragraph)}</p>")
-        is_code = not is_code
+        for paragraph in filter(str.strip, [] if is_code else part.split("\n\n")):
+            items = re.split(r"^- ", paragraph.strip("\n"), flags=re.M)
+            out.append(f"<p>{code(items[0], page_of)}</p>" if items[0].strip() else "")
+            out.append("<ul>" + "".join(f"<li>{code(it, page_of)}</li>" for it in items[1:]) + "</ul>" if items[1:] else "")
     return "\n".join(out)
+
+
+def first_sentence(comment):
+    return code(re.split(r"(?<=[.:]) |\.$|:$", " ".join(comment))[0].rstrip(".:"))
 
 
 def page(title, body):
     head = f'<meta charset="utf-8"><title>{title}</title><style>{STYLE}</style>'
-    return f'<!DOCTYPE html>\n<html lang="en">{head}\n<h1>{title}</h1>\n{body}\n</html>\n'
+    back = '<p><a href="index.html">btree_range_map</a>, <a href="definitions.html">definitions</a></p>' if title != ROOT else ""
+    return f'<!DOCTYPE html>\n<html lang="en">{head}\n{back}<h1>{title}</h1>\n{body}\n</html>\n'
+
+
+def written_path(path):
+    return "::".join((ROOT, *path))
+
+
+class Pages:
+    """The pages of the root: its items with their paths, the calls of the crates below, and the definitions."""
+
+    def __init__(self):
+        every = crates()
+        self.names = [name for name in every if name in below(every, ROOT)]
+        self.known = {}
+        for name in self.names:
+            for (file, word), definition in definitions_of(every[name]).items():
+                self.known[name, file, word] = definition
+        self.calls = [it for name in self.names for it in all_calls(name)]
+        self.paths = exported(module(ROOT), (), {})
+        self.rows = []
+
+    def file_of(self, target):
+        return ".".join(min(self.paths[target], key=len)) + ".html"
+
+    def page_of(self, name):
+        """Returns the page of a name that the root exports, or nothing."""
+        return next((self.file_of(it) for it, paths in self.paths.items() if (name,) in paths), "")
+
+    def shown(self, call, title, file):
+        """Returns a call as HTML, and adds it to the rows of the search."""
+        anchor = re.sub(r"\W+", "-", f"{call.owner}-{call.name}").strip("-")
+        self.rows.append(f'<li><a href="{file}#{anchor}">{html.escape(title)}</a> {first_sentence(call.comment)}</li>')
+        text = linked(call.text, call.imports, ("", ""), self.known)
+        return f'<h3 id="{anchor}">{html.escape(title)}</h3>{prose(call.comment)}<pre>{text}</pre>\n'
+
+    def type_page(self, item):
+        """Writes the page of a type or trait: its paths, its declaration, its calls, and its impls of traits."""
+        crate, _, kind, name = item
+        file, own = self.file_of(item), [it for it in self.calls if of_type(it, item)]
+        paths = sorted(self.paths[item], key=len)
+        aliases = [it for it in all_calls(ROOT) if it.kind == "type" and it.name == name]
+        body = "".join(f'<p class="place"><code>{written_path(it)}</code></p>' for it in paths)
+        declared = [it for it in all_calls(crate) if it.kind == kind and it.name == name and not it.owner]
+        for it in dict.fromkeys([*aliases, *declared]):
+            body += f"{prose(it.comment)}<pre>{linked(it.text, it.imports, ('', ''), self.known)}</pre>\n"
+        home = next((it.file for it in declared), "")
+        for it in sorted(own, key=lambda it: it.file != home):
+            if it.kind != "impl" and not it.trait:
+                body += self.shown(it, f"{name}::{it.name}", file)
+        impls = [it for it in own if it.kind == "impl"]
+        body += "<h2>Traits</h2>" if impls else ""
+        for it in impls:
+            methods = [other for other in own if other.owner == it.owner and other.kind == "fn" and other.file == it.file]
+            text = "\n".join([it.text, *(re.sub("^", "    ", other.text, flags=re.M) for other in methods)])
+            body += f"<h3>{html.escape(it.trait)}</h3>{prose(it.comment)}<pre>{linked(text, it.imports, ('', ''), self.known)}</pre>\n"
+        return file, page(html.escape(name), body)
+
+    def module_page(self, target, items):
+        """Writes the page of a module: its names, its functions, and its laws last."""
+        file, place = self.file_of(target), min(self.paths[target], key=len)
+        body = f'<p class="place"><code>{written_path(place)}</code></p>{prose(target.comment)}{self.table(items)}'
+        functions = [self.function(it) for it in items if not isinstance(it, Module) and it[2] == "fn"]
+        for it in sorted(filter(None, functions), key=lambda it: it.is_law):
+            body += self.shown(it, it.name, file)
+        return file, page("::".join(place), body)
+
+    def function(self, item):
+        crate, _, kind, name = item
+        return next((it for it in all_calls(crate) if (it.kind, it.name, it.owner) == (kind, name, "")), None)
+
+    def table(self, items):
+        """Returns the names of a module, each with its first sentence, laws last."""
+        rows = []
+        for it in items:
+            if isinstance(it, Module):
+                name, comment, link, is_law = self.paths[it][0][-1], it.comment, self.file_of(it), False
+            else:
+                call = self.function(it)
+                home = next((place for place in self.paths if isinstance(place, Module) and it in self.members(place)), None)
+                link = f"{self.file_of(home)}#{it[3]}" if it[2] == "fn" and home else self.file_of(it)
+                name, comment, is_law = it[3], call.comment if call else [], bool(call and call.is_law)
+            rows.append((is_law, f'<tr><td><a href="{link}">{name}</a></td><td>{first_sentence(comment)}</td></tr>'))
+        return "<table>" + "".join(row for _, row in sorted(rows, key=lambda it: it[0])) + "</table>"
+
+    @functools.cache
+    def members(self, place):
+        """Returns the public items and modules of a module, in its order."""
+        found = [inside(place, [name]) for is_public, _, name, _ in place.entries if is_public]
+        return [it for it in dict.fromkeys(found) if it]
+
+    def definitions(self):
+        """Returns the page of the definitions by topics, and of those in none by crates."""
+        left, body, crate = dict(self.known), "", ""
+        section = (TOP / "docs" / "DESIGN.md").read_text().partition("## The definitions in reading order")[2].partition("\n## ")[0]
+        for topic in re.split(r"\n\d+\. ", section)[1:]:
+            topic = " ".join(topic.split())
+            body += f"<h2>{code(re.sub(r' ?[(]`[^)]*[)]', '', topic))}</h2>"
+            for word in re.findall(r"`([\w/.]+)`", topic):
+                crate = word.partition("/")[0] if "/" in word else crate
+                for place in [it for it in left if it[2] == word]:
+                    body += self.definition(place, left.pop(place))
+        for name in self.names:
+            own = [it for it in left if it[0] == name]
+            body += f"<h2>Further ones of {name}</h2>" if own else ""
+            body += "".join(self.definition(it, left[it]) for it in own)
+        return page("Definitions", body)
+
+    def definition(self, place, definition):
+        comment, text, imports = definition
+        shown = linked(text, imports, place[:2], self.known)
+        return f'<h3 id="{anchor_of(place)}">{place[2]}</h3>{prose(comment)}<pre>{shown}</pre>\n'
 
 
 def write(folder):
     """Writes the pages of the crates that the root is made of."""
-    every, known, rows = crates(), {}, []
-    exports = exported(every)
-    names = [name for name in every if name in below(every, "btree_range_map")]
-    for name in names:
-        for (file, word), definition in definitions_of(every[name]).items():
-            known[name, file, word] = definition
+    pages, written = Pages(), {}
     folder.mkdir(parents=True, exist_ok=True)
-    for name in names:
-        body = '<p><a href="index.html">all calls</a></p>'
-        for it in items_of(every[name], exports):
-            text = linked(it.text, it.imports, ("", ""), known)
-            where = f'<small>{html.escape(it.owner)} {name}/src/{it.place}</small>'
-            body += f'<h2 id="{it.anchor}">{it.title} {where}</h2>{prose(it.comment)}<pre>{text}</pre>\n'
-            first = code(" ".join(it.comment).split(". ")[0])
-            place = f'<span class="place">{name} {it.kind}</span>'
-            rows.append(f'<li><a href="{name}.html#{it.anchor}">{it.title}</a> {place} {first}</li>')
-        (folder / f"{name}.html").write_text(page(name, body))
-        body = f'<p><a href="index.html">all calls</a>, <a href="{name}.html">{name}</a></p>'
-        for (crate, file, word), (comment, text, imports) in known.items():
-            if crate == name:
-                anchor, shown = f'{file.replace("/", "-")}-{word}', linked(text, imports, (name, file), known)
-                where = f"<small>{name}/specs/{file}.antt</small>"
-                body += f'<h2 id="{anchor}">{word} {where}</h2>{prose(comment)}<pre>{shown}</pre>\n'
-        (folder / f"{name}.specs.html").write_text(page(f"Definitions of {name}", body))
-    search = f'<input placeholder="Search calls" autofocus><ul class="calls">{"".join(rows)}</ul>'
-    pages = ", ".join(f'<a href="{it}.html">{it}</a> (<a href="{it}.specs.html">definitions</a>)' for it in names)
-    body = f"<p>{pages}</p>{search}<script>{SEARCH}</script>"
-    (folder / "index.html").write_text(page("btree_range_map", body))
-    print(f"{folder}/index.html: {len(rows)} items, {len(known)} definitions")
+    for target in pages.paths:
+        if isinstance(target, Module):
+            file, text = pages.module_page(target, pages.members(target))
+        elif target[2] != "fn":
+            file, text = pages.type_page(target)
+        else:
+            continue
+        written[file] = text
+    root = module(ROOT)
+    body = prose(root.comment, pages.page_of) + pages.table(pages.members(root))
+    body += f'<h2>All calls</h2><input placeholder="Search calls"><ul class="calls">{"".join(pages.rows)}</ul><script>{SEARCH}</script>'
+    written |= {"index.html": page(ROOT, body), "definitions.html": pages.definitions()}
+    for file, text in written.items():
+        (folder / file).write_text(text)
+    print(f"{folder}/index.html: {len(pages.rows)} calls, {len(pages.known)} definitions")

@@ -16,9 +16,8 @@ import functools
 import hashlib
 import re
 
-from tools.pages import text_from
 from tools.repository import listed
-from tools.source import functions, heading
+from tools.source import functions, heading, text_from
 
 ITEM = re.compile(r"(?:pub(?:\([a-z]+\))? )?(?:unsafe |final |const |extern \"C\" )*(struct|enum|trait|impl|type|const|static|fn|use|mod)\b[!<]?\s*(\w*)")
 CODE_USE = re.compile(r"^ *(?:pub(?:\([a-z]+\))? )?use (\w+)((?:::\w+)*)(?:::\{([^}]*)\})?(?: as (\w+))?;", re.M)

@@ -1,8 +1,11 @@
-"""Rattle source files as text: their functions, and the impls and traits in which they stand."""
+"""Rattle source files as text: functions, the impls and traits in which they stand, items without bodies, definitions."""
 
 import dataclasses
 import re
 
+HEAD = re.compile(r"( *)(pub )?(?:const |unsafe )?(fn|struct|enum|trait|type) (\w+)")
+IMPORT = re.compile(r"^ *(?:ghost )?use Rattle\.(\w+)\.specs\.([\w.]+)\.\{([^}]*)\}", re.M)
+DEFINED = re.compile(r"( *)(?:abbrev )?pub (?:record |data )?([\w<≡≤]+)\b(?! use)")
 FUNCTION = re.compile(r"( *)(?:pub(?:\([a-z]+\))? )?(?:final |const |unsafe |extern \"C\" )*fn (\w+)")
 IMPL = re.compile(r"(?:pub(?:\([a-z]+\))? )?(?:unsafe )?(?:impl|trait)\b")
 
@@ -61,4 +64,60 @@ def functions(path, text):
             while first > 1 and lines[first - 2].lstrip().startswith("#["):
                 first -= 1
             found.append(Function(path, head[2], owner if head[1] else "", first, last))
+    return found
+
+
+def imported(text):
+    """Returns the crate and the file of each definition that a file imports, by its name."""
+    found = {}
+    for crate, path, names in IMPORT.findall(text):
+        for name in names.split(","):
+            found[name.strip()] = (crate, path.replace(".", "/"))
+    return found
+
+
+def text_from(lines, at, indent):
+    """Returns the lines of an item up to its body, a type's with its public fields."""
+    taken, is_type = [], re.match(r" *pub (struct|enum|type)", lines[at])
+    for line in lines[at:]:
+        if is_type and is_type[1] == "struct" and re.match(r" +(pub\(|//[^/]|[a-z_]+:|ghost )", line):
+            continue
+        if line in (indent + "{", indent + "{}"):
+            break
+        taken.append(line[len(indent) :])
+        is_whole = "".join(taken).count("{") == "".join(taken).count("}")
+        if line.startswith(indent + "}") or line.endswith(";") and is_whole:
+            break
+        if not is_type and line.endswith("{") and not re.search(r"\b(requires|ensures)\b", line):
+            taken[-1] = taken[-1].removesuffix("{").rstrip()
+            break
+    return "\n".join(taken).replace("{\n}", "{ .. }")
+
+
+def comment_before(lines, at):
+    """Returns the doc comment above an item, and its attributes left out."""
+    taken = []
+    while at > 0 and lines[at - 1].lstrip().startswith(("///", "#[")):
+        at -= 1
+        taken.insert(0, lines[at].strip())
+    return [re.sub(r"^/// ?", "", line) for line in taken if line.startswith("///")]
+
+
+def definitions_of(crate):
+    """Returns the definitions of a crate by their files and names: comment and text of each."""
+    found, common = {}, crate.folder / "specs/Common.antt"
+    passed_on = imported(common.read_text().replace("pub use", "use")) if common.exists() else {}
+    for path in sorted((crate.folder / "specs").rglob("*.antt")):
+        file = str(path.relative_to(crate.folder / "specs").with_suffix(""))
+        for block in re.split(r"\n\s*\n", path.read_text()):
+            lines = block.split("\n")
+            at = next((it for it, line in enumerate(lines) if DEFINED.match(line)), None)
+            if at is not None and not re.match(r" *(pub )?(use|mod)\b", lines[at]):
+                head = DEFINED.match(lines[at])
+                comment = [it.strip()[2:].strip() for it in lines[:at] if it.strip().startswith("--")]
+                text = "\n".join(it[len(head[1]) :] for it in lines[at:])
+                imports = imported(path.read_text())
+                common_names = {it for it, place in imports.items() if place[1] == "Common"}
+                imports |= {it: passed_on[it] for it in common_names & passed_on.keys()}
+                found[file, head[2]] = comment, text, imports
     return found
