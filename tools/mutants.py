@@ -2,7 +2,8 @@
 
 The mutants of an edit of crates/CRATE/mutants/ are tried in one check, over what `rt check` keeps of
 the crate, and the edits side by side. One that is not seen refused among the others is tried again
-without those that were, and at last alone. Where each is refused stands in
+without those that were, and at last alone. A refusal is a goal that is open or false, and not an answer
+which names what the mutant took away: such answers are left out then. Where each is refused stands in
 crates/CRATE/mutants/refused.txt, after a sum of what that rests on (tools/records.py). Only a mutant
 whose sum changed is tried again.
 """
@@ -22,6 +23,7 @@ from tools.repository import CRATES, PROVED, TOP, Counts, below, crates, lanes, 
 from tools.source import Function, functions, heading
 
 GOAL = re.compile(r"(?:note: |\./)*(src|proofs)/(\S+?)\.(?:rt|antt):(\d+):\d+: (?:error: `([^`]+)`|.*\(`([^`]+)`\))")
+GONE = re.compile(r"has no field|has no `|is not in scope|was not admitted")
 HEAD = "# Where ./check mutants saw each mutant refused, after a sum of what that rests on."
 ENTRY = re.compile(r"  ([0-9a-f]{12}|-) (.+?)(?: \(\d+\))?: (.*)")
 UNREAD = re.compile(r"\berror\[[\w-]+\]|^(\./)?src/\S+: error: [^`]", re.M)
@@ -92,16 +94,29 @@ def check(crate, texts):
 
 
 def refused(said, turned):
-    """Returns the goals at which the check refuses each of the functions that were turned."""
-    found = collections.defaultdict(dict)
+    """Returns the goals at which the check refuses each of the functions that were turned, and the places and names of
+    answers that it cannot read, since the mutant took away what they name: these say nothing of the contract."""
+    goals, unread = collections.defaultdict(dict), collections.defaultdict(dict)
     for line in said.splitlines():
         goal = GOAL.match(line)
-        if goal:
-            name = goal[4] or goal[5]
-            for it in turned:
-                if is_of(it, goal[1], goal[2], int(goal[3]), turned):
-                    found[it][name] = None
-    return found
+        for it in turned if goal else ():
+            if is_of(it, goal[1], goal[2], int(goal[3]), turned):
+                name = goal[4] or goal[5]
+                if goal[1] == "proofs" and GONE.search(line):
+                    unread[it][f"proofs/{goal[2]}.antt", int(goal[3])] = name
+                else:
+                    goals[it][name] = None
+    return goals, unread
+
+
+def without_answer(text, line):
+    """Returns a proof file without the answer at a line, on as many lines."""
+    lines, first, last = text.split("\n"), line - 1, line
+    while first > 0 and lines[first - 1].strip():
+        first -= 1
+    while last < len(lines) and lines[last].strip():
+        last += 1
+    return "\n".join([*lines[:first], *[""] * (last - first), *lines[last:]])
 
 
 def is_of(function, root, path, line, turned):
@@ -231,26 +246,33 @@ def try_edit(crate, edit, wanted=None):
     turned = by_function(texts, changes)
     common = turned.pop(None, [])
     goals = {it: {} for it in turned if wanted is None or it in wanted}
-    left = list(goals)
-    while left:
+    left, seen = list(goals), None
+    while left and left != seen:
         chosen = {id(it) for function in left for it in [*turned[function], *common]}
         said = check(crate, changed(texts, [it for it in changes if id(it) in chosen]))
-        if UNREAD.search(said) or "logic=not-proved" not in said:
-            print(said[-3000:])
-            sys.exit(f"{crate.name}/{edit.stem}: is not refused, or cannot be read")
-        for function, names in refused(said, left).items():
+        if UNREAD.search(said):
+            sys.exit(f"{said[-3000:]}\n{crate.name}/{edit.stem}: cannot be read")
+        for function, names in refused(said, left)[0].items():
             goals[function] |= names
-        unseen = [it for it in left if not goals[it]]
-        if unseen == left:
+        left, seen = [it for it in left if not goals[it]], left
+    found = {it: ", ".join(names) for it, names in goals.items()}
+    return found | {it: tried_alone(crate, changed(texts, [*common, *turned[it]]), it) for it in left}
+
+
+def tried_alone(crate, texts, function):
+    """Returns the goals of a mutated function, tried alone. Answers that name what the mutant took away are left out."""
+    left_out = {}
+    while True:
+        said = check(crate, texts)
+        goals, unread = (it[function] for it in refused(said, [function]))
+        if goals or not unread:
             break
-        left = unseen
-    for function in left:
-        said = check(crate, changed(texts, [*common, *turned[function]]))
-        goals[function] = refused(said, [function])[function]
-        if not goals[function] and "logic=not-proved" in said:
-            first = next((it for it in said.splitlines() if GOAL.match(it)), "")
-            goals[function] = {f"elsewhere: {first[:100]}": None}
-    return {it: ", ".join(names) for it, names in goals.items()}
+        for (path, line), name in unread.items():
+            texts = texts | {path: without_answer(texts.get(path) or (crate / path).read_text(), line)}
+            left_out[name] = None
+    if not goals and "logic=not-proved" in said:
+        goals = {f"elsewhere: {next(filter(GOAL.match, said.splitlines()), '')[:100]}": None}
+    return ", ".join(goals) + (f"; without {', '.join(left_out)}, which name what it took away" if goals and left_out else "")
 
 
 def try_crate(crate, chosen, every, pool):
