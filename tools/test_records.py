@@ -1,6 +1,6 @@
-"""Which records of mutants a change makes stale: python3 -m tools.test_records
+"""Which records of mutants a change makes stale, and what counts as a refusal: python3 -m tools.test_records
 
-Two small crates stand in for the repository, and each row changes one text in them.
+Two small crates stand in for the repository, and each row changes one text in them. What the prover said stands in other rows.
 """
 
 import pathlib
@@ -196,6 +196,17 @@ CHANGES = [
     ("a mutant", "crates/high/mutants/answers.edit", "halve(n)\nold:     stored", "n\nold:     stored", "quarter"),
 ]
 
+PART_PAST = mutants.Function("src/merged.rt", "part_past", "", 100, 120)
+# A line of the prover, and where the function is refused by it, or which answer cannot be read.
+LINES = [
+    ("note: src/merged.rt:111:1: it is not proved that what the function ensures holds when it returns (`returns`); `search` gave up", "returns", ""),
+    ("./proofs/merged/part_past/Answers.antt:18:3: error: `returns`: the type of this term is not the goal", "returns", ""),
+    ("./proofs/merged/part_past/Answers.antt:12:11: error: `returns`: record `Past-start2` has no field `flip`", "", "returns"),
+    ("./proofs/merged/part_past/Answers.antt:12:11: error: `taken`: `flip` is not in scope", "", "taken"),
+    ("./proofs/merged/other/Answers.antt:18:3: error: `returns`: the type of this term is not the goal", "", ""),
+    ("src/merged.rt:99:1: error: `returns` is false", "", ""),
+]
+
 
 def sums(files):
     """Returns the sum of each mutant of such crates by the name of its function."""
@@ -222,7 +233,12 @@ def main():
         if found != {*stale.split()}:
             failed += 1
             print(f"{what}: makes stale {sorted(found)}, and not {sorted(stale.split())}")
-    print(Counts(len(CHANGES) - failed, failed))
+    for line, goal, answer in LINES:
+        goals, unread = mutants.refused(line, [PART_PAST])
+        if [*goals[PART_PAST]] != goal.split() or [*unread[PART_PAST].values()] != answer.split():
+            failed += 1
+            print(f"{line}: refuses at {[*goals[PART_PAST]]}, and cannot read {unread[PART_PAST]}")
+    print(Counts(len(CHANGES) + len(LINES) - failed, failed))
     return int(failed > 0)
 
 
