@@ -95,6 +95,26 @@ impl Small {
     }
 }
 
+/// A store of nothing.
+#[derive(Drop)]
+pub struct Empty {
+    kept: usize,
+}
+
+impl Store for Empty {
+    ghost size = { λ s. s.kept };
+
+    fn len(&self) -> usize {
+        self.kept
+    }
+
+    fn uncited(&self) -> usize {
+        0
+    }
+
+    ghost fits = { λ s. s.kept };
+}
+
 /// Half of the number.
 pub fn halve(n: usize) -> usize
     ensures { IsHalved n result }
@@ -114,6 +134,8 @@ old:     n / 2
 new:     n / 3
 old:         self.len() == 0
 new:         self.len() == 1
+old:         self.kept
+new:         self.kept / 2
 """,
     "crates/high/src/lib.rt": """//! What stands on it.
 ghost use Rattle.low.specs.Halves.{IsQuarter};
@@ -165,7 +187,7 @@ old:     given
 new:     given / 2
 """,
 }
-EVERY = {"halve", "is_empty", "quarter", "count", "same", "made", "alone"}
+EVERY = {"halve", "is_empty", "len", "quarter", "count", "same", "made", "alone"}
 LOW, HALVES, HIGH = "crates/low/src/lib.rt", "crates/low/specs/Halves.antt", "crates/high/src/lib.rt"
 # What is changed, in which file, from what to what, and which records that makes stale.
 CHANGES = [
@@ -180,9 +202,10 @@ CHANGES = [
     ("what a definition's module takes", HALVES, "(order : K → K)", "(order : K → K → K)", "halve quarter"),
     ("a definition that no mutated function cites", HALVES, "n ≡ 0", "0 ≡ n", ""),
     ("a lemma's statement among definitions", HALVES, "→ m ≤ n", "→ n ≥ m", ""),
-    ("a trait's law", LOW, "size s < 2 ^ 64", "size s < 2 ^ 63", "is_empty count"),
+    ("a trait's law", LOW, "size s < 2 ^ 64", "size s < 2 ^ 63", "is_empty count len"),
     ("a default body", LOW, "        self.len() == 0", "        let _n = 0;\n        self.len() == 0", "is_empty"),
-    ("the contract of a trait's method that is called", LOW, "{ result ≡ size self.now };", "{ size self.now ≡ result };", "is_empty count"),
+    ("the contract of a trait's method that is called", LOW, "{ result ≡ size self.now };", "{ size self.now ≡ result };", "is_empty count len"),
+    ("what a trait's value is for a type", LOW, "size = { λ s. s.kept }", "size = { λ s. s.kept + 0 }", "len"),
     ("the contract of one that is not", LOW, "ensures { IsUncited result };", "ensures { result ≡ 0 };", ""),
     ("a method of this name that a function has no value of", LOW, "number { result ≡ self.now }", "number { self.now ≡ result }", ""),
     ("a type's invariant", LOW, "s.number < 10", "s.number < 9", "same made"),
