@@ -10,9 +10,9 @@
 #include <stdint.h>
 
 #define BRM_VERSION_MAJOR 0
-#define BRM_VERSION_MINOR 5
+#define BRM_VERSION_MINOR 6
 #define BRM_VERSION_PATCH 0
-#define BRM_VERSION "0.5.0"
+#define BRM_VERSION "0.6.0"
 
 #ifdef __cplusplus
 extern "C" {

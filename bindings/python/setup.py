@@ -9,12 +9,26 @@ import csv
 import hashlib
 import io
 import pathlib
+import re
 import sysconfig
 import zipfile
 
 from setuptools import Command, setup
 
-TAG = f"py3-none-{sysconfig.get_platform().replace('-', '_').replace('.', '_')}"
+
+def tag():
+    """The tag of the wheel: that of the oldest glibc that has all the library names, where it stands on glibc alone."""
+    platform = sysconfig.get_platform().replace("-", "_").replace(".", "_")
+    library = pathlib.Path("btree_range_map/libbtree_range_map.so").read_bytes()
+    needed = {(int(major), int(minor)) for major, minor in re.findall(rb"\0GLIBC_(\d+)\.(\d+)", library)}
+    if platform.startswith("linux_") and needed:
+        # pip knows no older one
+        major, minor = max(*needed, (2, 5))
+        platform = f"manylinux_{major}_{minor}_{platform[len('linux_'):]}"
+    return f"py3-none-{platform}"
+
+
+TAG = tag()
 
 
 class bdist_wheel(Command):

@@ -1,41 +1,29 @@
-"""What kinds of keys there are, and the ranges of them."""
+"""What kinds of keys there are, each as numbers of the library: whole ones, so that neighbours have neighbouring numbers."""
 
 from __future__ import annotations
 
+import datetime
+import ipaddress
 import operator
-from typing import Any, NamedTuple
+import struct
+from typing import Any, Callable, Literal
 
-
-class Range(NamedTuple):
-    """Keys from a start to an end, `None` where it has none; a stored range, or one to be given.
-
-    >>> 5 in Range(0, 10), 10 in Range(0, 10), 10 in Range(0, 10, holds_end=True)
-    (True, False, True)
-    """
-
-    start: Any
-    end: Any
-    holds_start: bool = True
-    holds_end: bool = False
-
-    def __contains__(self, key: Any) -> bool:
-        try:
-            after = self.start is None or (key >= self.start if self.holds_start else key > self.start)
-            return after and (self.end is None or (key <= self.end if self.holds_end else key < self.end))
-        except TypeError:
-            return False
+#: the names of kinds, by the types of their keys
+IntegerKind = Literal["u8", "u16", "u32", "u64", "i8", "i16", "i32", "i64"]
+TimeKind = Literal["datetime", "utc"]
 
 
 class Keys:
-    """A kind of keys, as numbers of the library: integers between two bounds."""
+    """A kind of keys by their numbers, which lie between two bounds. This one is of integers, whose numbers are they."""
+
+    #: whether a key is its number, and so has one before and after it, whatever the kind
+    is_plain = True
 
     def __init__(self, name: str, least: int, greatest: int) -> None:
         self.name, self.least, self.greatest = name, least, greatest
         #: whether the library has maps of just these keys
         self.is_native = name in ("u64", "i64")
         self.is_signed = least < 0
-        #: whether a key is its number
-        self.is_plain = True
 
     def number(self, key: Any) -> int:
         """The number of a key; `TypeError` and `OverflowError` where it is none."""
@@ -47,15 +35,33 @@ class Keys:
     def key(self, number: int) -> Any:
         return number
 
+    def stop(self, number: int) -> Any:
+        """The key of the number after the last one of a range; `None` where there is no such key."""
+        return number
 
-class Characters(Keys):
-    """Characters: the library's number leaves out the code points that are none, so that its neighbours are theirs."""
+    def to_json(self, key: Any) -> Any:
+        return key
+
+    def of_json(self, key: Any) -> Any:
+        return key
+
+
+class _Indexed(Keys):
+    """Keys of another type, which have no numbers beyond their kind."""
+
+    is_plain = False
+
+    def stop(self, number: int) -> Any:
+        return None if number > self.greatest else self.key(number)
+
+
+class Characters(_Indexed):
+    """Characters: the code points that are none are left out, so that their neighbours are neighbours."""
 
     _FIRST_SURROGATE, _SURROGATES = 0xD800, 0x800
 
     def __init__(self) -> None:
         super().__init__("char", 0, 0x10FFFF - self._SURROGATES)
-        self.is_plain = False
 
     def number(self, key: Any) -> int:
         if not isinstance(key, str) or len(key) != 1:
@@ -71,7 +77,152 @@ class Characters(Keys):
         return chr(number if number < self._FIRST_SURROGATE else number + self._SURROGATES)
 
 
-KEYS: dict[str, Keys] = {"char": Characters()}
+class Dates(_Indexed):
+    """Days, by how many there are up to them."""
+
+    def __init__(self) -> None:
+        super().__init__("date", datetime.date.min.toordinal(), datetime.date.max.toordinal())
+
+    def number(self, key: Any) -> int:
+        if not isinstance(key, datetime.date) or isinstance(key, datetime.datetime):
+            raise TypeError(f"a key is a date, not {key!r}")
+        return key.toordinal()
+
+    def key(self, number: int) -> datetime.date:
+        return datetime.date.fromordinal(number)
+
+    def to_json(self, key: Any) -> Any:
+        return key.isoformat()
+
+    def of_json(self, key: Any) -> Any:
+        return datetime.date.fromisoformat(key)
+
+
+class Times(_Indexed):
+    """Microseconds, by how many there are before them: without a time zone, or by the clock of UTC."""
+
+    _MICROSECOND = datetime.timedelta(microseconds=1)
+
+    def __init__(self, name: str, zone: datetime.timezone | None) -> None:
+        self._zone = zone
+        self._least = datetime.datetime.min.replace(tzinfo=zone)
+        super().__init__(name, 0, (datetime.datetime.max - datetime.datetime.min) // self._MICROSECOND)
+
+    def number(self, key: Any) -> int:
+        if not isinstance(key, datetime.datetime) or (key.utcoffset() is None) != (self._zone is None):
+            raise TypeError(f"a key is a datetime {'without' if self._zone is None else 'with'} a time zone, not {key!r}")
+        return (key - self._least) // self._MICROSECOND
+
+    def key(self, number: int) -> datetime.datetime:
+        return self._least + self._MICROSECOND * number
+
+    def to_json(self, key: Any) -> Any:
+        return key.isoformat()
+
+    def of_json(self, key: Any) -> Any:
+        return datetime.datetime.fromisoformat(key)
+
+
+class Addresses(_Indexed):
+    """Addresses of version 4 of the internet protocol."""
+
+    def __init__(self) -> None:
+        super().__init__("ipv4", 0, 2**32 - 1)
+
+    def number(self, key: Any) -> int:
+        if not isinstance(key, ipaddress.IPv4Address):
+            raise TypeError(f"a key is an IPv4Address, not {key!r}")
+        return int(key)
+
+    def key(self, number: int) -> ipaddress.IPv4Address:
+        return ipaddress.IPv4Address(number)
+
+    def to_json(self, key: Any) -> Any:
+        return str(key)
+
+    def of_json(self, key: Any) -> Any:
+        return ipaddress.IPv4Address(key)
+
+
+class Floats(_Indexed):
+    """Floats and both infinities, one after the other as they lie: 0.0 and -0.0 are one, and what is not a number is none."""
+
+    _ZERO = 2**63
+    _DOUBLE, _BITS = struct.Struct("<d"), struct.Struct("<Q")
+    _INFINITY = 0x7FF0_0000_0000_0000
+
+    def __init__(self) -> None:
+        super().__init__("float", self._ZERO - self._INFINITY, self._ZERO + self._INFINITY)
+
+    def number(self, key: Any) -> int:
+        if not isinstance(key, (float, int)):
+            raise TypeError(f"a key is a float, not {key!r}")
+        try:
+            (bits,) = self._BITS.unpack(self._DOUBLE.pack(key))
+        except OverflowError:
+            bits = self._INFINITY
+        if key != key or float(self.key_of(bits)) != key:
+            raise OverflowError(f"no float key: {key!r}")
+        number: int = self._ZERO + bits if bits < self._ZERO else 2 * self._ZERO - bits
+        return number
+
+    def key_of(self, bits: int) -> float:
+        """The float of these bits."""
+        key: float = self._DOUBLE.unpack(self._BITS.pack(bits))[0]
+        return key
+
+    def key(self, number: int) -> float:
+        return self.key_of(number - self._ZERO if number >= self._ZERO else 2 * self._ZERO - number)
+
+    def to_json(self, key: Any) -> Any:
+        return key if abs(key) != float("inf") else str(key)
+
+    def of_json(self, key: Any) -> Any:
+        return float(key) if key in ("inf", "-inf") else key
+
+
+class _Integers(Keys):
+    """Integers without bounds, of ranges that are of no collection."""
+
+    def number(self, key: Any) -> int:
+        return operator.index(key)
+
+
+INTEGERS = _Integers("int", 0, 0)
+
+KEYS: dict[str, Keys] = {}
 for _bits in (8, 16, 32, 64):
     KEYS[f"u{_bits}"] = Keys(f"u{_bits}", 0, 2**_bits - 1)
     KEYS[f"i{_bits}"] = Keys(f"i{_bits}", -(2 ** (_bits - 1)), 2 ** (_bits - 1) - 1)
+KEYS["char"] = Characters()
+KEYS["date"] = Dates()
+KEYS["datetime"] = Times("datetime", None)
+KEYS["utc"] = Times("utc", datetime.timezone.utc)
+KEYS["ipv4"] = Addresses()
+KEYS["float"] = Floats()
+
+
+def kind_named(name: str) -> Keys:
+    """The kind of this name; `KeyError` where there is none."""
+    try:
+        return KEYS[name]
+    except (KeyError, TypeError):
+        raise KeyError(f"no kind of keys: {name!r}; there are {', '.join(KEYS)}") from None
+
+
+_OF_TYPES: dict[type, Callable[[Any], Keys]] = {
+    str: lambda key: KEYS["char"],
+    datetime.date: lambda key: KEYS["date"],
+    datetime.datetime: lambda key: KEYS["datetime" if key.utcoffset() is None else "utc"],
+    ipaddress.IPv4Address: lambda key: KEYS["ipv4"],
+    float: lambda key: KEYS["float"],
+}
+
+
+def kind_of(key: Any) -> Keys:
+    """The kind that a key is of by its type: `INTEGERS` of whole numbers; `TypeError` where it is of none."""
+    for of_type in type(key).__mro__:
+        if of_type in _OF_TYPES:
+            return _OF_TYPES[of_type](key)
+    operator.index(key)
+    return INTEGERS

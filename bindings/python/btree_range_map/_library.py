@@ -10,6 +10,7 @@ import ctypes
 import os
 import pathlib
 import struct
+from typing import TYPE_CHECKING, Any
 
 DONE, NO_MEMORY, CLOSED, NONE, CONNECTED, OTHER_KIND, OPEN, NO_ROOM, NOT_JSON, NOT_READ, OCCUPIED = range(11)
 START_EXCLUDED, START_UNBOUNDED, END_EXCLUDED, END_UNBOUNDED = 1, 2, 4, 8
@@ -17,10 +18,14 @@ START_EXCLUDED, START_UNBOUNDED, END_EXCLUDED, END_UNBOUNDED = 1, 2, 4, 8
 #: How many ranges a batch has at most.
 BATCH = 256
 
-VALUE = struct.Struct("Q")
+#: How many ranges are taken in at once at most, where as many are stored.
+LARGEST = 16384
 
-#: What a key is bound to: the value, and whether there is one.
-BINDING = struct.Struct("Q?7x")
+#: How many ranges that a change meets are read at once: nearly all meet fewer.
+MET = 8
+
+#: The size of what a key is bound to: the value, 0 where there is none, and whether there is one.
+BINDING_SIZE = 16
 
 
 class Handle(ctypes.Structure):
@@ -45,19 +50,21 @@ library = _load()
 class Kind:
     """The calls on one kind of collection, and how its ranges lie in memory."""
 
+    if TYPE_CHECKING:
+
+        def __getattr__(self, name: str) -> Any: ...
+
     def __init__(self, name: str, key: str, has_values: bool) -> None:
         of_key = {"q": ctypes.c_int64, "Q": ctypes.c_uint64}[key]
         #: start, end, flags, and the value where there is one
         self.form = struct.Struct(f"{key}{key}I4x" + ("Q" if has_values else ""))
         self.range_form = struct.Struct(f"{key}{key}I4x")
-        #: the ranges of the same alone
-        self.form_of_ranges = struct.Struct(f"{key}{key}I4x" + ("8x" if has_values else ""))
         #: how many numbers `form` reads
         self.width = 4 if has_values else 3
         #: a whole batch, as `form` reads it
         self.whole_form = struct.Struct(self.form.format * BATCH)
-        #: start, end, flags, the value, and whether there is one
-        self.piece_form = struct.Struct(f"{key}{key}I4xQ?7x")
+        #: start, end, flags and the value, 0 where there is none
+        self.piece_form = struct.Struct(f"{key}{key}I4xQ8x")
         self.key_code = key
         handle, buffer, size = ctypes.POINTER(Handle), ctypes.c_char_p, ctypes.c_size_t
         sized = ctypes.POINTER(size)
@@ -102,7 +109,7 @@ class Kind:
             setattr(self, call, function)
 
 
-def _declare(name: str, parameters: list, result: object = ctypes.c_uint32) -> None:
+def _declare(name: str, parameters: list[Any], result: object = ctypes.c_uint32) -> None:
     function = getattr(library, name)
     function.argtypes, function.restype = parameters, result
 
@@ -111,6 +118,7 @@ _HANDLE = ctypes.POINTER(Handle)
 _declare("brm_raw_destroy", [_HANDLE], None)
 _declare("brm_raw_clone", [_HANDLE, _HANDLE])
 _declare("brm_raw_equal", [_HANDLE, _HANDLE])
+_declare("brm_raw_overlay", [_HANDLE, _HANDLE, _HANDLE])
 _declare("brm_raw_restrict", [_HANDLE, _HANDLE, _HANDLE])
 _declare("brm_raw_without", [_HANDLE, _HANDLE, _HANDLE])
 _declare("brm_clear", [_HANDLE])
@@ -121,3 +129,4 @@ _declare("brm_load", [_HANDLE, ctypes.c_char_p, ctypes.c_size_t])
 UNSIGNED_MAP = Kind("map_u64", "Q", True)
 SIGNED_MAP = Kind("map_i64", "q", True)
 UNSIGNED_SET = Kind("set_u64", "Q", False)
+SIGNED_SET = Kind("set_i64", "q", False)

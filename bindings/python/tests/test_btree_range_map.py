@@ -1,5 +1,6 @@
 """Tests of the package: python3 -m unittest in this folder, with the package installed or RANGE_MAP_LIBRARY set."""
 
+import array
 import copy
 import doctest
 import gc
@@ -7,10 +8,12 @@ import json
 import os
 import pickle
 import random
+import signal
 import threading
 import time
 import unittest
 import unittest.mock
+import weakref
 
 import btree_range_map
 from btree_range_map import Connected, NotLoaded, Range, RangeMap, RangeSet
@@ -20,8 +23,8 @@ CALLS = int(os.environ.get("RANGE_MAP_CALLS", "20000"))
 
 
 def keys_of(keys):
-    """The keys of a range that has both ends."""
-    return range(keys.start + (not keys.holds_start), keys.end + keys.holds_end)
+    """The keys of a range of whole numbers."""
+    return keys.to_range()
 
 
 class Index:
@@ -69,16 +72,89 @@ class Maps(unittest.TestCase):
         for at in range(10_000):
             numbers[at % 50] = f"value {at}"
         self.assertEqual(len(numbers), 50)
-        self.assertLess(len(numbers._values.by_number), 300)
+        self.assertEqual(len(numbers._values), 50)
         self.assertEqual(numbers[49], "value 9999")
+
+    def test_values_are_freed_as_soon_as_no_range_has_them(self):
+        class Value:
+            pass
+
+        def alive(held):
+            gc.collect()
+            return [ref() is not None for ref in held]
+
+        values = [Value() for _ in range(6)]
+        refs = [weakref.ref(value) for value in values]
+        keys = RangeMap([(slice(10 * at, 10 * at + 5), value) for at, value in enumerate(values)])
+        del values
+        self.assertEqual(alive(refs), [True] * 6)
+        keys[0:5] = "over"
+        del keys[11:13]
+        self.assertEqual(alive(refs), [False] + [True] * 5)
+        del keys[0:20]
+        self.assertEqual(alive(refs), [False] * 2 + [True] * 4)
+        keys.update([(slice(20, 25), "many"), (50, "more")])
+        self.assertEqual(alive(refs), [False] * 3 + [True] * 3)
+        rest = keys.split_off(42)
+        self.assertEqual(rest.pop_first()[0], Range(42, 45))
+        self.assertEqual(alive(refs), [False] * 3 + [True] * 3)
+        keys.remove_many([30, 40], [35, 45])
+        self.assertEqual(alive(refs), [False] * 5 + [True])
+        rest.clear()
+        self.assertEqual((alive(refs), len(rest._values)), ([False] * 6, 0))
+        for at in range(100):
+            keys[0] = bytes(100_000) + bytes([at])
+        self.assertEqual(len(keys._values), 2)
+
+    def test_a_value_may_change_the_map_while_it_is_compared(self):
+        """No key is bound to a value that nobody bound it to, whatever comparing a value does to the map."""
+
+        class Odd:
+            def __init__(self, change):
+                self.change = change
+
+            def __hash__(self):
+                return 7
+
+            def __eq__(self, other):
+                self.change()
+                return False
+
+        class Plain:
+            def __hash__(self):
+                return 7
+
+        def changes(keys):
+            yield lambda: keys.clear()
+            yield lambda: keys.__delitem__(slice(None))
+            yield lambda: keys.update([(at, ("other", at)) for at in range(50, 60)])
+            yield lambda: (keys.clear(), keys.update([(at, ("other", at)) for at in range(50, 60)]))
+            yield lambda: keys.split_off(0).close()
+            yield lambda: keys.pop_first()
+
+        for which in range(6):
+            for insert in (lambda keys, odd: keys.__setitem__(slice(0, 5), odd), lambda keys, odd: keys.update([(7, "b"), (slice(0, 5), odd), (9, "c")])):
+                keys = RangeMap([(slice(20, 30), Plain()), (slice(30, 40), Plain()), (slice(40, 45), "a")])
+                odd = Odd(list(changes(keys))[which])
+                insert(keys, odd)
+                self.assertTrue(all(keys[key] is odd for key in range(5)), which)
+                for keys_held, value in keys.items():
+                    self.assertIn((value is odd, type(value)), [(True, Odd), (False, Plain), (False, str), (False, tuple)])
+                    if isinstance(value, tuple):
+                        self.assertEqual(value, ("other", keys_held.first))
+        for swap in (lambda keys: keys.__init__(), lambda keys: keys.load_json("[]"), lambda keys: keys.close()):
+            keys = RangeMap([(slice(20, 30), Plain())])
+            self.assertRaises(RuntimeError, keys.__setitem__, 3, Odd(lambda: swap(keys)))
 
     def test_bounds_of_each_kind(self):
         keys = RangeMap(keys="i64")
         keys[:] = 1
-        self.assertEqual((keys.key_count(), keys.first()), (2**64, (Range(None, None, False, False), 1)))
+        self.assertEqual((keys.key_count(), keys.first()), (2**64, (Range(-(2**63), 2**63), 1)))
+        self.assertEqual(keys.first()[0].bounds, (None, None, False, False))
         del keys[-5:5]
-        self.assertEqual(keys.last(), (Range(5, None, True, False), 1))
-        self.assertEqual(list(keys), [Range(None, -5, False, False), Range(5, None, True, False)])
+        self.assertEqual(keys.last(), (Range(5, 2**63), 1))
+        self.assertEqual([it.bounds for it in keys], [(None, -5, False, False), (5, None, True, False)])
+        self.assertEqual(repr(keys), "RangeMap({:-5: 1, 5:: 1}, keys='i64')")
         keys[Range(-5, 5, False, True)] = 2
         self.assertEqual((keys[-4], keys[5], keys.get(-5), keys[-6]), (2, 2, None, 1))
         self.assertEqual([keys.pop_first()[1], keys.pop_last()[1], keys.pop_last()[1]], [1, 1, 2])
@@ -166,9 +242,15 @@ class Maps(unittest.TestCase):
         calls += [lambda: keys.restrict(held), lambda: RangeMap().append(keys), lambda: keys.append(RangeMap([(1, 1)]))]
         for closed in (keys, held):
             calls += [closed.first, closed.clear, closed.key_count, closed.to_json, closed.copy, lambda it=closed: list(it)]
+            calls += [lambda it=closed: len(it), lambda it=closed: bool(it), lambda it=closed: 1 in it, lambda it=closed: "a" in it]
+            calls += [lambda it=closed: it == it, lambda it=closed: it == it.__class__(), lambda it=closed: it.update([]), closed.shrink_to_fit]
+            calls += [lambda it=closed: it.intersects(1), lambda it=closed: list(it.gaps()), lambda it=closed: pickle.dumps(it)]
+            self.assertEqual(repr(closed), f"<closed {type(closed).__name__}>")
+        calls += [lambda: keys.get(-1), lambda: keys.get_many([1]), lambda: keys.insert_many([1], [2], [3]), lambda: keys.remove_many([1], [2])]
+        calls += [lambda: keys.update(1, id), lambda: keys.merge_with(RangeMap(), id), lambda: keys | {}, lambda: keys.__setitem__(slice(1, 1), 1)]
+        calls += [lambda: held == {1}, lambda: ~held, lambda: held | {1}, held.pop, lambda: held.add_many([1], [2]), lambda: held.isdisjoint([1])]
         for call in calls:
-            self.assertRaises(RuntimeError, call)
-            self.assertEqual((len(keys), len(held)), (0, 0))
+            self.assertRaisesRegex(RuntimeError, "^the collection is closed$", call)
 
     def test_no_memory_says_no_more(self):
         """Of many ranges some may have been inserted before."""
@@ -205,6 +287,102 @@ class Maps(unittest.TestCase):
         self.assertFalse(RangeMap() == {})
         with self.assertRaises(TypeError):
             hash(RangeMap())
+
+    def test_ranges_are_half_open(self):
+        rooms = RangeMap([(slice(9, 17), "open"), (12, "lunch")])
+        self.assertEqual([(it.start, it.stop) for it in rooms], [(9, 12), (12, 13), (13, 17)])
+        self.assertEqual([range(it.start, it.stop) for it in rooms], [it.to_range() for it in rooms])
+        keys = list(rooms)[2]
+        self.assertEqual((keys.first, keys.last, keys.size, len(keys), list(keys)), (13, 16, 4, 4, [13, 14, 15, 16]))
+        self.assertEqual((keys.bounds, keys), ((12, 17, False, False), Range(12, 17, False)))
+        letters = RangeSet([Range("a", "z", True, True)], keys="char").first()
+        self.assertEqual((letters.start, letters.stop, letters.first, letters.last, len(letters)), ("a", "{", "a", "z", 26))
+        self.assertEqual("".join(letters), "abcdefghijklmnopqrstuvwxyz")
+        last = RangeSet([slice("\U0010fffe", None)], keys="char").first()
+        self.assertEqual((last.stop, list(last), len(last)), (None, ["\U0010fffe", "\U0010ffff"], 2))
+        self.assertRaises(TypeError, letters.to_range)
+        whole = RangeSet([slice(None)]).first()
+        self.assertEqual((whole.start, whole.stop, whole.size, bool(whole)), (0, 2**64, 2**64, True))
+        self.assertRaises(OverflowError, len, whole)
+        empty, open_range = Range(5, 5), Range(None, 5)
+        self.assertEqual((empty.size, list(empty), bool(empty), bool(open_range)), (0, [], False, True))
+        for call in (lambda: empty.first, lambda: empty.last, lambda: open_range.size, lambda: list(open_range), lambda: Range(5).last):
+            self.assertRaises(ValueError, call)
+        for wrong in (("a", 5), (1.5, "b"), ((1,), 2)):
+            self.assertRaises(TypeError, Range, *wrong)
+        self.assertEqual((Range(0, 5), hash(Range(0, 5)), repr(Range(0, 4, True, True))), (Range(0, 4, True, True), hash(Range(-1, 4, False, True)), "Range(0, 5)"))
+        self.assertEqual(Range("\U0010ffff", None, False).size, 0)
+
+    def test_maps_do_what_dicts_do(self):
+        keys = RangeMap([(slice(0, 5), "a"), (7, "b")])
+        self.assertEqual(repr(keys | {3: "c", Range(8, 10): "d"}), "RangeMap({0:3: 'a', 3: 'c', 4: 'a', 7: 'b', 8:10: 'd'})")
+        self.assertEqual(repr({3: "c", 9: "d"} | keys), "RangeMap({0:5: 'a', 7: 'b', 9: 'd'})")
+        self.assertEqual((keys.popitem(), keys.popitem(), len(keys)), ((Range(7, 8), "b"), (Range(0, 5), "a"), 0))
+        self.assertRaises(KeyError, keys.popitem)
+        with self.assertRaises(TypeError):
+            keys | [1]
+        keys[5] = keys
+        self.assertEqual(repr(keys), "RangeMap({5: RangeMap({...})})")
+        for made in (copy.deepcopy(keys), pickle.loads(pickle.dumps(keys))):
+            self.assertIs(made[5], made)
+
+    def test_sets_do_what_sets_do(self):
+        held = RangeSet([slice(0, 3)])
+        self.assertTrue(held == {0, 1, 2} and {0, 1, 2} == held and held != {0, 1} and held != {0, 1, 3} and held != {"a", 1, 2} and held != [0, 1, 2])
+        self.assertTrue(held >= {1} and held <= {0, 1, 2, 3} and held < {0, 1, 2, 3} and not held > {0, 1, 2} and {1, 2} <= held)
+        self.assertEqual((held | {5}, held & {1}, held - {1}, held ^ {1, 7}), ({0, 1, 2, 5}, {1}, {0, 2}, {0, 2, 7}))
+        self.assertEqual(({5} | held, {1, 9} & held, {1, 9} - held, {1, 7} ^ held), ({0, 1, 2, 5}, {1}, {9}, {0, 2, 7}))
+        self.assertEqual((held.isdisjoint([5, slice(7, 9)]), held.isdisjoint(range(2, 9))), (True, False))
+        self.assertEqual((~held, (~held).first()), (held.complement(), Range(3, 2**64)))
+        self.assertEqual((held.pop(), held.pop(), held.pop(), len(held)), (0, 1, 2, 0))
+        self.assertRaises(KeyError, held.pop)
+
+    def test_subclasses_stay_themselves(self):
+        for base, items in ((RangeMap, [(1, "a")]), (RangeSet, [1])):
+            made_by = type("Named", (base,), {"__init__": lambda self, name, of=base: (of.__init__(self, items), setattr(self, "name", name))[0]})
+            globals()["Named"] = made_by
+            made_by.__module__ = __name__
+            made_by.__qualname__ = "Named"
+            named = made_by("rooms")
+            named.seen = ["x"]
+            for made in (named.copy(), copy.copy(named), copy.deepcopy(named), pickle.loads(pickle.dumps(named))):
+                self.assertEqual((type(made), made.name, made.seen, made), (made_by, "rooms", ["x"], named))
+                self.assertEqual(repr(made)[:6], "Named(")
+            self.assertIs(copy.copy(named).seen, named.seen)
+            self.assertIsNot(copy.deepcopy(named).seen, named.seen)
+            slotted = type("Slotted", (base,), {"__slots__": ("place",), "__module__": __name__, "__qualname__": "Slotted"})
+            globals()["Slotted"] = slotted
+            held = slotted(items)
+            held.place = 5
+            self.assertEqual([it.place for it in (held.copy(), copy.deepcopy(held), pickle.loads(pickle.dumps(held)))], [5] * 3)
+
+    def test_buffers_are_looked_up_and_bound_at_once(self):
+        for kind, code in (("u64", "Q"), ("u32", "I"), ("i64", "q"), ("i16", "h"), ("u64", "B"), ("i64", "Q")):
+            keys, starts = RangeMap(keys=kind), array.array(code, range(0, 250, 5))
+            stops = array.array(code, (at + 3 for at in starts))
+            keys.insert_many(starts, stops, (f"value {at // 10}" for at in starts))
+            self.assertEqual(keys, RangeMap([(slice(at, at + 3), f"value {at // 10}") for at in starts], keys=kind))
+            looked = array.array(code, range(256 if code == "B" else 300)) if code != "B" else bytearray(range(256))
+            self.assertEqual(keys.get_many(looked, 7), [keys.get(key, 7) for key in looked])
+            held = RangeSet(keys=kind)
+            held.add_many(starts, stops)
+            self.assertEqual(held, RangeSet(keys, keys=kind))
+            for changed in (keys, held):
+                (changed.remove_many if changed is keys else changed.discard_many)(starts[::2], stops[::2])
+                self.assertEqual([it.start for it in changed], list(starts[1::2]))
+            self.assertEqual(len(keys._values), 25)
+        keys = RangeMap(keys="u8")
+        keys.insert_many([0, 5, 9], [3, 5, 256], ["a", "b", "c"])
+        self.assertEqual((repr(keys), keys.get_many(array.array("i", [-1, 0, 255, 256]), "-")), ("RangeMap({0:3: 'a', 9:256: 'c'}, keys='u8')", ["-", "a", "c", "-"]))
+        for call, error in [
+            (lambda: keys.insert_many([0], [300], ["a"]), OverflowError),
+            (lambda: keys.insert_many(array.array("i", [-1]), array.array("i", [3]), ["a"]), OverflowError),
+            (lambda: keys.insert_many([0], [1, 2], ["a"]), ValueError),
+            (lambda: keys.insert_many([0, 1], [1, 2], ["a"]), ValueError),
+            (lambda: keys.insert_many(["a"], [1], ["a"]), TypeError),
+        ]:
+            self.assertRaises(error, call)
+            self.assertEqual((len(keys), len(keys._values)), (2, 2))
 
     def test_a_range_tells_its_keys(self):
         self.assertTrue(5 in Range(0, 10) and 0 in Range(0, 10) and 10 not in Range(0, 10))
@@ -308,7 +486,6 @@ class Maps(unittest.TestCase):
             held.update([1000, -1, 1002])
         self.assertTrue(1000 in held and 1002 not in held)
         keys.close()
-        keys.update([])
         with self.assertRaises(RuntimeError):
             keys.update([(1, 1)])
 
@@ -486,6 +663,19 @@ class Sets(unittest.TestCase):
             with self.assertRaises(NotLoaded):
                 read.load_json(wrong)
         self.assertEqual(read, numbers)
+        good = [[[{"Included": 10 * at}, {"Excluded": 10 * at + 5}], at] for at in range(9)]
+        for place, wrong in [(0, 5), (4, [1]), (8, [["Unbounded"], 1]), (3, good[2]), (2, [[{"Held": 1}, "Unbounded"], 1])]:
+            items = [*good[:place], wrong, *good[place + 1 :]]
+            calls = [(read.load_json, items)]
+            if place != 3:
+                calls.append((keys.load_json, [it[0] if isinstance(it, list) else it for it in items]))
+            for call, items in calls:
+                with self.assertRaisesRegex(NotLoaded, rf"^element {place}: .* \(fault 9\)$") as told:
+                    call(json.dumps(items))
+                self.assertEqual((told.exception.element, told.exception.number), (place, 9))
+        with self.assertRaisesRegex(NotLoaded, r"JSON.* \(fault 8\)$") as told:
+            read.load_json("[")
+        self.assertEqual((told.exception.element, told.exception.number), (None, 8))
         small = RangeMap(keys="u8")
         small.load_json('{"items":[[["Unbounded","Unbounded"],"a"]],"version":2}')
         self.assertEqual((small.key_count(), small.to_json()), (256, '{"items":[[[{"Included":0},{"Included":255}],"a"]],"version":2}'))
@@ -591,6 +781,33 @@ class Threads(unittest.TestCase):
             closing.join(10)
             self.assertRaises(RuntimeError, held.first)
 
+    @unittest.skipUnless(hasattr(os, "fork"), "no fork")
+    def test_a_child_may_use_what_it_inherits(self):
+        """A fork waits for who is at work on a map, so that its lock is free in the child."""
+        keys, other, going = RangeMap([(slice(0, 100), "a")]), RangeSet([1]), True
+
+        def work():
+            while going:
+                with keys._locked_with(other):
+                    keys[5] = "b"
+                    keys[0:100] = "a"
+                time.sleep(0.001)
+
+        working = threading.Thread(target=work, daemon=True)
+        working.start()
+        try:
+            for _ in range(20):
+                child = os.fork()
+                if not child:
+                    signal.alarm(10)
+                    keys[7] = "c"
+                    made = keys.copy()
+                    os._exit(0 if (made[7], made[8], 1 in other) == ("c", "a", True) else 1)
+                self.assertEqual(os.waitpid(child, 0)[1], 0)
+        finally:
+            going = False
+            working.join(10)
+
     def test_one_that_was_never_opened_is_dropped(self):
         told = []
         with unittest.mock.patch("sys.unraisablehook", told.append):
@@ -620,8 +837,8 @@ class Threads(unittest.TestCase):
 
 
 def load_tests(loader, tests, pattern):
-    tests.addTests(doctest.DocTestSuite(btree_range_map, optionflags=doctest.ELLIPSIS))
-    tests.addTests(doctest.DocTestSuite(btree_range_map._keys))
+    for module in (btree_range_map, btree_range_map._map, btree_range_map._set, btree_range_map._ranges):
+        tests.addTests(doctest.DocTestSuite(module))
     return tests
 
 

@@ -14,7 +14,7 @@
 //! }
 //! ```
 //!
-//! [`RangeMap`] has values of any type that is `Eq` and `Hash`, [`RangeSet`] has keys alone, and [`NumberMap`] is the
+//! [`RangeMap`] has values of any type that is `Eq`, [`RangeSet`] has keys alone, and [`NumberMap`] is the
 //! proved map as it is, with numbers as values, calls that answer by an error where memory runs out, and JSON.
 //! [`serde_with!`] makes what `serde` needs.
 #![warn(missing_docs)]
@@ -28,7 +28,7 @@ mod serde;
 mod set;
 mod values;
 
-pub use map::{Iter as MapIter, RangeMap};
+pub use map::{IntoIter as MapIntoIter, Iter as MapIter, RangeMap};
 pub use numbers::{
     Gaps as NumberGaps, Iter as NumberIter, NumberMap, Overlapping as NumberOverlapping,
     Pieces as NumberPieces,

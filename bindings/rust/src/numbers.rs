@@ -287,7 +287,7 @@ impl<K: Key + Hash> Hash for NumberMap<K> {
 
 impl<K: Key> fmt::Debug for NumberMap<K> {
     fn fmt(&self, f: &mut fmt::Formatter<'_>) -> fmt::Result {
-        f.debug_map().entries(self.iter()).finish()
+        f.debug_map().entries(self.iter().map(|(range, number)| (range.bounded(), number))).finish()
     }
 }
 

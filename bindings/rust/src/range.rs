@@ -1,15 +1,26 @@
 //! Ranges and keys, as callers write them and as they cross.
 use crate::ffi::{self, Binds, Calls, RawEntry, RawRange};
+use sealed::Numbered;
 use std::fmt;
 use std::ops::{self, Bound, RangeBounds};
 
 /// A stored range: its start and its end, each of which it holds, does not hold, or has not.
+///
+/// The bounds are those that the library stores, so one range of keys may be written in several ways: `0..10` and `0..=9`.
+/// [`Range::first`], [`Range::last`], [`Range::len`] and [`Range::to_inclusive`] tell of the keys alone.
 #[derive(Clone, Copy, PartialEq, Eq, Hash)]
 pub struct Range<K> {
     /// Where the keys start.
     pub start: Bound<K>,
     /// Where the keys end.
     pub end: Bound<K>,
+}
+
+impl<K: Clone> Range<K> {
+    /// The range as this type has it.
+    pub(crate) fn of(range: &impl RangeBounds<K>) -> Range<K> {
+        Range { start: range.start_bound().cloned(), end: range.end_bound().cloned() }
+    }
 }
 
 impl<K> RangeBounds<K> for Range<K> {
@@ -42,7 +53,7 @@ macro_rules! from_range {
     ($($range:ty),*) => {$(
         impl<K: Clone> From<$range> for Range<K> {
             fn from(range: $range) -> Range<K> {
-                Range { start: range.start_bound().cloned(), end: range.end_bound().cloned() }
+                Range::of(&range)
             }
         }
     )*};
@@ -181,11 +192,11 @@ impl Key for char {
     const GREATEST: char = char::MAX;
 
     fn successor(self) -> Option<char> {
-        (self..).nth(1)
+        (self < char::MAX).then(|| char::of_number(self.number() + 1))
     }
 
     fn predecessor(self) -> Option<char> {
-        ('\0'..self).next_back()
+        self.number().checked_sub(1).map(char::of_number)
     }
 }
 
@@ -266,7 +277,18 @@ fn unbounded_range<K, N: Copy>(raw: &RawRange<N>, key: impl Fn(N) -> K) -> Range
 }
 
 impl<K: Key> Range<K> {
-    /// The first and the last key, where there is one.
+    /// The range of the keys from the first to the last.
+    pub(crate) fn through((first, last): (K, K)) -> Range<K> {
+        Range { start: Bound::Included(first), end: Bound::Included(last) }
+    }
+
+    /// The same keys with the least and the greatest in the place of ends that are not there, as maps and sets show them.
+    pub(crate) fn bounded(self) -> Range<K> {
+        let or = |bound, key| if matches!(bound, Bound::Unbounded) { Bound::Included(key) } else { bound };
+        Range { start: or(self.start, K::LEAST), end: or(self.end, K::GREATEST) }
+    }
+
+    /// The first and the last key, where there is one. A stored range has both.
     pub fn ends(&self) -> Option<(K, K)> {
         let first = match self.start {
             Bound::Included(key) => key,
@@ -279,5 +301,40 @@ impl<K: Key> Range<K> {
             Bound::Unbounded => K::GREATEST,
         };
         (first <= last).then_some((first, last))
+    }
+
+    /// The first key, where there is one. A stored range has one.
+    pub fn first(&self) -> Option<K> {
+        self.ends().map(|(first, _)| first)
+    }
+
+    /// The last key, where there is one. A stored range has one.
+    pub fn last(&self) -> Option<K> {
+        self.ends().map(|(_, last)| last)
+    }
+
+    /// How many keys there are.
+    pub fn len(&self) -> u128 {
+        self.ends().map_or(0, |(first, last)| u128::from(last.place() - first.place()) + 1)
+    }
+
+    /// Whether there is no key. A stored range is never empty.
+    pub fn is_empty(&self) -> bool {
+        self.ends().is_none()
+    }
+
+    /// The same keys from the first to the last, however the bounds are stored: to go over the keys, or to compare ranges.
+    /// An empty range becomes one that std takes as empty.
+    ///
+    /// ```
+    /// # use btree_range_map_proved::RangeMap;
+    /// let mut rooms: RangeMap<u8, &str> = [(9..17, "open")].into();
+    /// rooms.insert(12..=12, "lunch");
+    /// let shown: Vec<_> = rooms.iter().map(|(hours, state)| (hours.to_inclusive(), *state)).collect();
+    /// assert_eq!(shown, [(9..=11, "open"), (12..=12, "lunch"), (13..=16, "open")]);
+    /// ```
+    pub fn to_inclusive(&self) -> ops::RangeInclusive<K> {
+        let (first, last) = self.ends().unwrap_or((K::GREATEST, K::LEAST));
+        first..=last
     }
 }

@@ -21,11 +21,11 @@ macro_rules! serde_with {
         /// For `#[serde(with = "..")]` of a `RangeMap`.
         pub(crate) mod $map {
             use ::serde::{Deserialize, Deserializer, Serialize, Serializer};
-            use ::std::{hash::Hash, ops::Bound, vec::Vec};
+            use ::std::{ops::Bound, vec::Vec};
             use $crate::{Key, RangeMap};
 
             /// Writes the stored ranges with their values, in ascending order.
-            pub fn serialize<K: Key + Serialize, V: Eq + Hash + Serialize, S: Serializer>(
+            pub fn serialize<K: Key + Serialize, V: Serialize, S: Serializer>(
                 map: &RangeMap<K, V>,
                 serializer: S,
             ) -> Result<S::Ok, S::Error> {
@@ -36,7 +36,7 @@ macro_rules! serde_with {
             pub fn deserialize<'de, K, V, D>(deserializer: D) -> Result<RangeMap<K, V>, D::Error>
             where
                 K: Key + Deserialize<'de>,
-                V: Eq + Hash + Deserialize<'de>,
+                V: Eq + Deserialize<'de>,
                 D: Deserializer<'de>,
             {
                 type Ends<K> = (Bound<K>, Bound<K>);

@@ -296,7 +296,7 @@ impl<K: Key + Hash> Hash for RangeSet<K> {
 
 impl<K: Key> fmt::Debug for RangeSet<K> {
     fn fmt(&self, f: &mut fmt::Formatter<'_>) -> fmt::Result {
-        f.debug_set().entries(self.iter()).finish()
+        f.debug_set().entries(self.iter().map(Range::bounded)).finish()
     }
 }
 
@@ -389,5 +389,14 @@ impl<'a, K: Key> IntoIterator for &'a RangeSet<K> {
 
     fn into_iter(self) -> Iter<'a, K> {
         self.iter()
+    }
+}
+
+impl<K: Key> IntoIterator for RangeSet<K> {
+    type Item = Range<K>;
+    type IntoIter = std::vec::IntoIter<Range<K>>;
+
+    fn into_iter(self) -> std::vec::IntoIter<Range<K>> {
+        self.iter().collect::<Vec<_>>().into_iter()
     }
 }

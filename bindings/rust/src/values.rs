@@ -1,145 +1,102 @@
-//! Values by numbers, each equal one once.
-use std::collections::HashMap;
-use std::hash::{BuildHasher, BuildHasherDefault, Hash, Hasher, RandomState};
+//! Values by numbers, each kept as long as some stored range has its number.
 
-/// The values of a map. Equal ones have one number.
+/// The values of a map, and how many stored ranges have each.
 #[derive(Clone)]
 pub struct Values<V> {
-    by_number: Vec<Option<Kept<V>>>,
-    free: Vec<u64>,
-    /// The number of a value with the hash.
-    by_hash: HashMap<u64, u64, BuildHasherDefault<AsItIs>>,
-    hashes: RandomState,
-    /// How many numbers were given since the unused ones were freed.
-    given: usize,
+    slots: Vec<Slot<V>>,
+    /// The free slot that is taken next, where there is one.
+    free: Option<usize>,
+    kept: usize,
 }
 
 #[derive(Clone)]
-struct Kept<V> {
-    value: V,
-    hash: u64,
-    /// The number of another value with the same hash.
-    alike: Option<u64>,
+enum Slot<V> {
+    Kept { value: V, ranges: usize },
+    Free { next: Option<usize> },
 }
 
-/// The hash of what is a hash already.
-#[derive(Clone, Copy, Default)]
-struct AsItIs(u64);
-
-impl Hasher for AsItIs {
-    fn finish(&self) -> u64 {
-        self.0
-    }
-
-    fn write(&mut self, _: &[u8]) {
-        unreachable!("a hash is one number")
-    }
-
-    fn write_u64(&mut self, hash: u64) {
-        self.0 = hash;
-    }
-}
-
-impl<V: Eq + Hash> Values<V> {
+impl<V> Values<V> {
     pub fn new() -> Values<V> {
-        Values {
-            by_number: Vec::new(),
-            free: Vec::new(),
-            by_hash: HashMap::default(),
-            hashes: RandomState::new(),
-            given: 0,
-        }
+        Values { slots: Vec::new(), free: None, kept: 0 }
     }
 
-    fn kept(&self, number: u64) -> &Kept<V> {
-        self.by_number[number as usize].as_ref().expect("a number that is in use")
-    }
-
-    /// The value of a number that was given and is not freed.
+    /// The value of a number that some range has.
     pub fn get(&self, number: u64) -> &V {
-        &self.kept(number).value
-    }
-
-    /// The number of the value, one of its own where no value equals it.
-    pub fn number(&mut self, value: V) -> u64 {
-        let hash = self.hashes.hash_one(&value);
-        let alike = self.by_hash.get(&hash).copied();
-        let mut known = std::iter::successors(alike, |number| self.kept(*number).alike);
-        if let Some(number) = known.find(|number| *self.get(*number) == value) {
-            return number;
+        match &self.slots[number as usize] {
+            Slot::Kept { value, .. } => value,
+            Slot::Free { .. } => unreachable!("a number that some range has"),
         }
-        let number = self.free.pop().unwrap_or_else(|| {
-            self.by_number.push(None);
-            self.by_number.len() as u64 - 1
-        });
-        self.by_hash.insert(hash, number);
-        self.by_number[number as usize] = Some(Kept { value, hash, alike });
-        self.given += 1;
-        number
     }
 
-    /// Whether it is time to free the numbers that a map of so many ranges does not use: each time that as many were given
-    /// as the map has ranges, so that a call costs no more on average.
-    pub fn is_due(&self, ranges: usize) -> bool {
-        self.given > 64 + ranges
+    /// A number for the value, which one range is to have.
+    pub fn add(&mut self, value: V) -> u64 {
+        let slot = Slot::Kept { value, ranges: 1 };
+        self.kept += 1;
+        let Some(at) = self.free else {
+            self.slots.push(slot);
+            return self.slots.len() as u64 - 1;
+        };
+        if let Slot::Free { next } = std::mem::replace(&mut self.slots[at], slot) {
+            self.free = next;
+        }
+        at as u64
     }
 
-    /// Frees the values whose numbers are not among those in use.
-    pub fn keep(&mut self, in_use: impl Iterator<Item = u64>) {
-        let mut is_used = vec![false; self.by_number.len()];
-        in_use.for_each(|number| is_used[number as usize] = true);
-        self.by_hash.clear();
-        for (number, kept) in (0..).zip(&mut self.by_number) {
-            match kept {
-                Some(kept) if is_used[number as usize] => kept.alike = self.by_hash.insert(kept.hash, number),
-                Some(_) => {
-                    *kept = None;
-                    self.free.push(number);
-                }
-                None => (),
+    fn ranges(&mut self, number: u64) -> &mut usize {
+        match &mut self.slots[number as usize] {
+            Slot::Kept { ranges, .. } => ranges,
+            Slot::Free { .. } => unreachable!("a number that some range has"),
+        }
+    }
+
+    /// One more range has the number.
+    pub fn hold(&mut self, number: u64) {
+        *self.ranges(number) += 1;
+    }
+
+    /// One range fewer has the number. The value of the last one is given back.
+    pub fn release(&mut self, number: u64) -> Option<V> {
+        let ranges = self.ranges(number);
+        *ranges -= 1;
+        if *ranges > 0 {
+            return None;
+        }
+        let free = Slot::Free { next: self.free.replace(number as usize) };
+        self.kept -= 1;
+        match std::mem::replace(&mut self.slots[number as usize], free) {
+            Slot::Kept { value, .. } => Some(value),
+            Slot::Free { .. } => None,
+        }
+    }
+
+    /// The value for a range that is taken out: the value itself of the last range that has it, else a clone.
+    pub fn taken(&mut self, number: u64) -> V
+    where
+        V: Clone,
+    {
+        if *self.ranges(number) > 1 {
+            self.release(number);
+            return self.get(number).clone();
+        }
+        self.release(number).expect("the last range that has the value")
+    }
+
+    /// Gives back the memory of slots that are free and lie behind all that are not.
+    pub fn shrink_to_fit(&mut self) {
+        while matches!(self.slots.last(), Some(Slot::Free { .. })) {
+            self.slots.pop();
+        }
+        self.slots.shrink_to_fit();
+        self.free = None;
+        for (at, slot) in self.slots.iter_mut().enumerate() {
+            if let Slot::Free { next } = slot {
+                *next = self.free.replace(at);
             }
         }
-        self.given = 0;
     }
 
-    #[cfg(test)]
+    /// How many values are kept.
     pub fn count(&self) -> usize {
-        self.by_number.iter().flatten().count()
-    }
-}
-
-#[cfg(test)]
-mod tests {
-    use super::Values;
-    use crate::RangeMap;
-    use std::hash::{Hash, Hasher};
-
-    /// A value whose hash says nothing.
-    #[derive(Clone, Debug, PartialEq, Eq)]
-    struct Alike(u64);
-
-    impl Hash for Alike {
-        fn hash<H: Hasher>(&self, _: &mut H) {}
-    }
-
-    #[test]
-    fn values_with_one_hash_have_numbers_of_their_own() {
-        let mut values = Values::new();
-        assert!((0..20).chain(0..20).map(|at| values.number(Alike(at))).eq((0..20).chain(0..20)));
-        values.keep((0..20).filter(|at| at % 3 == 1));
-        assert_eq!((values.count(), values.get(7)), (7, &Alike(7)));
-        assert!((0..20).filter(|at| at % 3 == 1).all(|at| values.number(Alike(at)) == at));
-        let freed = values.number(Alike(100));
-        assert!(freed % 3 != 1 && freed < 20 && values.number(Alike(100)) == freed && values.count() == 8);
-    }
-
-    /// A map whose values change all the time keeps few of them.
-    #[test]
-    fn values_that_are_not_used_are_freed() {
-        let mut map: RangeMap<u64, u64> = RangeMap::new();
-        for i in 0..10_000 {
-            map.insert(i % 50..i % 50 + 1, i);
-        }
-        assert!(map.len() == 50 && map.kept_values() < 200);
+        self.kept
     }
 }

@@ -156,7 +156,7 @@ fn ranges_keep_their_bounds() {
     map.remove(-5..5).unwrap();
     assert_eq!((map.get(-6), map.get(-5), map.get(4), map.get(5)), (Some(7), None, None, Some(7)));
     assert_eq!(map.iter().rev().collect::<Vec<_>>(), [(Range::from(5..), 7), (Range::from(..-5), 7)]);
-    assert_eq!(format!("{map:?}"), "{..-5: 7, 5..: 7}");
+    assert_eq!(format!("{map:?}"), "{-9223372036854775808..-5: 7, 5..=9223372036854775807: 7}");
 }
 
 /// From both ends by turns, more often from one of them: each range is shown once, wherever batches end.
