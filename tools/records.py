@@ -25,6 +25,8 @@ SPEC_USE = re.compile(r"^ *(?:ghost |pub )*use Rattle\.(\w+)\.specs\.((?:\w+\.)*
 MODULE = re.compile(r"^ *module\b.*?\bwhere *$", re.M | re.S)
 # A definition. What has none of these words is abstract: a lemma, or known by lemmas alone.
 DEFINED = re.compile(r" *(?:pub )?(?:unfoldable|abbrev|record|data) (?:pub )?([^\s:(){}]+)")
+# The trait of containers.
+CONTAINER = "Storage"
 # The methods that a piece of code calls without their names.
 OPERATORS = {
     " == ": "eq", " != ": "eq ne", " < ": "lt partial_cmp", " <= ": "le partial_cmp", " > ": "gt partial_cmp", " >= ": "ge partial_cmp",
@@ -38,7 +40,7 @@ class Part:
     """A text on which a record may rest: its tokens, the words in it, and the definitions that it cites."""
 
     def __init__(self, name, text, cites=(), naming=None):
-        self.tokens, self.cites = f"{name}\n{tokens_of(text)}", frozenset(cites)
+        self.tokens, self.cites, self.is_alias = f"{name}\n{tokens_of(text)}", frozenset(cites), naming is not None
         self.words = frozenset(re.findall(r"\w+", self.tokens if naming is None else naming))
 
 
@@ -128,6 +130,8 @@ class Sources:
         for name in self.named:
             for path in sorted((top / "crates" / name / "src").rglob("*.rt")):
                 self.read_code(name, path)
+        # What a map or a set stands on by an alias is known by the trait's contracts and laws.
+        self.containers = frozenset().union(*(of for own in self.impls.values() for trait, of, _ in own if trait == CONTAINER))
 
     @functools.cache
     def below(self, name):
@@ -289,7 +293,7 @@ class Sources:
                 taken[part.tokens] = part
                 queue += [self.definition(it) for it in part.cites - cites]
                 cites |= part.cites
-                new = part.words - words
+                new = part.words - words - (self.containers if part.is_alias else frozenset())
                 new |= {it for word in new for it in self.renamed.get(word, ())}
                 words |= new
                 for there, near, afar in (it for word in new for it in self.items.get(word, ())):
