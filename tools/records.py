@@ -34,6 +34,18 @@ OPERATORS = {
     "|= ": "bitor_assign", "&= ": "bitand_assign", "^= ": "bitxor_assign", "for ": "into_iter next", "[": "index index_mut", "!": "not fmt",
     "{}": "fmt", "*": "deref deref_mut",
 }  # fmt: skip
+# The traits that calls of std rest on, by words of a piece of code.
+TRAITS = {
+    "Ord PartialOrd": "sort max min clamp binary_search cmp partial_cmp BTreeMap BTreeSet BinaryHeap is_sorted",
+    "Eq PartialEq": "contains dedup starts_with ends_with position HashMap HashSet BTreeMap BTreeSet assert_eq",
+    "Hash": "HashMap HashSet hash",
+    "Clone": "clone cloned to_vec extend_from_slice resize vec fill",
+    "From": "into try_into",
+    "Iterator IntoIterator DoubleEndedIterator": "for collect extend from_iter sum rev",
+    "FromIterator Extend": "collect extend from_iter",
+    "Default": "default unwrap_or_default take",
+    "FromStr": "parse",
+}
 
 
 class Part:
@@ -47,12 +59,12 @@ class Part:
 class Method:
     """The contract of a function, and the trait and the words of the type that it is of."""
 
-    def __init__(self, crate, function, is_of_trait, part):
+    def __init__(self, crate, function, is_of_trait, generic, part):
         trait, _, self_type = function.owner.rpartition(" for ")
         self.crate, self.file, self.owner, self.part = crate, function.file, function.owner, part
         self.is_free = not function.owner
         self.trait = self_type if is_of_trait else base_of(trait)
-        self.of = frozenset() if is_of_trait else frozenset(re.findall(r"\w+", self_type))
+        self.of = frozenset() if is_of_trait else frozenset(re.findall(r"\w+", self_type)) - generic
 
 
 def base_of(path):
@@ -211,17 +223,17 @@ class Sources:
             opened = next((it for it in range(start, end) if "{" in lines[it]), start)
             head = "\n".join(lines[start : opened + 1])
             for it in inside:
-                self.add_function(crate, it, lines, head, kind == "trait", uses)
+                self.add_function(crate, it, lines, head, kind == "trait", generic, uses)
         for it in spans:
             if not it.owner:
-                self.add_function(crate, it, lines, "", False, uses)
+                self.add_function(crate, it, lines, "", False, frozenset(), uses)
 
-    def add_function(self, crate, function, lines, head, is_of_trait, uses):
+    def add_function(self, crate, function, lines, head, is_of_trait, generic, uses):
         at = next(it for it in range(function.first - 1, function.last) if re.search(r"\bfn ", lines[it]))
         indent = lines[at][: len(lines[at]) - len(lines[at].lstrip())]
         text = f"{head}\n{text_from(lines, at, indent)}"
         part = Part(str(function), text, self.cited(text, uses, None))
-        self.methods[function.name].append(Method(crate, function, is_of_trait, part))
+        self.methods[function.name].append(Method(crate, function, is_of_trait, generic, part))
 
     def called(self, crate, function, result, text):
         """Returns the contracts that a text calls whatever the types are, and those that it does where the function can
@@ -286,6 +298,9 @@ class Sources:
             said = path.read_text()
             cites = self.cited(said, spec_uses(said), None) if path.stem == "Invariants" else ()
             queue.append(Part(path.stem, said, cites, naming=""))
+        code = {*re.findall(r"\w+", f"{body_of(lines)}\n{written}")}
+        traits = [names for names, words in TRAITS.items() if code & {*words.split()}]
+        queue.append(Part("", "", naming=" ".join(traits)))
         taken, words, cites = {}, set(), set()
         while queue:
             while queue:

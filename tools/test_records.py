@@ -81,6 +81,10 @@ impl PartialEq for Small {
     }
 }
 
+impl Ord for Small {
+    ghost cmp = { λ a b. nat_cmp a b };
+}
+
 impl Small {
     pub fn new() -> Self
         ensures { result ≡ 0 }
@@ -166,6 +170,13 @@ pub fn made() -> Small
     Small::new()
 }
 
+pub fn ordered(mut list: Vec<Small>) -> Vec<Small>
+    ensures { result ≡ list }
+{
+    list.sort();
+    list
+}
+
 pub fn alone(given: usize) -> usize
     ensures { result ≡ given }
 {
@@ -183,11 +194,13 @@ old:     a == b
 new:     a == a
 old:     Small::new()
 new:     { let made = Small::new(); made }
+old:     list.sort();
+new:     list.clear();
 old:     given
 new:     given / 2
 """,
 }
-EVERY = {"halve", "is_empty", "len", "quarter", "count", "same", "made", "alone"}
+EVERY = {"halve", "is_empty", "len", "quarter", "count", "same", "made", "ordered", "alone"}
 LOW, HALVES, HIGH = "crates/low/src/lib.rt", "crates/low/specs/Halves.antt", "crates/high/src/lib.rt"
 # What is changed, in which file, from what to what, and which records that makes stale.
 CHANGES = [
@@ -208,9 +221,10 @@ CHANGES = [
     ("what a trait's value is for a type", LOW, "size = { λ s. s.kept }", "size = { λ s. s.kept + 0 }", "len"),
     ("the contract of one that is not", LOW, "ensures { IsUncited result };", "ensures { result ≡ 0 };", ""),
     ("a method of this name that a function has no value of", LOW, "number { result ≡ self.now }", "number { self.now ≡ result }", ""),
-    ("a type's invariant", LOW, "s.number < 10", "s.number < 9", "same made"),
+    ("a type's invariant", LOW, "s.number < 10", "s.number < 9", "same made ordered"),
     ("what an operator means", LOW, "λ a b. a == b }", "λ a b. b == a }", "same"),
-    ("a field", LOW, "    number: usize,\n}", "    number: usize,\n    more: usize,\n}", "same made"),
+    ("what a call of std goes by", LOW, "nat_cmp a b", "nat_cmp b a", "ordered"),
+    ("a field", LOW, "    number: usize,\n}", "    number: usize,\n    more: usize,\n}", "same made ordered"),
     ("the clause of an associated function", LOW, "    ensures { result ≡ 0 }\n    {", "    ensures { 0 ≡ result }\n    {", "made"),
     ("the body of a mutated function", HIGH, "    given\n}", "    let _n = 0;\n    given\n}", "alone"),
     ("its clause", HIGH, "{ result ≡ given }", "{ given ≡ result }", "alone"),
