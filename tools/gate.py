@@ -163,7 +163,7 @@ def several(names):
     proved = [it.name for it in chosen if it.is_proved]
     results = [proofs(proved)] if proved else []
     stale, _ = mutants.stale()
-    results += mutants.try_all(name for name in proved if name in stale)
+    results += mutants.try_all([name for name in proved if name in stale])
     unproved = [it for it in chosen if not it.is_proved or it.has_conversations]
     unproved += [it for it in chosen if it.name == examples.CRATE_ABOVE]
     return [*results, *quickly(every, unproved)]
