@@ -307,18 +307,16 @@ def try_alone(crate, edit):
 
 
 def try_all(names):
-    """Tries the mutants of crates whose records are stale, several crates side by side, the lowest first; a single edit as CRATE/EDIT."""
-    counts, sources = [], records.Sources(TOP)
-    ordered = [it for it in crates() if it in names]
-    with concurrent.futures.ThreadPoolExecutor(lanes()) as pool, concurrent.futures.ThreadPoolExecutor(lanes()) as ends:
-        tasks = []
-        for crate in (CRATES / it for it in ordered):
-            every, known = mutants_of(crate, sources), recorded(crate)
-            chosen = [it for it in every if known.get(it.key, "")[:1] != (it.sum,)]
-            if chosen:
-                prove(crate)
-            tasks.append(ends.submit(try_crate, crate, chosen, every, pool))
-        counts += [it.result() for it in tasks]
+    """Tries the mutants of crates whose records are stale, the edits of all of them side by side; a single edit as CRATE/EDIT."""
+    sources, tasks = records.Sources(TOP), []
+    for crate in (CRATES / it for it in crates() if it in names):
+        every, known = mutants_of(crate, sources), recorded(crate)
+        tasks.append((crate, [it for it in every if known.get(it.key, "")[:1] != (it.sum,)], every))
+    for crate, chosen, _ in tasks:
+        if chosen:
+            prove(crate)
+    with concurrent.futures.ThreadPoolExecutor(lanes()) as pool, concurrent.futures.ThreadPoolExecutor(max(1, len(tasks))) as ends:
+        counts = [*ends.map(lambda it: try_crate(*it, pool), tasks)]
     for name in names:
         crate, _, edit = name.partition("/")
         counts += [try_alone(CRATES / crate, edit)] if edit else []
