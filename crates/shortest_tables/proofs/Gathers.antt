@@ -78,7 +78,7 @@ whole_tree otherwise spans free from x old new best uniform is nodes others =
     (Whole best, (x, whole_labels otherwise spans free from x uniform, is), (nodes, others))
 
 module _ (count : ℕ) where
-  abbrev AreNumbered : Labels ℕ → Type 0
+  abbrev pub AreNumbered : Labels ℕ → Type 0
   AreNumbered Unbound = Unit {0}
   AreNumbered (Among v vs) = AllByRecursion (λ w. w < count) (v ∷ vs)
 
@@ -110,11 +110,11 @@ module _ (count : ℕ) where
       (all_filter (λ u. has nat_eq u (w ∷ ws)) (v ∷ vs) h)
       (all_append (v ∷ vs) (w ∷ ws) h k)
 
-  leaf_numbered : (x : Option ℕ) → IsNumbered count x → AreNumbered (leaf nat_eq x)
+  pub leaf_numbered : (x : Option ℕ) → IsNumbered count x → AreNumbered (leaf nat_eq x)
   leaf_numbered None h = tt
   leaf_numbered (Some v) h = (h, tt)
 
-  labels_numbered : (width : ℕ) (f : Bits → Option ℕ) → ((a : Bits) → IsNumbered count (f a))
+  pub labels_numbered : (width : ℕ) (f : Bits → Option ℕ) → ((a : Bits) → IsNumbered count (f a))
       → AreNumbered (labels nat_eq width f)
   labels_numbered zero f h = leaf_numbered (f []) (h [])
   labels_numbered (suc width) f h =

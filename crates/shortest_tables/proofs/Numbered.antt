@@ -114,7 +114,7 @@ module _ {V : Type 0} (eq : V → V → Bool) where
       elim (has eq u (v ∷ vs)) as (λ h. AreShort width (if h then [] else ([], v) ∷ []))
       [ true ↦ tt | false ↦ (omega arith, tt) ]
 
-  short_table : (width : ℕ) (f : Bits → Option V) (above : Option V)
+  pub short_table : (width : ℕ) (f : Bits → Option V) (above : Option V)
       → AreShort width (table_below eq width f above)
   short_table zero f above = short_entry zero (labels eq zero f) above
   short_table (suc width) f above =

@@ -15,7 +15,7 @@ inside first last n h k = grind (arith, nat_tests)
 
 module _ {V : Type 0} (otherwise : Option V) where
   -- a span says nothing of the numbers before it and after it
-  skipped : (s : Span V) (rest : List (Span V)) (n : ℕ) → n < s.first
+  pub skipped : (s : Span V) (rest : List (Span V)) (n : ℕ) → n < s.first
       → value_at otherwise (s ∷ rest) n ≡ value_at otherwise rest n
   skipped s rest n h = let t = before s.first s.last n h in rw t refl
 
@@ -23,7 +23,7 @@ module _ {V : Type 0} (otherwise : Option V) where
       → value_at otherwise (s ∷ rest) n ≡ value_at otherwise rest n
   passed s rest n h = let t = after s.first s.last n h in rw t refl
 
-  met : (s : Span V) (rest : List (Span V)) (n : ℕ) → s.first ≤ n → n ≤ s.last
+  pub met : (s : Span V) (rest : List (Span V)) (n : ℕ) → s.first ≤ n → n ≤ s.last
       → value_at otherwise (s ∷ rest) n ≡ Some s.value
   met s rest n h k = let t = inside s.first s.last n h k in rw t refl
 

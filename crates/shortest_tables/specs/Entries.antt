@@ -1,5 +1,5 @@
 -- Tables whose prefixes are networks and lengths, and what they say of each number.
-use Rattle.std.specs.Prelude.{◌≡◌, ℕ, ◌+◌, ◌-◌, ◌≤◌, ◌<◌, ◌^◌, List, [], ◌∷◌, map, take, length, Option, Some, None}
+use Rattle.std.specs.Prelude.{◌≡◌, ℕ, ◌+◌, ◌-◌, ◌*◌, ◌≤◌, ◌<◌, ◌^◌, List, [], ◌∷◌, map, take, length, Option, Some, None}
 use Rattle.shortest_tables.specs.Tables.{Table, route}
 use Rattle.shortest_tables.specs.Numbers.{bits, number}
 use Rattle.shortest_tables.specs.declared.entries.Entry.{Entry}
@@ -17,6 +17,11 @@ module _ {V : Type 0} where
   abbrev pub AreFewest : ℕ → (ℕ → Option V) → List (Entry V) → Type 0
   AreFewest width f es =
       (others : List (Entry V)) → RoutesAs width f others → length es ≤ length others
+
+  -- its addresses are those of a prefix: 2^k of them, from a multiple of 2^k on
+  abbrev pub IsBlock : ℕ → Entry V → Type 0
+  IsBlock width e = (e.length ≤ width) × ((q : ℕ) × (e.network ≡ q * 2 ^ (width - e.length)))
+      × (e.network + 2 ^ (width - e.length) ≤ 2 ^ width)
 
   -- the entries that a table of the 2^free addresses from a number on is
   abbrev pub placed : ℕ → ℕ → ℕ → Table V → List (Entry V)

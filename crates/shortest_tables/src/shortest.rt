@@ -1,7 +1,8 @@
 //! The shortest table of a map.
 
-ghost use Rattle.std.specs.Prelude.{◌≡◌, ◌≤◌, [], length, IfOk};
-ghost use Rattle.shortest_tables.specs.Entries.{AreFewest, RoutesAs};
+ghost use Rattle.std.specs.Prelude.{◌≡◌, ◌≤◌, ◌<◌, [], length, IfOk};
+ghost use Rattle.std.specs.List.{AllByRecursion};
+ghost use Rattle.shortest_tables.specs.Entries.{AreFewest, IsBlock, RoutesAs};
 ghost use Rattle.shortest_tables.specs.Numbers.{AreAscending, IsNumbered, value_at};
 ghost use Rattle.shortest_tables.specs.Trees.{IsClear};
 
@@ -40,6 +41,8 @@ pub fn shortest_table(
     requires spans { AreAscending count 0 spans.now }
     requires otherwise { IsNumbered count otherwise }
     requires small { width ≤ 128 }
+    ensures blocks { IfOk result (λ table. AllByRecursion (IsBlock width) table.items) }
+    ensures values { IfOk result (λ table. AllByRecursion (λ e. e.value < count) table.items) }
     ensures routes { IfOk result
         (λ table. RoutesAs width (value_at otherwise spans.now) table.items) }
     ensures fewest { IfOk result
