@@ -126,6 +126,7 @@ pub fn comes_first<K: PartialEnum, V: Eq + Drop, C: Storage<Item<AnyRange<K>, V>
 
 /// The window of a nonempty range that comes after all stored ones or before them, of which it may
 /// touch one. Costs no search.
+#[inline(always)]
 pub fn outer_window<K: PartialEnum, V: Eq + Drop, C: Storage<Item<AnyRange<K>, V>>>(
     stored: &C,
     range: &AnyRange<K>,
