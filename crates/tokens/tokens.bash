@@ -1,0 +1,2 @@
+# Completion of tokens for bash.
+complete -o default -W "--json --count" tokens
