@@ -1,7 +1,9 @@
-/* Maps and sets whose keys are gathered into ranges, proved in Rattle. bindings/README.md says what a caller owes.
+/* Maps and sets whose keys are gathered into ranges, proved in Rattle, for C99 and C++11. README.md, which lies beside it
+ * in the archive's share folder, says what a caller owes.
  *
  * Each call answers by a status; one that fails has changed nothing, and has written nothing behind its pointers,
- * but for what an insert_many has done and told before memory ran out. */
+ * but for what an insert_many has done and told before memory ran out. No pointer is NULL, but for that of brm_destroy, and
+ * neither is an array, a buffer or a text that is empty. */
 #ifndef BTREE_RANGE_MAP_H
 #define BTREE_RANGE_MAP_H
 
@@ -234,7 +236,8 @@ brm_status brm_set_i64_gaps(const brm_handle *set, const brm_range_i64 *range, b
 /* Adds the keys of each of so many ranges, one after the other, and tells of how many, also with BRM_NO_MEMORY. */
 brm_status brm_set_i64_insert_many(brm_handle *set, const brm_range_i64 *ranges, size_t size, size_t *count);
 
-/* The calls that the functions below are made of. They owe that no pointer is NULL, and that no handle is given twice. */
+/* The calls that the functions below are made of, which stand in the library: their proof is of handles that are apart. Call the
+ * functions below instead; these are for bindings of other languages, and owe that no handle is given twice in one call. */
 void brm_raw_destroy(brm_handle *handle);
 brm_status brm_raw_clone(const brm_handle *handle, brm_handle *made);
 brm_status brm_raw_equal(const brm_handle *handle, const brm_handle *other);
@@ -422,6 +425,27 @@ static inline brm_status brm_set_u64_complement(const brm_handle *set, brm_handl
 static inline brm_status brm_set_i64_complement(const brm_handle *set, brm_handle *made) {
     brm_status status = brm_sets_put_together(brm_set_i64_contains(set, 0), set, set, made);
     return status == BRM_DONE ? brm_raw_set_complement(set, made) : status;
+}
+
+/* Keys of 32 bits, as addresses of version 4 of the internet protocol, are kept in maps and sets of uint64_t keys. This is a range
+ * of them as those take it: the least or the greatest such key stands in the place of no end. */
+static inline brm_range_u64 brm_range_of_u32(uint32_t start, uint32_t end, uint32_t flags) {
+    brm_range_u64 range = {start, end, flags & (BRM_START_EXCLUDED | BRM_END_EXCLUDED)};
+    if (flags & BRM_START_UNBOUNDED) range.start = 0, range.flags &= ~(uint32_t)BRM_START_EXCLUDED;
+    if (flags & BRM_END_UNBOUNDED) range.end = UINT32_MAX, range.flags &= ~(uint32_t)BRM_END_EXCLUDED;
+    return range;
+}
+
+/* Opens the closed handle `made` on the keys of 32 bits that the set does not hold. */
+static inline brm_status brm_set_u32_complement(const brm_handle *set, brm_handle *made) {
+    brm_range_u64 all = {0, UINT32_MAX, 0};
+    brm_handle whole = BRM_HANDLE_CLOSED;
+    brm_status status = brm_sets_put_together(brm_set_u64_contains(set, 0), set, set, made);
+    if (status == BRM_DONE) status = brm_set_u64_create(&whole);
+    if (status == BRM_DONE) status = brm_set_u64_insert(&whole, &all);
+    if (status == BRM_DONE) status = brm_raw_set_difference(&whole, set, made);
+    brm_raw_destroy(&whole);
+    return status;
 }
 
 /* Whether each key of the set is in the other; whether no key is in both. */

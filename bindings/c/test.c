@@ -256,6 +256,31 @@ static brm_handle set_of(const brm_range_u64 *ranges, size_t count) {
     return set;
 }
 
+static void keys_of_32_bits(void) {
+    brm_range_u64 bounded[] = {brm_range_of_u32(3, 5, BRM_START_UNBOUNDED | BRM_START_EXCLUDED | BRM_END_EXCLUDED),
+                               brm_range_of_u32(8, 4, BRM_START_EXCLUDED | BRM_END_UNBOUNDED | BRM_END_EXCLUDED)};
+    EXPECT(bounded[0].start == 0 && bounded[0].end == 5 && bounded[0].flags == BRM_END_EXCLUDED);
+    EXPECT(bounded[1].start == 8 && bounded[1].end == UINT32_MAX && bounded[1].flags == BRM_START_EXCLUDED);
+    brm_handle set = set_of(bounded, 2), made = BRM_HANDLE_CLOSED, map = BRM_HANDLE_CLOSED;
+    brm_key_count count = {9, 9};
+    brm_status status = BRM_NO_MEMORY;
+    long allowed = 0;
+    for (; status == BRM_NO_MEMORY; allowed++) {
+        granted = allowed;
+        status = brm_set_u32_complement(&set, &made);
+        granted = -1;
+        EXPECT(made.is_open == (status == BRM_DONE));
+    }
+    EXPECT(allowed > 1 && status == BRM_DONE && brm_set_u64_len(&made, &count) == BRM_DONE && count.high == 0 && count.low == 4);
+    EXPECT(brm_set_u64_contains(&made, 5) == BRM_DONE && brm_set_u64_contains(&made, 9) == BRM_NONE);
+    EXPECT(brm_set_u32_complement(&set, &made) == BRM_OPEN);
+    brm_destroy(&made);
+    EXPECT(brm_set_u32_complement(&set, &set) == BRM_OPEN && brm_set_u32_complement(&made, &made) == BRM_CLOSED);
+    EXPECT(brm_map_u64_create(&map) == BRM_DONE && brm_set_u32_complement(&map, &made) == BRM_OTHER_KIND);
+    brm_destroy(&map);
+    brm_destroy(&set);
+}
+
 static void two_sets(void) {
     brm_range_u64 some[] = {{0, 10, 0}, {20, 30, 0}, {50, 60, 0}}, more[] = {{5, 25, 0}, {61, 61, 0}}, found = {0, 0, 0};
     brm_handle set = set_of(some, 3), other = set_of(more, 2), map = BRM_HANDLE_CLOSED;
@@ -993,6 +1018,7 @@ int main(void) {
     signed_maps();
     sets();
     free_ranges();
+    keys_of_32_bits();
     two_sets();
     handles_given_twice();
     clones();

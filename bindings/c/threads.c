@@ -182,6 +182,10 @@ static const set_calls SIGNED = {
     {brm_set_i64_union, brm_set_i64_intersection, brm_set_i64_difference, brm_set_i64_symmetric_difference},
     brm_set_i64_complement, brm_set_i64_is_subset, brm_set_i64_is_disjoint};
 
+static const set_calls NARROW = {
+    {brm_set_u64_union, brm_set_u64_intersection, brm_set_u64_difference, brm_set_u64_symmetric_difference},
+    brm_set_u32_complement, brm_set_u64_is_subset, brm_set_u64_is_disjoint};
+
 /* Each call that makes a set of two that others read too, and each that asks about two. */
 static void put_together(const brm_handle *set, const set_calls *calls, size_t others, job *it) {
     size_t made[] = {RANGES, RANGES, 0, 0};
@@ -219,6 +223,7 @@ static void *work(void *given) {
     read_keys(it->shared_keys, it);
     read_signed_keys(it->shared_signed_keys, it);
     put_together(it->shared_keys, &UNSIGNED, RANGES, it);
+    put_together(it->shared_keys, &NARROW, RANGES, it);
     put_together(it->shared_signed_keys, &SIGNED, RANGES + 1, it);
     fill(&it->own, it);
     put_beside(it->shared, &it->own, it);

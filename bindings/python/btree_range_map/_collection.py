@@ -442,7 +442,7 @@ class Collection(Generic[K]):
             return None
         alike = "lq" if self._keys.is_signed else "LQ"
         if view.itemsize == 8 and view.format.lstrip("@=<") in tuple(alike):
-            return array.array(code, view.tobytes())
+            return numbers if isinstance(numbers, array.array) else array.array(code, view.tobytes())
         try:
             return array.array(code, view.tolist())
         except OverflowError:

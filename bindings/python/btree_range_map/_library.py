@@ -19,10 +19,13 @@ START_EXCLUDED, START_UNBOUNDED, END_EXCLUDED, END_UNBOUNDED = 1, 2, 4, 8
 BATCH = 256
 
 #: How many ranges are taken in at once at most, where as many are stored.
-LARGEST = 16384
+LARGEST = 4096
 
 #: How many ranges that a change meets are read at once: nearly all meet fewer.
-MET = 8
+MET = 4
+
+#: How many keys are looked up in one call at most, whose answers stay in the cache.
+LOOKED_UP = 16384
 
 #: The size of what a key is bound to: the value, 0 where there is none, and whether there is one.
 BINDING_SIZE = 16

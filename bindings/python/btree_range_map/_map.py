@@ -100,11 +100,14 @@ class RangeMap(Collection[K], Generic[K, V]):
     def _met(self, first: int, last: int) -> list[tuple[int, ...]]:
         """The stored ranges that hold a key from the first to the last."""
         kind, form, count = self._kind, self._kind.form, self._count
-        check(kind.overlapping(self._handle, kind.range_form.pack(first, last, 0), self._found, _c.MET, count))
+        # nearly all changes meet few ranges, which one search finds
+        check(kind.read(self._handle, first, self._found, _c.MET, count))
         if not count.value:
             return []
         met = list(form.iter_unpack(memoryview(self._found)[: form.size * count.value]))
-        if len(met) == _c.MET and not met[-1][2] & _c.END_UNBOUNDED:
+        while met and self._first_and_last(*met[-1][:3])[0] > last:
+            met.pop()
+        if len(met) == _c.MET and self._first_and_last(*met[-1][:3])[1] < last:
             start_flag = 0 if met[-1][2] & _c.END_EXCLUDED else _c.START_EXCLUDED
             for read, _ in self._within(kind.overlapping, form, (met[-1][1], last, start_flag)):
                 met.extend(zip(*read))
@@ -420,18 +423,23 @@ class RangeMap(Collection[K], Generic[K, V]):
                 except OverflowError:
                     outside.add(len(numbers))
                     numbers.append(self._keys.least)
-        size = len(numbers)
-        found = ctypes.create_string_buffer(max(1, size) * _c.BINDING_SIZE)
+        shown: list[Any] = []
+        words = array.array("Q", bytes(_c.BINDING_SIZE * min(len(numbers), _c.LOOKED_UP)))
+        # an empty one has no memory to write to
+        found = (ctypes.c_char * (8 * len(words))).from_buffer(words) if words else b""
         with self._lock:
-            check(self._kind.get_many(self._handle, numbers.tobytes(), size, found, size))
-            of_values = array.array("Q")
-            of_values.frombytes(found)
-            of_values = of_values[: 2 * size : 2]
+            self._check_open()
             # the number of no value is 0
             table = self._values.table
             table[0] = default
-            shown = list(map(table.__getitem__, of_values))
-            table[0] = None
+            try:
+                for at in range(0, len(numbers), _c.LOOKED_UP):
+                    looked = numbers[at : at + _c.LOOKED_UP]
+                    size = len(looked)
+                    check(self._kind.get_many(self._handle, looked.tobytes(), size, found, size))
+                    shown.extend(map(table.__getitem__, words[: 2 * size : 2]))
+            finally:
+                table[0] = None
         for place in outside:
             shown[place] = default
         return shown

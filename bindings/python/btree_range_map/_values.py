@@ -19,9 +19,11 @@ class Values:
         self.table: list[Any] = [None]
         self.ranges = [0]
         self._free: list[int] = []
-        #: the numbers of the values with a hash, or of the one object without one
-        self._alike: dict[tuple[bool, int], list[int]] = {}
-        self._named: list[tuple[bool, int]] = [(False, 0)]
+        #: the numbers of the values with a hash: one, or those that share it; the hash of each, `None` of one without
+        self._of_hash: dict[int, int | list[int]] = {}
+        self._hashes: list[int | None] = [None]
+        #: the numbers of objects without a hash, by their identity
+        self._of_id: dict[int, int] = {}
         #: how often a number was given or freed
         self._changes = 0
 
@@ -32,20 +34,24 @@ class Values:
     def number(self, value: Any) -> int:
         """The number of the value, which is held for one range more."""
         try:
-            name = (True, hash(value))
+            of_hash: int | None = hash(value)
         except TypeError:
-            name = (False, id(value))
-        number = self._known(name, value) or self._given(name, value)
+            of_hash = None
+        known = self._of_id.get(id(value), 0) if of_hash is None else self._known(of_hash, value)
+        number = known or self._given(of_hash, value)
         self.ranges[number] += 1
         return number
 
-    def _known(self, name: tuple[bool, int], value: Any) -> int:
+    def _known(self, of_hash: int, value: Any) -> int:
         """The number of an equal value, 0 where there is none."""
         for _ in range(TURNS):
+            numbers = self._of_hash.get(of_hash)
+            if numbers is None:
+                return 0
             changes = self._changes
-            for number in tuple(self._alike.get(name, ())):
+            for number in (numbers,) if type(numbers) is int else tuple(numbers):  # type: ignore[arg-type]
                 known = self.table[number]
-                is_same = known is value or bool(name[0] and known == value)
+                is_same = known is value or bool(known == value)
                 if self._changes != changes:
                     break
                 if is_same:
@@ -54,17 +60,24 @@ class Values:
                 return 0
         return 0
 
-    def _given(self, name: tuple[bool, int], value: Any) -> int:
+    def _given(self, of_hash: int | None, value: Any) -> int:
         self._changes += 1
         if self._free:
             number = self._free.pop()
-            self.table[number], self._named[number] = value, name
+            self.table[number], self._hashes[number] = value, of_hash
         else:
             number = len(self.table)
             self.table.append(value)
-            self._named.append(name)
+            self._hashes.append(of_hash)
             self.ranges.append(0)
-        self._alike.setdefault(name, []).append(number)
+        if of_hash is None:
+            self._of_id[id(value)] = number
+            return number
+        others = self._of_hash.setdefault(of_hash, number)
+        if isinstance(others, list):
+            others.append(number)
+        elif others != number:
+            self._of_hash[of_hash] = [others, number]
         return number
 
     def hold(self, number: int) -> None:
@@ -79,16 +92,21 @@ class Values:
 
     def _drop(self, number: int, gone: list[Any]) -> None:
         self._changes += 1
-        name = self._named[number]
-        self._alike[name].remove(number)
-        if not self._alike[name]:
-            del self._alike[name]
-        gone.append(self.table[number])
+        value, of_hash = self.table[number], self._hashes[number]
+        if of_hash is None:
+            del self._of_id[id(value)]
+        else:
+            others = self._of_hash[of_hash]
+            if isinstance(others, list) and len(others) > 1:
+                others.remove(number)
+            else:
+                del self._of_hash[of_hash]
+        gone.append(value)
         self.table[number] = None
         self._free.append(number)
         if len(self._free) == len(self.table) - 1:
             # none is kept
-            del self.table[1:], self.ranges[1:], self._named[1:]
+            del self.table[1:], self.ranges[1:], self._hashes[1:]
             self._free.clear()
 
     def change(self, before: list[int], after: list[int], gone: list[Any]) -> None:
@@ -114,12 +132,12 @@ class Values:
         free = set(self._free)
         while len(self.table) - 1 in free:
             free.remove(len(self.table) - 1)
-            del self.table[-1], self.ranges[-1], self._named[-1]
+            del self.table[-1], self.ranges[-1], self._hashes[-1]
         self._free = sorted(free, reverse=True)
 
     def copied(self) -> Values:
         made = Values()
-        made.table, made.ranges, made._named = self.table[:], self.ranges[:], self._named[:]
-        made._free = self._free[:]
-        made._alike = {name: numbers[:] for name, numbers in self._alike.items()}
+        made.table, made.ranges, made._hashes = self.table[:], self.ranges[:], self._hashes[:]
+        made._free, made._of_id = self._free[:], self._of_id.copy()
+        made._of_hash = {it: numbers if isinstance(numbers, int) else numbers[:] for it, numbers in self._of_hash.items()}
         return made

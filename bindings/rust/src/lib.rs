@@ -16,7 +16,7 @@
 //!
 //! [`RangeMap`] has values of any type that is `Eq`, [`RangeSet`] has keys alone, and [`NumberMap`] is the
 //! proved map as it is, with numbers as values, calls that answer by an error where memory runs out, and JSON.
-//! [`serde_with!`] makes what `serde` needs.
+//! [`serde_with!`] makes what `serde` needs. The crate needs std, and no other crate.
 #![warn(missing_docs)]
 
 mod batches;

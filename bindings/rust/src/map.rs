@@ -71,12 +71,20 @@ impl<K: Key, V> RangeMap<K, V> {
 
     /// The stored ranges that hold a key from the first to the last, in ascending order.
     fn met(&self, first: K, last: K) -> Vec<Met<K>> {
-        let met = self.numbers.overlapping(first..=last);
-        let with_ends = met.filter_map(|(range, number)| {
+        let with_ends = |(range, number): (Range<K>, u64)| {
             let (first, last) = range.ends()?;
             Some(Met { range, first, last, number })
-        });
-        with_ends.collect()
+        };
+        let mut met = Vec::new();
+        // nearly all changes meet few ranges, which one search finds
+        let few = self.numbers.few_from(first);
+        met.extend(few.iter().copied().map_while(|it| with_ends(it?)).take_while(|it| it.first <= last));
+        if met.len() == few.len() {
+            let past = met.last().and_then(|it| it.last.successor());
+            let rest = past.filter(|it| *it <= last).map(|it| self.numbers.overlapping(it..=last));
+            met.extend(rest.into_iter().flatten().filter_map(with_ends));
+        }
+        met
     }
 
     /// Lets go of what the ranges had that a change met, from the first to the last key. What is left of one on either side

@@ -12,8 +12,13 @@ use std::ops::RangeBounds;
 
 /// A map of keys to numbers, kept as ranges: ranges that touch and have equal numbers are one.
 ///
-/// It is the proved map itself. Where memory runs out, a call says so by an error and leaves the map as it was;
-/// [`NumberMap::insert_many`] tells how many ranges it has inserted. Iterators, `Debug` and `Hash` allocate as std does.
+/// It is the proved map itself, for values that are numbers or places in a table of one's own, and for programs that go on
+/// where memory runs out: a call says so by an error then and leaves the map as it was; [`NumberMap::insert_many`] tells how
+/// many ranges it has inserted. Iterators, `Debug` and `Hash` allocate as std does, and abort.
+///
+/// What any call answers is what `btree_range_map.h` says of it. A range that has no start or no end is stored so of `u64`
+/// and `i64` keys; of others it ends at the least or the greatest key. [`Range::to_inclusive`] tells of the keys in either
+/// case. A map of `u64` or `i64` keys is saved as JSON by [`NumberMap::to_json`], and read by [`NumberMap::load_json`].
 ///
 /// ```
 /// use btree_range_map_proved::NumberMap;
@@ -28,6 +33,9 @@ pub struct NumberMap<K: Key> {
     handle: Handle,
     _keys: PhantomData<K>,
 }
+
+/// How many stored ranges `few_from` reads.
+const FEW: usize = 4;
 
 fn calls<K: Key>() -> &'static ffi::Calls<K::Native, RawEntry<K::Native>> {
     K::Native::CALLS
@@ -197,6 +205,15 @@ impl<K: Key> NumberMap<K> {
     /// The stored ranges with their numbers, from both ends.
     pub fn iter(&self) -> Iter<'_, K> {
         Iter { batches: Batches::new(&self.handle, calls::<K>(), (K::LEAST.number(), K::GREATEST.number())) }
+    }
+
+    /// The first few stored ranges that end at the key or after it, with their numbers, in ascending order.
+    pub(crate) fn few_from(&self, key: K) -> [Option<(Range<K>, u64)>; FEW] {
+        let (mut entries, mut count) = ([RawEntry::default(); FEW], 0);
+        unsafe {
+            (calls::<K>().read)(self.handle.get(), key.number(), entries.as_mut_ptr(), FEW, &mut count)
+        };
+        std::array::from_fn(|at| (at < count).then(|| shown::<K>(entries[at])))
     }
 
     /// The stored ranges that meet the range, whole, with their numbers, in ascending order.

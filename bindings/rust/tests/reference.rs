@@ -254,7 +254,8 @@ fn values_of_any_type_answer_as_a_reference() {
     let mut random = Random(9);
     let mut map: RangeMap<u16, String> = RangeMap::new();
     let mut wanted: BTreeMap<u16, String> = BTreeMap::new();
-    for step in 0..1_000_000 {
+    let calls: u64 = std::env::var("RANGE_MAP_CALLS").map_or(20_000, |it| it.parse().unwrap());
+    for step in 0..calls {
         let first = random.below(200) as u16;
         let last = first + random.below(20) as u16;
         // many values that are used for a while alone
