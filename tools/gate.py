@@ -50,7 +50,7 @@ def proofs(names, told_kept=lambda _: None, of=None):
 
 def gate():
     """Does the whole of it: what can be seen at once comes first, and what needs no proof runs beside the proofs."""
-    fresh = [examples.compared(), tools_tried(), *fresh_mutants()]
+    fresh = [examples.compared(), *looked_over(), *fresh_mutants()]
     if any(it.failed for it in fresh):
         return fresh
     with watched(), examples.workspace() as room, beside(BESIDE, LEAST) as pool, beside(1, LEAST) as lane:
@@ -146,8 +146,10 @@ def fresh_mutants():
     return [Counts(0, 1) for _ in changed]
 
 
-def tools_tried():
-    return counting("which changes make records of mutants stale", [sys.executable, "-m", "tools.test_records"])
+def looked_over():
+    """Does what reads the repository alone: the tools' own rows, and files that are named and do not exist."""
+    looks = {"which changes make records of mutants stale": "test_records", "files that heads and pages name": "heads"}
+    return [counting(what, [sys.executable, "-m", f"tools.{module}"]) for what, module in looks.items()]
 
 
 def counting(what, words):
@@ -188,7 +190,7 @@ def quickly(every, chosen):
     tell(f"{len(tasks)} tasks, {PROCESSORS} at a time, each built without a proof")
     with watched(), examples.workspace() as room, concurrent.futures.ThreadPoolExecutor(PROCESSORS) as pool:
         ended = [*pool.map(lambda it: unless_passed(*it, room), tasks)]
-    return [*ended, examples.compared(), tools_tried()]
+    return [*ended, examples.compared(), *looked_over()]
 
 
 def calls(crate):
