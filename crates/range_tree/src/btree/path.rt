@@ -280,3 +280,27 @@ pub fn preceding<T: Drop>(nodes: &Nodes<T>, below: usize, number: usize, edge: E
     let last = nodes.child_at(number, index - 1);
     Some(seen_above(end_edge(nodes, below - 1, last), index - 1))
 }
+
+// Where the item before an edge stands, of which there is one below the node.
+pub fn find_home<T: Drop>(nodes: &Nodes<T>, below: usize, number: usize, edge: Edge) -> Home
+    requires shaped { ShapedBut 1 CAPACITY nodes.now below number }
+    requires edge { IsEdge nodes.now below number edge }
+    requires some { 0 < place nodes.now below number edge }
+    ensures { result ≡ home_of nodes.now below number edge }
+{
+    let mut at = number;
+    let mut left = below;
+    let mut inner = edge;
+    let mut home = Home {
+        node: number,
+        index: 0,
+    };
+    'down: while left > 0 {
+        let index = first_turn(inner);
+        home = home_before(at, index, home);
+        at = nodes.child_at(at, index);
+        inner = seen_inside(inner);
+        left -= 1;
+    }
+    home_before(at, inner.index, home)
+}

@@ -9,7 +9,7 @@ use crate::btree::BoxStorage;
 use crate::btree::building::{Layout, build, layout_of};
 use crate::btree::insertion::{Insertion, insert_below};
 use crate::btree::path::{
-    Edge, Home, around_leaf, end_leaves, preceding, seen_above, stands_first,
+    Edge, Home, around_leaf, end_leaves, find_home, preceding, seen_above, stands_first,
 };
 use crate::btree::removal::{remove_below, shrink_root};
 use crate::btree::searching::{MAX_ASKS, search_below};
@@ -73,7 +73,7 @@ impl<T: Drop> BoxStorage<T> {
                 index: edge.index - 1,
             };
         }
-        around_leaf(&self.nodes, self.levels - 1, self.root, edge).0
+        find_home(&self.nodes, self.levels - 1, self.root, edge)
     }
 
     // The edge after the last item that passes the probe's test, which holds on a front of them
