@@ -1,11 +1,10 @@
 //! A map from ranges of keys to values.
 ghost use Rattle.std.specs.Prelude.{◌≡◌, ◌+◌, [], length, IfSome};
 ghost use Rattle.std.specs.Option.{option_copied, option_map};
-ghost use Rattle.range_runs.specs.Canonical.{IsCanonical};
 ghost use Rattle.range_runs.specs.Stored.{IsStored};
 ghost use Rattle.range_keys.specs.Order.{IsComplete};
 ghost use Rattle.range_store.specs.Counting.{AddsSteps};
-ghost use Rattle.range_runs.specs.Bindings.{Binds, IsItemFor, IsStoredFor, IsLeastCount};
+ghost use Rattle.range_runs.specs.Bindings.{Binds, IsCoarse, IsItemFor, IsStoredFor, IsOnlyCoarse, IsLeastCount};
 ghost use Rattle.range_reads.specs.Iteration.{shown_item};
 
 mod append;
@@ -110,8 +109,7 @@ impl<K: PartialEnum, V: Eq + Drop, C: Storage<Item<AnyRange<K>, V>>> RangeMap<K,
 
     /// Does nothing, and promises the form of what is stored.
     pub(crate) fn in_form(&self)
-        ensures stored { IsStored K.order V.eq (C.items self.now) }
-        ensures canonical { IsCanonical K.order V.eq (C.items self.now) }
+        ensures { IsStored K.order V.eq (C.items self.now) }
     {
         let _alloc = self.alloc;
     }
@@ -205,7 +203,9 @@ impl<K: PartialEnum, V: Eq + Drop, C: Storage<Item<AnyRange<K>, V>>> RangeMap<K,
     /// ```
     pub fn iter(&self) -> Iter<'_, K, V, C>
         ensures items { result ≡ C.items self.now }
-        ensures canonical { IsCanonical K.order V.eq result }
+        ensures form { IsStored K.order V.eq result }
+        ensures coarse { IsComplete K.order → IsCoarse K.order V.eq result }
+        ensures only { IsComplete K.order → IsOnlyCoarse K.order V.eq result }
     {
         self.in_form();
         Iter::new(&self.stored)

@@ -1,6 +1,5 @@
 pub mod Answers
 pub mod Bindings
-pub mod Canonical
 pub mod Chains
 pub mod Clones
 pub mod Common

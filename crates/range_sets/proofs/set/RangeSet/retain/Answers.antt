@@ -16,7 +16,7 @@ pub returns : goal.returns
 returns g c =
     let items = g.C.Storage.items in
     record {
-      canonical = c.retain.ensures.canonical;
+      form = c.retain.ensures.form;
       few = rw (← c.self.view_is) c.retain.ensures.few;
       space = rw (← c.self.view_is) c.retain.ensures.space;
       filtered =
