@@ -3,7 +3,6 @@
 import hashlib
 import pathlib
 import shutil
-import subprocess
 import sys
 import tempfile
 

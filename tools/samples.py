@@ -1,6 +1,5 @@
 """Runs of the programs on small data, with each command beside what the program replies."""
 
-import itertools
 import contextlib
 import os
 import pathlib
