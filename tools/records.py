@@ -84,6 +84,13 @@ def without_members(text):
     return head + "".join(it for it in parts if not it.startswith("ghost")), [it for it in parts if it.startswith("ghost")]
 
 
+def seen_above(text):
+    """Returns a struct as crates above know it, without private fields, which no contract names. What std derives of them may tell of them."""
+    if {*re.findall(r"\w+", " ".join(re.findall(r"#\[derive\(([^)]*)\)\]", text)))} - {"Drop", "Debug"}:
+        return text
+    return re.sub(r"^    (?!pub |//|#)\S.*\n(?:     +.*\n)*", "", text, flags=re.M)
+
+
 def members_of(trait, members):
     """Gives with each ghost member of a trait the members of which a text has to speak to rest on it: itself, where it is a value.
     A law, which no other member and no method names, says something of those values that it names."""
@@ -212,6 +219,7 @@ class Sources:
             if kind != "impl":
                 # An alias stands for its type; to the crates above what that is made of, as a map's container, is known by contracts.
                 afar = Part(name, kept, (), kept.partition("=")[2].partition("<")[0]) if kind == "type" else None
+                afar = part(name, seen_above(kept)) if kind == "struct" else afar
                 self.items[name].append((crate, part(name, kept), afar))
                 if kind in ("struct", "enum", "trait"):
                     self.types.add(name)
