@@ -1,0 +1,19 @@
+# Completion of cidr for bash: commands, then the options of each, and files.
+_cidr() {
+  local word=${COMP_WORDS[COMP_CWORD]} options="--strict --skip-bad --help"
+  if [ "$COMP_CWORD" = 1 ]; then
+    COMPREPLY=($(compgen -W "merge common invert except diff count split compare has help --help" -- "$word"))
+    return
+  fi
+  case ${COMP_WORDS[1]} in
+    merge | common | invert | diff) options="$options --v4 --v6 --ranges --single --json" ;;
+    except) options="$options --v4 --v6 --ranges --single --json --from" ;;
+    split) options="$options --v4 --v6 --at" ;;
+    count) options="$options --v4 --v6" ;;
+  esac
+  case $word in
+    -*) COMPREPLY=($(compgen -W "$options" -- "$word")) ;;
+    *) COMPREPLY=($(compgen -f -- "$word")) ;;
+  esac
+}
+complete -F _cidr cidr
