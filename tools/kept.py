@@ -58,7 +58,7 @@ def offer(folder, names):
             out = pathlib.Path(folder).resolve() / "crates" / name / "out" / "rlib"
             stamp = crates[name].stamp()
             is_there = (out / "stamp").exists() and (out / "stamp").read_text() == stamp
-            if not is_there and name not in lacking and not crates[name].is_program:
+            if not is_there and name not in lacking and os.path.isdir(crates[name].rlib):
                 shutil.rmtree(out, ignore_errors=True)
                 shutil.copytree(crates[name].rlib, out / f"{name}.rlib", copy_function=rt.link_or_copy)
                 # A check takes a library for built where the sum stands beside it, so that is written last.
