@@ -74,9 +74,6 @@ pub fn starts_before<K: Measure, R: AsRange<Item = K>>(first: &AnyRange<K>, seco
         ↔ Lt (position_cmp K.order.cmp) (lower K.order first.now)
         (lower K.order (R.range second.now)) }
 {
-    if let (Bound::Included(start), Bound::Included(other)) = (&first.start, second.start()) {
-        return *start < *other;
-    }
     Directed::Start(first.start_bound()) < Directed::Start(second.start())
 }
 
@@ -88,11 +85,7 @@ pub fn ends_after<K: Measure, R: AsRange<Item = K>>(first: &AnyRange<K>, second:
 {
     inner::known(first);
     inner::known_range(second);
-    let other = second.end();
-    if let (Bound::Excluded(end), Bound::Excluded(key)) = (&first.end, other) {
-        return *key < *end;
-    }
-    match flip(other) {
+    match flip(second.end()) {
         None => false,
         Some(start) => Directed::Start(start) <= Directed::End(first.end_bound()),
     }

@@ -4,7 +4,6 @@ pub mod Building
 pub mod Contents
 pub mod Descending
 pub mod Edges
-pub mod EndLeaves
 pub mod Front
 pub mod Growing
 pub mod InLeaf
