@@ -6,7 +6,7 @@
 //! - the shipped keys: `src/{unsigned,signed,characters}.rt`, one family of laws in
 //!   `specs/Counted.antt`
 //! - custom key types from an index: `specs/Indexed.antt`; an example in
-//!   `access/specs/Ports.antt`, `access/src/port.rt`
+//!   `tour/specs/Ports.antt`, `tour/src/access/port.rt`
 //! - keys without neighbours and ends: `specs/Untold.antt`; examples in `odd_keys/src/blind.rt`,
 //!   `odd_keys/src/fraction/keys.rt`
 //! - where a bound lies: `src/inner/position.rt`, `specs/Position.antt`
