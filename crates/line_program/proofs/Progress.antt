@@ -20,17 +20,6 @@ module _ {S : Type 0} (Answers : S → List ℕ → List ℕ → S → Type 0) (
         → Conversation Answers state remaining more rest last
         → Conversation Answers first input (written ++ more) rest last
 
-  pub answered_none : (input known : Option (List ℕ))
-      → IfSome input (λ bytes. HasAnswered bytes input known known first)
-  answered_none None known = tt
-  answered_none (Some bytes) known = record {
-    remaining = bytes;
-    left_is = refl;
-    written = [];
-    appended = appends_none known;
-    goes_on = λ more rest last held. held;
-  }
-
   -- one more line is answered
   pub line_answered : (input left later before now next : Option (List ℕ)) (state changed : S)
       → IfSome input (λ bytes. HasAnswered bytes left before now state)

@@ -1,9 +1,9 @@
 -- A range holds the keys whose positions lie from its start to its end.
-use Rattle.std.proofs.Common.{◌≡◌, refl, sym, ap, ◌∙◌, ◌↔◌, Option, Some, true, false, arith}
+use Rattle.std.proofs.Common.{◌≡◌, refl, sym, ap, ◌∙◌, ◌↔◌, Option, Some, None, true, false, arith}
 use Rattle.std.specs.declared.ops.Bound.{Bound}
 use Rattle.std.specs.declared.ops.Bound.TheVariants.{Excluded}
 use Rattle.std.specs.declared.cmp.Ordering.{Ordering}
-use Rattle.std.specs.Ordering.{is_gt}
+use Rattle.std.specs.Ordering.{is_ge, is_gt, is_le, is_lt}
 use Rattle.std.specs.Range.Bound.{bounds_contain}
 use Rattle.std.specs.Cmp.{upto}
 use Rattle.range_keys.specs.Order.{KeyOrder, IsLawful, Below, NotAbove, Tells}
@@ -43,6 +43,30 @@ module _ {K : Type 0} (order : KeyOrder K) (lawful : IsLawful order) where
   pub end_holds : (b : Bound K) (k : K) → order.is_key k → EndHolds order b k
       ↔ is_gt (position_cmp order.cmp (Beside k At) (end_position order b)) ≡ false
   end_holds b k key = grind (arith, end_told)
+
+  told_end_before : (b k : K) (o : Option K) → order.pred b ≡ o → order.is_key k
+      → is_lt (position_cmp order.cmp (at_told o (Beside b Before)) (Beside k At))
+      ≡ is_le (order.cmp b k)
+  told_end_before b k None e key = grind arith
+  told_end_before b k (Some a) e key = grind (arith, not_after, pred_below)
+
+  -- an excluded end lies before the keys that are not below its own
+  pub excluded_end_before : (b k : K) → order.is_key k
+      → is_lt (position_cmp order.cmp (end_position order (Excluded b)) (Beside k At))
+      ≡ is_le (order.cmp b k)
+  excluded_end_before b k key = told_end_before b k (order.pred b) refl key
+
+  past_told_end : (b k : K) (o : Option K) → order.pred b ≡ o → order.is_key k
+      → is_gt (position_cmp order.cmp (Beside k At) (at_told o (Beside b Before)))
+      ≡ is_ge (order.cmp k b)
+  past_told_end b k None e key = grind arith
+  past_told_end b k (Some a) e key = grind (arith, not_after, pred_below)
+
+  -- and the keys that are not below its own lie past it
+  pub past_excluded_end : (b k : K) → order.is_key k
+      → is_gt (position_cmp order.cmp (Beside k At) (end_position order (Excluded b)))
+      ≡ is_ge (order.cmp k b)
+  past_excluded_end b k key = past_told_end b k (order.pred b) refl key
 
   -- the position of a held key lies from the start to the end
   pub holds_by_position : (r : AnyRange K) (k : K) → order.is_key k → Holds order r k

@@ -82,6 +82,9 @@ pub fn starts_at_end<T: PartialEnum>(end: Bound<&T>, start: Bound<&T>) -> bool
         ≡ starts_at_end T.order (bound_of end.entry)
         (start_position T.order (bound_of start.entry)) }
 {
+    if let (Bound::Excluded(end), Bound::Included(start)) = (end, start) {
+        return *end == *start;
+    }
     let flipped = match end {
         Bound::Included(key) => Bound::Excluded(key),
         Bound::Excluded(key) => Bound::Included(key),

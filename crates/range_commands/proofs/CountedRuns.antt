@@ -74,17 +74,6 @@ module _ {K : Type 0} {order : KeyOrder K} {V : Type 0} (is_counted : Bool) {lea
     none = takes.none;
   }
 
-  pub lookup_if : LookupTakes order least most items fact before after
-      → LookupTakes order (least_if is_counted least) most items fact before after
-  lookup_if takes = record {
-    counted = λ full. record {
-      at_most = (takes.counted full).at_most;
-      at_least = omega (arith, (takes.counted full).at_least, least_if_most is_counted least);
-    };
-    idle = takes.idle;
-    none = takes.none;
-  }
-
 -- what takes its least steps where its range is not empty, and none where it is
 due_least : (many least before after : ℕ) (empty : Type 0) → (0 < many → 1 ≤ least)
     → empty ⊎ (¬ empty) → ((¬ empty) → TakesAtLeast before after least)

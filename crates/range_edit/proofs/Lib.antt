@@ -5,10 +5,12 @@ pub mod DividedItems
 pub mod Freeing
 pub mod InsertionFrames
 pub mod JoinedItems
+pub mod KeyPlaces
 pub mod Lengths
 pub mod MergedItems
 pub mod OuterBounds
 pub mod OuterRange
+pub mod OuterWindows
 pub mod Planned
 pub mod RangeSides
 pub mod SewnSides

@@ -9,6 +9,7 @@ ghost use Rattle.range_runs.specs.Stored.{IsStored};
 ghost use Rattle.range_store.specs.ListPlaces.{place_before};
 ghost use Rattle.range_edit.specs.Apart.{IsAnswerAt, LiesApart, LiesApartAt};
 ghost use Rattle.range_runs.specs.Lookups.{IsConnectedToSome, IsPutInto};
+ghost use Rattle.range_runs.specs.Window.{IsWindowOf};
 ghost use Rattle.range_edit.specs.Changes.{IsInserted};
 
 use crate::free::put;
@@ -16,7 +17,8 @@ use range_algebra::any::AnyRange;
 use range_algebra::inner::{self, starts_at_end};
 use range_keys::bound::Directed;
 use range_keys::traits::PartialEnum;
-use range_store::storage::{Item, Storage};
+use range_runs::window::{Window, ends_before, starts_past};
+use range_store::storage::{Item, Steps, Storage};
 use std::alloc::AllocFailed;
 use std::ops::{Bound, RangeBounds};
 
@@ -120,6 +122,46 @@ pub fn comes_first<K: PartialEnum, V: Eq + Drop, C: Storage<Item<AnyRange<K>, V>
     } else {
         None
     }
+}
+
+/// The window of a nonempty range that comes after all stored ones or before them, of which it may
+/// touch one. Costs no search.
+#[inline(always)]
+pub fn outer_window<K: PartialEnum, V: Eq + Drop, C: Storage<Item<AnyRange<K>, V>>>(
+    stored: &C,
+    range: &AnyRange<K>,
+) -> Option<Window<C::Position>>
+    requires stored { IsStored K.order V.eq (C.items stored.now) }
+    requires nonempty { ¬ IsEmptyRange K.order range.now }
+    ensures window { IfSome result
+        (λ w. IsWindowOf K.order V.eq C.is_good C.rank C.items stored.now range.now w) }
+    ensures none { IfSome result (λ w. w.count ≡ 0) }
+{
+    inner::known(range);
+    let mut steps = Steps::new();
+    let start = Directed::Start(range.start_bound());
+    let last = stored.last()?;
+    if ends_before::<K, V>(stored.get(last), &start, &mut steps) {
+        return Some(Window {
+            before: Some(last),
+            from: None,
+            count: 0,
+            last: None,
+            after: None,
+        });
+    }
+    let end = Directed::End(range.end_bound());
+    let first = stored.first()?;
+    if starts_past::<K, V>(stored.get(first), &end, &mut steps) {
+        return Some(Window {
+            before: None,
+            from: Some(first),
+            count: 0,
+            last: None,
+            after: Some(first),
+        });
+    }
+    None
 }
 
 /// Stores a nonempty range before the item at a position, or after all others, where it touches and

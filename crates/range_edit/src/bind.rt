@@ -9,7 +9,7 @@ ghost use Rattle.range_edit.specs.Plans.{JoinsBefore, JoinsAfter};
 ghost use Rattle.range_edit.specs.Costs.{TakesAtLeast, TakesAsChange};
 ghost use Rattle.range_edit.specs.Changes.{IsInserted};
 
-use crate::append::{comes_first, comes_last, put_apart};
+use crate::append::{comes_first, comes_last, outer_window, put_apart};
 use crate::borders::{Joins, joins_after, joins_before, seam_at};
 use crate::cut::prepare_parts;
 use crate::free::{bind_free, put_merged};
@@ -141,7 +141,7 @@ pub fn bind<K: Measure + Clone, V: Eq + Clone, C: Storage<Item<AnyRange<K>, V>>>
 }
 
 /// Binds each key of a nonempty range to the value: with no search where the range comes before or
-/// after all stored ones.
+/// after all stored ones, also where it touches one.
 pub fn bind_in_order<K: Measure + Clone, V: Eq + Clone, C: Storage<Item<AnyRange<K>, V>>>(
     stored: &mut C,
     range: AnyRange<K>,
@@ -167,5 +167,14 @@ pub fn bind_in_order<K: Measure + Clone, V: Eq + Clone, C: Storage<Item<AnyRange
         return Ok(());
     }
     let mut steps = Steps::new();
+    if let Some(window) = outer_window::<K, V, C>(stored, &range) {
+        let reach = Reach {
+            window,
+            first: None,
+            last: None,
+        };
+        bind_free::<K, V, C>(stored, &reach, Item { key: range, value }, &mut steps)?;
+        return Ok(());
+    }
     bind::<K, V, C>(stored, range, value, &mut steps)
 }

@@ -49,6 +49,7 @@ pub struct Joins<P: Copy> {
 }
 
 /// Whether the first range touches the second. A step.
+#[inline(always)]
 fn touches<K: PartialEnum>(first: &AnyRange<K>, second: &AnyRange<K>, steps: &mut Steps) -> bool
     ensures touching { result
         ≡ starts_at_end K.order first.now.end (start_position K.order second.now.start) }
@@ -59,6 +60,7 @@ fn touches<K: PartialEnum>(first: &AnyRange<K>, second: &AnyRange<K>, steps: &mu
 }
 
 /// The item just before a window, if the range touches it and has an equal value.
+#[inline(always)]
 pub fn joined_before<K: PartialEnum, V: Eq + Drop, C: Storage<Item<AnyRange<K>, V>>>(
     stored: &C,
     window: &Window<C::Position>,
@@ -86,6 +88,7 @@ pub fn joined_before<K: PartialEnum, V: Eq + Drop, C: Storage<Item<AnyRange<K>, 
 }
 
 /// The item just after a window, if the range touches it and has an equal value.
+#[inline(always)]
 pub fn joined_after<K: PartialEnum, V: Eq + Drop, C: Storage<Item<AnyRange<K>, V>>>(
     stored: &C,
     window: &Window<C::Position>,
@@ -114,6 +117,7 @@ pub fn joined_after<K: PartialEnum, V: Eq + Drop, C: Storage<Item<AnyRange<K>, V
 
 /// The item that becomes one with a range where it starts, if the range is bound to the value. It
 /// is the one that reaches out of it there, or else the one that it touches.
+#[inline(always)]
 pub fn joins_before<K: PartialEnum, V: Eq + Drop, C: Storage<Item<AnyRange<K>, V>>>(
     stored: &C,
     reach: &Reach<C::Position>,
@@ -139,6 +143,7 @@ pub fn joins_before<K: PartialEnum, V: Eq + Drop, C: Storage<Item<AnyRange<K>, V
 }
 
 /// The item that becomes one with a range where it ends, if the range is bound to the value.
+#[inline(always)]
 pub fn joins_after<K: PartialEnum, V: Eq + Drop, C: Storage<Item<AnyRange<K>, V>>>(
     stored: &C,
     reach: &Reach<C::Position>,

@@ -74,6 +74,9 @@ pub fn starts_before<K: Measure, R: AsRange<Item = K>>(first: &AnyRange<K>, seco
         ↔ Lt (position_cmp K.order.cmp) (lower K.order first.now)
         (lower K.order (R.range second.now)) }
 {
+    if let (Bound::Included(start), Bound::Included(other)) = (&first.start, second.start()) {
+        return *start < *other;
+    }
     Directed::Start(first.start_bound()) < Directed::Start(second.start())
 }
 
@@ -85,7 +88,11 @@ pub fn ends_after<K: Measure, R: AsRange<Item = K>>(first: &AnyRange<K>, second:
 {
     inner::known(first);
     inner::known_range(second);
-    match flip(second.end()) {
+    let other = second.end();
+    if let (Bound::Excluded(end), Bound::Excluded(key)) = (&first.end, other) {
+        return *key < *end;
+    }
+    match flip(other) {
         None => false,
         Some(start) => Directed::Start(start) <= Directed::End(first.end_bound()),
     }

@@ -116,6 +116,7 @@ pub fn put_merged<K: PartialEnum, V: Eq + Drop, C: Storage<Item<AnyRange<K>, V>>
 
 /// Binds the range of an item, which meets no stored one, to its value. Hands the item back where
 /// there is no memory.
+#[inline(always)]
 pub fn bind_free<K: PartialEnum, V: Eq + Drop, C: Storage<Item<AnyRange<K>, V>>>(
     stored: &mut C,
     reach: &Reach<C::Position>,

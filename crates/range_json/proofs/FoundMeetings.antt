@@ -166,11 +166,6 @@ same_parts (a ∷ xs) (b ∷ ys) x y more rest e n =
     (ap (λ l. a ∷ l) same.0 ∙ ap (λ c. c ∷ ys) heads, same.1)
 same_parts xs ys x y more rest e n = absurd cc
 
--- what is no array is no array of two
-pub no_pair : (d : Data) (ds : Data × Data) → None ≡ as_array d → pair_of d ≡ Some ds → ⊥
-no_pair (array xs) ds none is = none-some xs none
-no_pair d ds none is = none-some ds is
-
 pub same_elements : (found : Result (List Data) JsonError) (ds es : List Data) → found ≡ Ok ds
     → found ≡ Ok es → ds ≡ es
 same_elements found ds es is other = cc

@@ -41,11 +41,6 @@ pub all_values : {X : Type 0} (P : X → Type 0) (all left : List X) → left �
     → AreValuesSoFar P all left → AllByRecursion P all
 all_values P all left none h = h (rw none tt)
 
--- a list without its first is shorter
-pub shorter : {X : Type 0} (left rest : List X) (x : X) → left ≡ x ∷ rest
-    → length rest < length left
-shorter left rest x step = omega (arith, ap length step)
-
 pub on_ok : {A E : Type 0} (r : Result A E) (P : Type 0) → P → OnOk r P
 on_ok (Ok x) P p = p
 on_ok (Err e) P p = tt

@@ -24,38 +24,37 @@ difference_is_distance top a b p q e =
     let ordered : a ≤ℤ b = not_above a b (int_cmp a b) (int_ranks a b) e in
     omega (arith, ints)
 
--- both keys are cast from w bits
-pub wide_difference : (w : Width) (top : ℕ) (a b : ℤ) → top < 2 ^ 64 → SFits w a → SFits w b
-    → IsSigned top a → IsSigned top b → NotAbove (signed_order top) a b
-    → unsigned_abs (to_z w128 (of_z w128 (to_z w128 (of_z w128 (to_z w (of_z w b)))
-    -ℤ to_z w128 (of_z w128 (to_z w (of_z w a))))))
-    ≡ signed_distance top a b
-wide_difference w top a b small fits_a fits_b p q e =
-    let wide_a : SFits w128 a = omega (arith, ints) in
-    let wide_b : SFits w128 b = omega (arith, ints) in
-    let wide : SFits w128 (b -ℤ a) = omega (arith, ints) in
-    simp to_z-of_z (difference_is_distance top a b p q e)
+-- both keys are cast from w bits, in which no other number fits than those up to the greatest key
+module _ (w : Width) (top : ℕ) (small : top < 2 ^ 64) (signed : (z : ℤ) → SFits w z → IsSigned top z)
+    (a b : ℤ) (fits_a : SFits w a) (fits_b : SFits w b) where
+  -- the difference of 128 bits
+  abbrev difference : ℤ
+  difference = to_z w128 (of_z w128 (to_z w (of_z w b))) -ℤ to_z w128 (of_z w128 (to_z w (of_z w a)))
 
-pub difference_fits : (w : Width) (top : ℕ) (a b : ℤ) → top < 2 ^ 64 → SFits w a → SFits w b
-    → IsSigned top a → IsSigned top b
-    → SFits w128 (to_z w128 (of_z w128 (to_z w (of_z w b)))
-    -ℤ to_z w128 (of_z w128 (to_z w (of_z w a))))
-difference_fits w top a b small fits_a fits_b p q =
-    let wide_a : SFits w128 a = omega (arith, ints) in
-    let wide_b : SFits w128 b = omega (arith, ints) in
-    let fits : SFits w128 (b -ℤ a) = omega (arith, ints) in
-    simp to_z-of_z fits
+  wide : SFits w128 a × SFits w128 b × SFits w128 (b -ℤ a)
+  wide =
+      let p = signed a fits_a in
+      let q = signed b fits_b in
+      (omega (arith, ints), omega (arith, ints), omega (arith, ints))
 
-pub difference_is_natural : (w : Width) (top : ℕ) (a b : ℤ) → top < 2 ^ 64 → SFits w a → SFits w b
-    → IsSigned top a → IsSigned top b → NotAbove (signed_order top) a b
-    → let d = to_z w128 (of_z w128 (to_z w128 (of_z w128 (to_z w (of_z w b)))
-    -ℤ to_z w128 (of_z w128 (to_z w (of_z w a))))) in
-    T (non_neg d) × Fits w128 (unsigned_abs d)
-difference_is_natural w top a b small fits_a fits_b p q e =
-    let ordered : a ≤ℤ b = not_above a b (int_cmp a b) (int_ranks a b) e in
-    let wide_a : SFits w128 a = omega (arith, ints) in
-    let wide_b : SFits w128 b = omega (arith, ints) in
-    let fits : SFits w128 (b -ℤ a) = omega (arith, ints) in
-    let natural : T (non_neg (b -ℤ a)) × Fits w128 (unsigned_abs (b -ℤ a)) =
-    (omega (arith, ints), omega (arith, ints)) in
-    simp to_z-of_z natural
+  pub difference_fits : SFits w128 difference
+  difference_fits =
+      let (wide_a, wide_b, fits) = wide in simp to_z-of_z fits
+
+  module _ (ordered : NotAbove (signed_order top) a b) where
+    pub wide_difference : unsigned_abs (to_z w128 (of_z w128 difference)) ≡ signed_distance top a b
+    wide_difference =
+        let (wide_a, wide_b, fits) = wide in
+        simp to_z-of_z
+        (difference_is_distance top a b (signed a fits_a) (signed b fits_b) ordered)
+
+    pub difference_is_natural : let d = to_z w128 (of_z w128 difference) in
+        T (non_neg d) × Fits w128 (unsigned_abs d)
+    difference_is_natural =
+        let le : a ≤ℤ b = not_above a b (int_cmp a b) (int_ranks a b) ordered in
+        let (wide_a, wide_b, fits) = wide in
+        let p = signed a fits_a in
+        let q = signed b fits_b in
+        let natural : T (non_neg (b -ℤ a)) × Fits w128 (unsigned_abs (b -ℤ a)) =
+        (omega (arith, ints), omega (arith, ints)) in
+        simp to_z-of_z natural

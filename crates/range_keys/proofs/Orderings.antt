@@ -40,11 +40,6 @@ greater_or_not Less = inr (λ h. cc)
 greater_or_not Equal = inr (λ h. cc)
 greater_or_not Greater = inl refl
 
-pub less_or_equal : (o : Ordering) → is_gt o ≡ false → (o ≡ Less) ⊎ (o ≡ Equal)
-less_or_equal Less h = inl refl
-less_or_equal Equal h = inr refl
-less_or_equal Greater h = cc
-
 pub not_not_less : (o : Ordering) → ((o ≡ Less → ⊥) → ⊥) → o ≡ Less
 not_not_less Less h = refl
 not_not_less Equal h = absurd (h (λ e. cc))
@@ -54,14 +49,8 @@ not_not_less Greater h = absurd (h (λ e. cc))
 pub less_then_any : (o p : Ordering) → o ≡ Less → ordering_then o p ≡ Less
 less_then_any o p e = rw e refl
 
-pub equal_then_any : (o p : Ordering) → o ≡ Equal → ordering_then o p ≡ p
-equal_then_any o p e = rw e refl
-
 pub equal_then_equal : (o p : Ordering) → o ≡ Equal → p ≡ Equal → ordering_then o p ≡ Equal
 equal_then_equal o p e f = rw (e, f) refl
-
-pub less_then_greater : (o : Ordering) → o ≡ Less → is_gt (ordering_then o Greater) ≡ false
-less_then_greater o e = rw e refl
 
 -- where the second is known
 pub any_then_equal : (o : Ordering) → ordering_then o Equal ≡ o

@@ -138,9 +138,6 @@ module _ {K V W : Type 0} {order : KeyOrder K}
     {next : Option (Bor (AnyRange K) × Bor V)} {ranges : List (Item (AnyRange K) V)}
     {near : Option (Bor (AnyRange K) × Bor W)} {rest : List (Item (AnyRange K) W)}
     (was : IsPass order M items others next ranges near rest) where
-  pub none_left : next ≡ None → M items others ↔ M [] (ahead near rest)
-  none_left e = grind (arith, common_steps)
-
   pub none_right : near ≡ None → M items others ↔ M (ahead next ranges) []
   none_right e = grind (arith, common_steps)
 

@@ -221,12 +221,6 @@ module _ {K : Type 0} (order : KeyOrder K) where
   no_longer (Some i) key (Some v) None rest cut = omega arith
   no_longer (Some i) key (Some v) (Some j) rest cut = omega arith
 
-  used_up : {V : Type 0} (first last : Option (Item (AnyRange K) V))
-      (rest : List (Item (AnyRange K) V)) → IsUsedUp first last
-      → length (option_items last ++ rest) + 1 ≡ length (option_items first ++ rest)
-  used_up None last rest used = absurd (used.0 refl)
-  used_up (Some i) last rest used = rw used.1 (omega arith)
-
   -- a piece after which not both go on at one place, or before which they did, uses one range up
   pub fewer_ranges : {V W : Type 0} {left left_rest : Option (Item (AnyRange K) V)}
       {right right_rest : Option (Item (AnyRange K) W)} (xs : List (Item (AnyRange K) V))

@@ -1,6 +1,6 @@
 -- How often a number stands in a list.
 use Rattle.std.specs.Prelude.{◌≡◌, ◌≢◌, ℕ, zero, suc, ◌+◌, ◌<◌, ◌==◌, true, false, List, [], ◌∷◌, ◌++◌, length, count_by, cond, refl}
-use Rattle.std.proofs.Common.{get_or, arith}
+use Rattle.std.proofs.Common.{arith}
 use Rattle.std.proofs.lemmas.List.Sums.{sum_by-append}
 use Rattle.std.proofs.lemmas.Bool.{eq-eqb, ne_eqb}
 
@@ -31,9 +31,3 @@ occurrences_other k n other = let e : (n == k) ≡ false = ne_eqb n k other in r
 
 pub occurrences_here : (k : ℕ) (xs : List ℕ) → 0 < occurrences k (k ∷ xs)
 occurrences_here k xs = omega (arith, occurrences-cons k k xs, occurrences_itself k)
-
-pub occurrences_at : (xs : List ℕ) (i : ℕ) → i < length xs → 0 < occurrences (get_or xs i 0) xs
-occurrences_at [] i within = absurd (omega arith)
-occurrences_at (x ∷ xs) zero within = occurrences_here x xs
-occurrences_at (x ∷ xs) (suc i) within =
-    omega (arith, occurrences-cons (get_or xs i 0) x xs, occurrences_at xs i (omega arith))

@@ -65,11 +65,6 @@ module _ {T P : Type 0} {items : List T} {is_good : P → Type 0} {rank : P → 
   front_good p none is =
       let at = rw is at before.front_at in (at.0, omega (arith, at.1, none))
 
-  pub front_stands : length run ≡ 0 → front ≡ None → ⊥
-  front_stands none is =
-      let end : place + length run ≡ length items = rw is at before.front_at in
-      omega (arith, end, none, some, before.in_range, before.enough)
-
   pub from_chunk : (p : P) (item : T) (rest : List T) (after : Option P) → length run ≡ 0
       → front ≡ Some p → item ≡ get_or items (rank p) item
       → rest ≡ take (length rest) (drop (rank p + 1) items)

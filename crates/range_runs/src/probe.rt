@@ -26,8 +26,13 @@ impl<'a, K: PartialEnum, V> Probe<Item<AnyRange<K>, V>> for EndsBefore<'a, K> {
     fn ask(&mut self, item: &Item<AnyRange<K>, V>) -> bool {
         self.steps.tick();
         if let Directed::Start(Bound::Included(key)) = self.bound {
-            if let Bound::Included(end) = &item.key.end {
-                return *end < *key;
+            match &item.key.end {
+                Bound::Included(end) => return *end < *key,
+                Bound::Excluded(end) => {
+                    key.known();
+                    return *end <= *key;
+                }
+                Bound::Unbounded => (),
             }
         }
         Directed::End(item.key.end_bound()) < self.bound

@@ -119,6 +119,13 @@ pub fn starts_past<K: PartialEnum, V>(
     ensures counted { AddsSteps steps.old steps.new 1 1 }
 {
     steps.tick();
+    if let (Bound::Included(start), Directed::End(Bound::Excluded(end))) = (
+        &item.key.start,
+        bound,
+    ) {
+        start.known();
+        return *start >= **end;
+    }
     Directed::Start(item.key.start_bound()) > *bound
 }
 

@@ -5,6 +5,7 @@ use Rattle.std.proofs.Math.Nat.{ℕ_set}
 use Rattle.range_tree.specs.Depth.{HasLevels}
 use Rattle.range_nodes.specs.Heap.{Heap, with_item, node_items}
 use Rattle.range_tree.specs.Holding.{box_home, box_items, box_rank, Decided, IsGood, good_item, good_or_not, with_box_item, with_good_item, with_item_as, written_roomy}
+use Rattle.range_tree.specs.EndLeaves.{HasEndLeaves, HasEndLeaves-prop}
 use Rattle.range_tree.specs.Nodes.{items_below, IsRoomy, IsRoomy-prop}
 use Rattle.range_tree.specs.Written.{SameShape, edge_same, place_same}
 use Rattle.range_tree.specs.declared.btree.BoxStorage.{BoxStorage}
@@ -21,47 +22,57 @@ module _ {T : Type 0} {s : BoxStorage T} {edge : Edge} (good : IsGood s edge) wh
       (counted : s.len ≡ length
       (items_below (with_item s.nodes home.node home.index x) s.levels s.root))
       (levelled : HasLevels s.len s.levels)
+      (ended : HasEndLeaves (with_item s.nodes home.node home.index x) s.levels s.root s.ends)
       → ◌≡◌ {A = BoxStorage T}
       (record s {
         nodes = with_item s.nodes home.node home.index x;
         whole = whole;
         counted = counted;
         levelled = levelled;
+        ended = ended;
       }) (with_box_item s edge x)
   same_storage home x at =
       subst (λ h. (whole : IsRoomy (with_item s.nodes h.node h.index x) s.levels s.root)
       (counted : s.len ≡ length
       (items_below (with_item s.nodes h.node h.index x) s.levels s.root))
       (levelled : HasLevels s.len s.levels)
+      (ended : HasEndLeaves (with_item s.nodes h.node h.index x) s.levels s.root s.ends)
       → ◌≡◌ {A = BoxStorage T}
       (record s {
         nodes = with_item s.nodes h.node h.index x;
         whole = whole;
         counted = counted;
         levelled = levelled;
+        ended = ended;
       }) (with_box_item s edge x)) (sym at)
-      (λ whole counted levelled. by_good (good_or_not s edge) whole counted levelled)
+      (λ whole counted levelled ended.
+      by_good (good_or_not s edge) whole counted levelled ended)
     where
       by_good : (decided : Decided s edge)
           (whole : IsRoomy (with_item s.nodes (box_home s edge).node (box_home s edge).index x)
           s.levels s.root) (counted : s.len
           ≡ length (items_below (with_item s.nodes (box_home s edge).node (box_home s edge).index x)
           s.levels s.root)) (levelled : HasLevels s.len s.levels)
+          (ended : HasEndLeaves
+          (with_item s.nodes (box_home s edge).node (box_home s edge).index x) s.levels s.root
+          s.ends)
           → ◌≡◌ {A = BoxStorage T}
           (record s {
             nodes = with_item s.nodes (box_home s edge).node (box_home s edge).index x;
             whole = whole;
             counted = counted;
             levelled = levelled;
+            ended = ended;
           }) (with_item_as s edge decided x)
-      by_good (inr bad) whole counted levelled = absurd (bad good)
-      by_good (inl is) whole counted levelled =
+      by_good (inr bad) whole counted levelled ended = absurd (bad good)
+      by_good (inl is) whole counted levelled ended =
           ap (λ w.
           record s {
             nodes = with_item s.nodes (box_home s edge).node (box_home s edge).index x;
             whole = w;
             counted = counted;
             levelled = levelled;
+            ended = ended;
           })
           (IsRoomy-prop (with_item s.nodes (box_home s edge).node (box_home s edge).index x)
           s.levels s.root whole (with_item_as s edge (inl is) x).whole)
@@ -71,6 +82,7 @@ module _ {T : Type 0} {s : BoxStorage T} {edge : Edge} (good : IsGood s edge) wh
             whole = (with_item_as s edge (inl is) x).whole;
             counted = c;
             levelled = levelled;
+            ended = ended;
           })
           (ℕ_set _ _ counted (with_item_as s edge (inl is) x).counted)
           ∙ ap (λ l.
@@ -80,8 +92,18 @@ module _ {T : Type 0} {s : BoxStorage T} {edge : Edge} (good : IsGood s edge) wh
             counted =
                 (with_item_as s edge (inl is) x).counted;
             levelled = l;
+            ended = ended;
           })
           (has_levels_prop s.len s.levels levelled s.levelled)
+          ∙ ap (λ e.
+          record s {
+            nodes = with_item s.nodes (box_home s edge).node (box_home s edge).index x;
+            whole = (with_item_as s edge (inl is) x).whole;
+            counted = (with_item_as s edge (inl is) x).counted;
+            ended = e;
+          })
+          (HasEndLeaves-prop (with_item s.nodes (box_home s edge).node (box_home s edge).index x)
+          s.levels s.root s.ends ended (with_item_as s edge (inl is) x).ended)
 
   -- the nodes of such a write, and the item in the home
   pub written_at : (home : Home) (x : T) (n : Heap T) → home ≡ box_home s edge
@@ -93,6 +115,11 @@ module _ {T : Type 0} {s : BoxStorage T} {edge : Edge} (good : IsGood s edge) wh
       → n ≡ with_item s.nodes (box_home s edge).node (box_home s edge).index x
       → IsRoomy n s.levels s.root
   roomy_at x n same = rw same (written_roomy s edge good x)
+
+  pub ended_at : (x : T) (n : Heap T)
+      → n ≡ with_item s.nodes (box_home s edge).node (box_home s edge).index x
+      → HasEndLeaves n s.levels s.root s.ends
+  ended_at x n same = rw same (with_good_item s edge good x).ended
 
   pub counted_at : (x : T) (n : Heap T)
       → n ≡ with_item s.nodes (box_home s edge).node (box_home s edge).index x

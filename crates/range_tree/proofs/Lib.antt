@@ -4,6 +4,7 @@ pub mod Building
 pub mod Contents
 pub mod Descending
 pub mod Edges
+pub mod EndLeaves
 pub mod Front
 pub mod Growing
 pub mod InLeaf

@@ -5,6 +5,7 @@ use Rattle.std.specs.Prelude.{min}
 use Rattle.std.proofs.lemmas.List.Edits.{length-remove, get_or-remove_below}
 use Rattle.range_nodes.specs.Heap.{Heap, with_item, node_items}
 use Rattle.range_tree.specs.Edges.{IsEdge, place}
+use Rattle.range_tree.specs.EndLeaves.{HasEndLeaves}
 use Rattle.range_tree.specs.Holding.{box_items, box_room, IsBoxEdge, box_place, box_home, IsGood, good_item, good_then, written_items, with_good_item}
 use Rattle.range_tree.specs.Nodes.{items_below, IsRoomy}
 use Rattle.range_tree.specs.declared.btree.BoxStorage.{BoxStorage}
@@ -36,6 +37,7 @@ module _ {T : Type 0} where
   pub record IsReplaced (s t : BoxStorage T) (g : Edge) (n : Heap T) (left : Edge) : Type 0 where
     pub roomy : IsRoomy n t.levels t.root
     pub many : t.len ≡ length (items_below n t.levels t.root)
+    pub ended : HasEndLeaves t.nodes t.levels t.root t.ends → HasEndLeaves n t.levels t.root t.ends
     pub items_are : items_below n t.levels t.root ≡ remove (box_items s) (box_place s g - 1)
     pub capacity : n.capacity ≡ s.nodes.capacity
     pub edge : IsEdge n (t.levels - 1) t.root left

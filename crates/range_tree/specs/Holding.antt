@@ -7,6 +7,7 @@ use Rattle.std.proofs.lemmas.List.{set_past}
 use Rattle.range_nodes.specs.Heap.{Heap, with_item, node_items, node_children}
 use Rattle.range_tree.specs.Nodes.{items_below, IsRoomy}
 use Rattle.range_tree.specs.Edges.{turn, inside, IsEdge, place, home_of}
+use Rattle.range_tree.specs.EndLeaves.{end_leaves_kept}
 use Rattle.range_store.specs.ListPlaces.{place_before}
 use Rattle.range_nodes.proofs.Heaps.{item_written}
 use Rattle.range_tree.specs.Written.{SameShape, turned, length_same, tree_same, edge_same, place_same, IsHome, home_is, home_item, home_set, home_within, written_shape, tree_once, root_shaped}
@@ -181,6 +182,7 @@ module _ {T : Type 0} (s : BoxStorage T) (edge : Edge) (good : IsGood s edge) wh
         nodes = with_item s.nodes (box_home s edge).node (box_home s edge).index x;
         whole = written_roomy x;
         counted = s.counted ∙ sym (length_same (written_nodes x) s.levels s.root);
+        ended = end_leaves_kept s.nodes (now x) (written_nodes x).children s.ended;
       }
 
   pub good_then : (x : T) {other : Edge} → IsGood s other → IsGood (with_good_item x) other ×

@@ -2,6 +2,7 @@ pub mod Building
 pub mod Contents
 pub mod Depth
 pub mod Edges
+pub mod EndLeaves
 pub mod Falling
 pub mod Frame
 pub mod Holding

@@ -2,6 +2,7 @@
 ghost use Rattle.std.specs.Prelude.{◌≡◌, ◌+◌, ◌-◌, ◌*◌, ◌^◌, ◌<◌, ◌≤◌, ◌++◌, [], length, insert, MatchOption, Some, None};
 ghost use Rattle.std.specs.Option.{ForSome};
 ghost use Rattle.range_tree.specs.Depth.{HasLevels};
+ghost use Rattle.range_tree.specs.EndLeaves.{HasEndLeaves, HasEndLeaves-prop};
 ghost use Rattle.range_tree.specs.Nodes.{items_below, IsRoomy, IsRoomy-prop};
 
 mod building;
@@ -12,7 +13,7 @@ mod searching;
 mod tree;
 
 pub use crate::btree::path::Edge;
-use crate::btree::path::{around_leaf, first_edge, stands_first};
+use crate::btree::path::{EndLeaves, around_leaf, stands_first};
 use crate::btree::searching::MAX_ASKS;
 use range_nodes::nodes::Nodes;
 pub use range_nodes::nodes::{CAPACITY, MAX_LEN, MIN_LEN};
@@ -24,12 +25,14 @@ use std::alloc::{AllocError, Global};
 pub struct BoxStorage<T> {
     nodes: Nodes<T>,
     root: usize,
+    ends: EndLeaves,
     levels: usize,
     len: usize,
     alloc: Global,
     ghost whole: { IsRoomy nodes levels root } by { IsRoomy-prop nodes levels root },
     ghost counted: { len ≡ length (items_below nodes levels root) },
     ghost levelled: { HasLevels len levels },
+    ghost ended: { HasEndLeaves nodes levels root ends } by { HasEndLeaves-prop nodes levels root ends },
 }
 
 impl<T> BoxStorage<T> {
@@ -90,6 +93,14 @@ impl<T: Drop> Storage<T> for BoxStorage<T> {
         BoxStorage {
             nodes: Nodes::new(alloc),
             root: 0,
+            ends: EndLeaves {
+                first: 0,
+                last: Edge {
+                    path: 0,
+                    leaf: 0,
+                    index: 0,
+                },
+            },
             levels: 0,
             len: 0,
             alloc,
@@ -104,7 +115,11 @@ impl<T: Drop> Storage<T> for BoxStorage<T> {
         if self.levels == 0 {
             return None;
         }
-        self.following(first_edge(&self.nodes, self.levels - 1, self.root))
+        Some(Edge {
+            path: 0,
+            leaf: self.ends.first,
+            index: 1,
+        })
     }
 
     fn last(&self) -> Option<Edge> {

@@ -9,6 +9,7 @@
 //! - an edge between two items, as std's B-tree calls it, with the path to it, the steps along
 //!   the list, and where the item before it stands: `src/btree/path.rt`, `specs/Edges.antt`,
 //!   `proofs/Behind.antt`
+//! - the leaves at both ends, which the tree keeps: `specs/EndLeaves.antt`, `proofs/EndLeaves.antt`
 //! - the items after a position that lie together, in a leaf: `proofs/LeafItems.antt`
 //! - how a search goes down: `src/btree/searching.rt`, `proofs/Descending.antt`
 //! - how a node is written or cut: `src/btree/insertion.rt`, `specs/Contents.antt`

@@ -25,7 +25,7 @@ impl<K: Measure + Clone, V: Eq + Clone, C: Storage<Item<AnyRange<K>, V>>> RangeM
     /// or a value where a stored range with another value is cut. After an error the map is as it
     /// was. With room for two ranges more, and clones that never fail, it succeeds. Costs one
     /// search, and a step for each stored range that the range meets or touches. A range before or
-    /// after all stored ones that touches none costs no search.
+    /// after all stored ones costs no search, also where it touches one.
     ///
     /// ```
     /// map.insert(0..=5, 1)?;

@@ -4,6 +4,7 @@ ghost use Rattle.std.specs.Prelude.{◌≡◌, ℕ, suc, ◌+◌, ◌-◌, ◌*�
 ghost use Rattle.range_nodes.specs.Heap.{node_items};
 ghost use Rattle.range_tree.specs.Nodes.{items_below, ShapedBut};
 ghost use Rattle.range_tree.specs.Edges.{turn, inside, seat_of, is_start, IsEdge, place, home_of};
+ghost use Rattle.range_tree.specs.EndLeaves.{AreEndLeaves};
 
 use range_nodes::nodes::{CAPACITY, Nodes};
 
@@ -148,6 +149,28 @@ pub fn end_edge<T: Drop>(nodes: &Nodes<T>, below: usize, number: usize) -> Edge
         leaf,
         path,
         index: nodes.item_count(leaf),
+    }
+}
+
+// The first leaf below a node, and the edge before the items of the last one.
+#[derive(Clone, Copy)]
+pub struct EndLeaves {
+    pub first: usize,
+    pub last: Edge,
+}
+
+// The leaves at both ends below a node. Out of line, since it is rarely called.
+#[inline(never)]
+pub fn end_leaves<T: Drop>(nodes: &Nodes<T>, below: usize, number: usize) -> EndLeaves
+    requires shaped { ShapedBut 1 CAPACITY nodes.now below number }
+    requires deep { below < MAX_LEVELS }
+    ensures { AreEndLeaves nodes.now below number result }
+{
+    let first = first_edge(nodes, below, number);
+    let end = end_edge(nodes, below, number);
+    EndLeaves {
+        first: first.leaf,
+        last: Edge { index: 0, ..end },
     }
 }
 

@@ -9,7 +9,7 @@ use crate::btree::BoxStorage;
 use crate::btree::building::{Layout, build, layout_of};
 use crate::btree::insertion::{Insertion, insert_below};
 use crate::btree::path::{
-    Edge, Home, around_leaf, end_edge, find_home, preceding, seen_above, stands_first,
+    Edge, Home, around_leaf, end_leaves, find_home, preceding, seen_above, stands_first,
 };
 use crate::btree::removal::{remove_below, shrink_root};
 use crate::btree::searching::{MAX_ASKS, search_below};
@@ -25,7 +25,11 @@ impl<T: Drop> BoxStorage<T> {
         if self.levels == 0 {
             return None;
         }
-        Some(end_edge(&self.nodes, self.levels - 1, self.root))
+        let last = self.ends.last;
+        Some(Edge {
+            index: self.nodes.item_count(last.leaf),
+            ..last
+        })
     }
 
     // The edge after the item after an edge.
@@ -109,6 +113,7 @@ impl<T: Drop> BoxStorage<T> {
             None => {
                 self.root = self.nodes.store_leaf(item);
                 self.levels = 1;
+                self.ends = end_leaves(&self.nodes, 0, self.root);
                 self.len = 1;
                 Edge {
                     leaf: self.root,
@@ -140,12 +145,16 @@ impl<T: Drop> BoxStorage<T> {
         let inserted = insert_below(&mut self.nodes, self.levels - 1, self.root, edge, item);
         let Insertion { split, side, edge } = inserted;
         match split {
-            None => edge,
+            None => {
+                self.ends = end_leaves(&self.nodes, self.levels - 1, self.root);
+                edge
+            }
             Some(split) => {
                 self.root = self
                     .nodes
                     .store_branch(self.root, split.middle, split.right);
                 self.levels += 1;
+                self.ends = end_leaves(&self.nodes, self.levels - 1, self.root);
                 seen_above(edge, side)
             }
         }
@@ -164,6 +173,7 @@ impl<T: Drop> BoxStorage<T> {
         let mut items = added.into_iter();
         self.root = build(&mut self.nodes, below, width, count, &mut items);
         self.levels = below + 1;
+        self.ends = end_leaves(&self.nodes, below, self.root);
         self.len = count;
     }
 
@@ -196,6 +206,7 @@ impl<T: Drop> BoxStorage<T> {
         if self.levels == 0 {
             return (taken.item, None);
         }
+        self.ends = end_leaves(&self.nodes, self.levels - 1, self.root);
         (taken.item, Some(shrunk.edge))
     }
 

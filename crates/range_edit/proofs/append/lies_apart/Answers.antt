@@ -1,13 +1,7 @@
-use Rattle.range_edit.proofs.Common.{◌≡◌, ◌∙◌, ap, refl, IsTrue, ◌↔◌, Option, Some, ordering_then, partial_lt, Ordering, Less, Equal, Greater, Excluded, Included, position_cmp, start_position, Lt}
+use Rattle.range_edit.proofs.Common.{◌∙◌, ap, refl, IsTrue, ◌↔◌, Some, Excluded, Included, position_cmp, start_position, Lt}
 use Rattle.range_edit.proofs.ApartRanges.{apart_by_start}
+use Rattle.range_edit.proofs.KeyPlaces.{key_less}
 use Rattle.range_edit.proofs.append.lies_apart.Goals as goal
-
--- a key is less than another by their places
-key_less : {K : Type 0} (partial : K → K → Option Ordering) (a b : K) (o : Ordering)
-    → partial a b ≡ Some o → IsTrue (partial_lt partial a b) ↔ ordering_then o Equal ≡ Less
-key_less partial a b Less e = rw e (λ h. refl, λ h. refl)
-key_less partial a b Equal e = rw e (λ h. cc, λ h. cc)
-key_less partial a b Greater e = rw e (λ h. cc, λ h. cc)
 
 pub returns-in-Excluded-Included : goal.returns-in-Excluded-Included
 returns-in-Excluded-Included g c =

@@ -1,18 +1,16 @@
+use Rattle.std.specs.Prelude.{ℤ}
 use Rattle.std.proofs.Common.{arith, rules, w16, SFits}
 use Rattle.std.proofs.lemmas.Int.{ints}
 use Rattle.range_keys.specs.Signed.{IsSigned}
 use Rattle.range_keys.proofs.Distances.{wide_difference, difference_fits, difference_is_natural}
 use Rattle.range_keys.proofs.signed.I16Measure.distance.Goals as goal
 
+signed : (z : ℤ) → SFits w16 z → IsSigned 32767 z
+signed z fits = (omega (arith, ints), omega (arith, ints))
+
 pub returns : goal.returns
-returns c =
-    let a = c.args.self.now in
-    let b = c.args.other.now in
-    let fits_a : SFits w16 a = search rules in
-    let fits_b : SFits w16 b = search rules in
-    let is_a : IsSigned 32767 a = (omega (arith, ints), omega (arith, ints)) in
-    let is_b : IsSigned 32767 b = (omega (arith, ints), omega (arith, ints)) in
-    wide_difference w16 32767 a b (omega arith) fits_a fits_b is_a is_b c.requires
+returns c = wide_difference w16 32767 (omega arith) signed c.args.self.now c.args.other.now
+    (search rules) (search rules) c.requires
 
 pub overflow_cast-result : goal.overflow_cast-result
 overflow_cast-result c = omega (arith, ints)
@@ -21,21 +19,9 @@ pub overflow_cast-result-2 : goal.overflow_cast-result-2
 overflow_cast-result-2 c = omega (arith, ints)
 
 pub overflow_sub-result : goal.overflow_sub-result
-overflow_sub-result c =
-    let a = c.args.self.now in
-    let b = c.args.other.now in
-    let fits_a : SFits w16 a = search rules in
-    let fits_b : SFits w16 b = search rules in
-    let is_a : IsSigned 32767 a = (omega (arith, ints), omega (arith, ints)) in
-    let is_b : IsSigned 32767 b = (omega (arith, ints), omega (arith, ints)) in
-    difference_fits w16 32767 a b (omega arith) fits_a fits_b is_a is_b
+overflow_sub-result c = difference_fits w16 32767 (omega arith) signed c.args.self.now
+    c.args.other.now (search rules) (search rules)
 
 pub overflow_cast-result-3 : goal.overflow_cast-result-3
-overflow_cast-result-3 c =
-    let a = c.args.self.now in
-    let b = c.args.other.now in
-    let fits_a : SFits w16 a = search rules in
-    let fits_b : SFits w16 b = search rules in
-    let is_a : IsSigned 32767 a = (omega (arith, ints), omega (arith, ints)) in
-    let is_b : IsSigned 32767 b = (omega (arith, ints), omega (arith, ints)) in
-    difference_is_natural w16 32767 a b (omega arith) fits_a fits_b is_a is_b c.requires
+overflow_cast-result-3 c = difference_is_natural w16 32767 (omega arith) signed c.args.self.now
+    c.args.other.now (search rules) (search rules) c.requires

@@ -1,8 +1,12 @@
 use Rattle.std.proofs.Common.{◌≡◌, suc, ◌+◌, ◌-◌, length, refl, ◌∙◌, arith}
 use Rattle.std.specs.List.{insert}
 use Rattle.std.proofs.lemmas.List.Edits.{length-insert}
+use Rattle.range_tree.specs.Depth.{HasLevels}
 use Rattle.range_tree.specs.Holding.{box_items, box_place}
+use Rattle.range_tree.specs.Nodes.{items_below, IsRoomy}
+use Rattle.range_tree.specs.Written.{root_shaped}
 use Rattle.range_tree.proofs.Edges.{path_small}
+use Rattle.range_tree.proofs.EndLeaves.{leaf_keeps_ends}
 use Rattle.range_tree.proofs.InPlace.{IsLeafChange, put_in_leaf}
 use Rattle.range_tree.proofs.Levels.{levels_le}
 use Rattle.range_tree.proofs.RootGrowth.{IsGrown, kept_edge, kept_root, grown_whole, taller_edge, taller_room, taller_root}
@@ -45,7 +49,12 @@ invariant_of-self g c =
     let whole = grown_whole (s.len + 1) (record { tree = put.tree; items_are = put.items_are })
     (omega (arith, more, s.counted)) (omega (arith, more, c.requires.room, put.capacity))
     (omega (arith, more, c.requires.room)) in
-    record { whole = whole.0; counted = whole.1; levelled = whole.2 }
+    record {
+      whole = whole.0;
+      counted = whole.1;
+      levelled = whole.2;
+      ended = leaf_keeps_ends c.put.ensures s.ended;
+    }
 
 pub returns-then-item_count-lt-CAPACITY : goal.returns-then-item_count-lt-CAPACITY
 returns-then-item_count-lt-CAPACITY g c =
@@ -66,6 +75,10 @@ kept g c =
     rw level at (kept_root c.args.self.now.levels c.requires.edge.some
     c.args.self.now.whole.tree (rw c.in-None.is at c.insert_below-inserted.ensures.replaces))
 
+pub end_leaves-self-requires-clause-deep : goal.end_leaves-self-requires-clause-deep
+end_leaves-self-requires-clause-deep g c =
+    tree_is_not_too_deep c.args.self.now.levels c.args.self.now.whole
+
 pub invariant_of-self-in-None : goal.invariant_of-self-in-None
 invariant_of-self-in-None g c =
     let s = c.args.self.now in
@@ -74,7 +87,12 @@ invariant_of-self-in-None g c =
     let capacity = c.insert_below-inserted.ensures.replaces.moved.capacity in
     let whole = grown_whole (s.len + 1) (kept g at.In-None) (omega (arith, more, s.counted))
     (omega (arith, more, c.requires.room, capacity)) (omega (arith, more, c.requires.room)) in
-    record { whole = whole.0; counted = whole.1; levelled = whole.2 }
+    record {
+      whole = whole.0;
+      counted = whole.1;
+      levelled = whole.2;
+      ended = λ some. c.end_leaves-self.ensures;
+    }
 
 pub returns-in-None : goal.returns-in-None
 returns-in-None g c =
@@ -103,18 +121,41 @@ taller g c =
     c.args.self.now.whole.tree (rw c.in-Some.is at c.insert_below-inserted.ensures.replaces)
     c.store_branch-self.ensures)
 
-pub invariant_of-self-in-Some : goal.invariant_of-self-in-Some
-invariant_of-self-in-Some g c =
+grown : (g : Over) (c : After-store_branch-self g)
+    → length (insert (box_items c.args.self.now) (box_place c.args.self.now c.args.edge)
+    c.args.item) ≡ length (box_items c.args.self.now) + 1
+    → IsRoomy c.store_branch-self.new.self (c.args.self.now.levels + 1) c.store_branch-self.result
+    × (c.args.self.now.len + 1
+    ≡ length (items_below c.store_branch-self.new.self (c.args.self.now.levels + 1)
+    c.store_branch-self.result))
+    × HasLevels (c.args.self.now.len + 1) (c.args.self.now.levels + 1)
+grown g c more =
     let s = c.args.self.now in
-    let at = goal.at.invariant_of-self-in-Some g c in
-    let more = longer g at.Start in
     let capacity =
     c.store_branch-self.ensures.capacity
     ∙ c.insert_below-inserted.ensures.replaces.moved.capacity in
-    let whole = grown_whole (s.len + 1) (taller g at.After-store_branch-self)
-    (omega (arith, more, s.counted)) (omega (arith, more, c.requires.room, capacity))
-    (omega (arith, more, c.requires.room)) in
-    record { whole = whole.0; counted = whole.1; levelled = whole.2 }
+    grown_whole (s.len + 1) (taller g c) (omega (arith, more, s.counted))
+    (omega (arith, more, c.requires.room, capacity)) (omega (arith, more, c.requires.room))
+
+pub end_leaves-self-requires-in-Some : goal.end_leaves-self-requires-in-Some
+end_leaves-self-requires-in-Some g c =
+    let at = goal.at.end_leaves-self-requires-in-Some g c in
+    let whole = (grown g at.After-store_branch-self (longer g at.Start)).0 in
+    record {
+      shaped = root_shaped (c.args.self.now.levels + 1) (omega arith) whole.tree;
+      deep = tree_is_not_too_deep (c.args.self.now.levels + 1) whole;
+    }
+
+pub invariant_of-self-in-Some : goal.invariant_of-self-in-Some
+invariant_of-self-in-Some g c =
+    let at = goal.at.invariant_of-self-in-Some g c in
+    let whole = grown g at.After-store_branch-self (longer g at.Start) in
+    record {
+      whole = whole.0;
+      counted = whole.1;
+      levelled = whole.2;
+      ended = λ some. c.end_leaves-self-in-Some.ensures;
+    }
 
 pub seen_above-requires : goal.seen_above-requires
 seen_above-requires g c =

@@ -57,7 +57,8 @@ replaced_so g c =
 pub invariant_of-self : goal.invariant_of-self
 invariant_of-self g c =
     let so = replaced_so g (goal.at.invariant_of-self g c).After-replace_item-item in
-    record { whole = so.roomy; counted = so.many; levelled = c.take_in_leaf-next.new.self.levelled }
+    let t = c.take_in_leaf-next.new.self in
+    record { whole = so.roomy; counted = so.many; levelled = t.levelled; ended = so.ended t.ended }
 
 pub returns : goal.returns
 returns g c =

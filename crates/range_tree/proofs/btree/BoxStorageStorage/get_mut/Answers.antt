@@ -1,6 +1,6 @@
 use Rattle.std.proofs.Common.{refl}
 use Rattle.range_tree.specs.Holding.{good_home}
-use Rattle.range_tree.proofs.Lent.{counted_at, item_home, roomy_at, same_storage, written_at}
+use Rattle.range_tree.proofs.Lent.{counted_at, ended_at, item_home, roomy_at, same_storage, written_at}
 use Rattle.range_tree.proofs.btree.BoxStorageStorage.get_mut.Goals as goal
 
 pub item_mut-requires : goal.item_mut-requires
@@ -13,14 +13,14 @@ invariant_of-self-lent g c w =
     let s = c.args.self.now in
     let same = written_at c.requires c.home-home.result w _ c.home-home.ensures refl in (
       roomy_at c.requires w _ same,
-      (counted_at c.requires w _ same, (s.levelled, tt)),
+      (counted_at c.requires w _ same, (s.levelled, (ended_at c.requires w _ same, tt))),
     )
 
 pub returns : goal.returns
 returns g c = (
   (
     refl,
-    λ w. same_storage c.requires c.home-home.result w c.home-home.ensures _ _ _,
+    λ w. same_storage c.requires c.home-home.result w c.home-home.ensures _ _ _ _,
   ),
   record {
     writes_back = tt;

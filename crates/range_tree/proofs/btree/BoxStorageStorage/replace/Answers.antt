@@ -1,7 +1,7 @@
 use Rattle.std.proofs.Common.{refl}
 use Rattle.range_tree.specs.Holding.{good_home, rank_is, written_items, written_nodes}
 use Rattle.range_tree.specs.Written.{SameShape}
-use Rattle.range_tree.proofs.Lent.{counted_at, good_same, item_home, roomy_at, written_at}
+use Rattle.range_tree.proofs.Lent.{counted_at, ended_at, good_same, item_home, roomy_at, written_at}
 use Rattle.range_tree.proofs.btree.BoxStorageStorage.replace.Goals as goal
 
 pub replace_item-requires : goal.replace_item-requires
@@ -18,6 +18,7 @@ invariant_of-self g c =
       whole = roomy_at c.requires c.args.item c.replace_item.new.self same;
       counted = counted_at c.requires c.args.item c.replace_item.new.self same;
       levelled = s.levelled;
+      ended = ended_at c.requires c.args.item c.replace_item.new.self same;
     }
 
 pub returns-clause-before : goal.returns-clause-before
@@ -43,4 +44,5 @@ returns-clause-positions g c q good =
       whole = c.self-1.given.0;
       counted = c.self-1.given.1.0;
       levelled = c.self-1.given.1.1.0;
+      ended = c.self-1.given.1.1.1.0;
     }) shape refl refl q good
