@@ -9,7 +9,9 @@
 //!   `proofs/Conversations.antt`
 //! - lines cut at a byte, numbers written in digits, a line for each element of a list:
 //!   `src/line.rt`, `specs/{Lines,Listing}.antt`, `proofs/Listing.antt`
+//! - the arguments and the standard streams of a program: `src/streams.rt`
 #![tactic(auto)]
 
 pub mod line;
 pub mod program;
+pub mod streams;
