@@ -36,6 +36,7 @@ pub use Rattle.range_runs.specs.Answers
 pub use Rattle.range_bulk.specs.Appending
 pub use Rattle.range_map.specs.Askable
 pub use Rattle.range_runs.specs.Bindings
+pub use Rattle.range_runs.specs.Canonical
 pub use Rattle.range_runs.specs.Clones as InfallibleClones
 pub use Rattle.range_merge.specs.Combining
 pub use Rattle.range_edit.specs.Costs

@@ -25,7 +25,7 @@ module _ {K : Type 0} (order : KeyOrder K) {V : Type 0} (same : V → V → Bool
       BindOver order same may k (λ free. free ≡ None) commands replies b
 
   -- the list is coarse, no other coarse list has its bindings, and no list with them is shorter
-  pub record IsCanonical (items : List (Item (AnyRange K) V)) (count : ℕ) : Type 0 where
+  pub record IsShortest (items : List (Item (AnyRange K) V)) (count : ℕ) : Type 0 where
     pub coarse : IsCoarse order same items
     pub only : IsOnlyCoarse order same items
     pub least : IsLeastCount order same items count

@@ -6,8 +6,8 @@ use Rattle.range_store.specs.declared.storage.Item.{Item}
 use Rattle.range_algebra.specs.Range.{IsEmptyRange}
 use Rattle.range_runs.specs.Answers.{IsAnswered, MayFail}
 use Rattle.range_map.specs.Rebinding.{AreRebound}
-use Rattle.range_runs.specs.Stored.{IsStored}
 use Rattle.range_runs.specs.Bindings.{Binds, IsBound, IsBoundAfter, IsUnboundAfter}
+use Rattle.range_runs.specs.Canonical.{IsCanonical}
 use Rattle.range_runs.specs.Lookups.{MeetsSome, IsConnectedToSome}
 use Rattle.range_commands.specs.declared.command.Command.{Command}
 use Rattle.range_commands.specs.declared.command.Command.TheVariants.{Insert, InsertDisconnected, Remove, Update, Get, Contains, Intersects, Count}
@@ -25,14 +25,14 @@ module _ {K : Type 0} (order : KeyOrder K) {V : Type 0} (same : V → V → Bool
   pub record IsInsertion (most : ℕ) (items next : List (Item (AnyRange K) V)) (r : AnyRange K)
       (v : V) : Type 0 where
     pub bound : IsBoundAfter order same items next r v
-    pub form : IsStored order same next
+    pub canonical : IsCanonical order same next
     pub few : length next ≤ length items + most
     pub empty : IsEmptyRange order r → next ≡ items
 
   -- what a removal that was not refused makes of a list
   pub record IsRemoval (items next : List (Item (AnyRange K) V)) (r : AnyRange K) : Type 0 where
     pub unbound : IsUnboundAfter order same items next r
-    pub form : IsStored order same next
+    pub canonical : IsCanonical order same next
     pub few : length next ≤ length items + 1
     pub empty : IsEmptyRange order r → next ≡ items
     pub unmet : ¬ MeetsSome order items r → next ≡ items
@@ -47,7 +47,7 @@ module _ {K : Type 0} (order : KeyOrder K) {V : Type 0} (same : V → V → Bool
     pub record IsUpdate (items next : List (Item (AnyRange K) V)) (r : AnyRange K) : Type 0 where
       pub answered : ¬ IsEmptyRange order r → IsAnswered order same may items next r
       pub rebound : AreRebound order same may items next r
-      pub form : IsStored order same next
+      pub canonical : IsCanonical order same next
       pub empty : IsEmptyRange order r → next ≡ items
 
   -- over what the closure may answer with each tag

@@ -52,6 +52,7 @@ pub use Rattle.range_runs.proofs.Tests.{not_both}
 pub use Rattle.range_edit.proofs.UpdatedLists.{updated_stands}
 pub use Rattle.range_runs.specs.Answers.{Answered, FailsAt, IsAnswered, IsAsAnswered, IsUpdated, MayAnswer, MayFail, piece_of}
 pub use Rattle.range_runs.specs.Bindings.{AreAlike, AreDisjoint, BindAlike, Binds, BindsTo, IsBound, IsBoundAfter, IsCoarse, IsLeastCount, IsOnlyCoarse, IsSomeOf, IsUnboundAfter}
+pub use Rattle.range_runs.specs.Canonical.{IsCanonical}
 pub use Rattle.range_runs.specs.Chains.{Follows, IsChain, Line, line_of}
 pub use Rattle.range_runs.specs.Frames.{IsInsertionFrame, IsMergedInto}
 pub use Rattle.range_runs.specs.Lookups.{BindsAllOf, IsPutInto, MeetAlso, MeetsSome, Overlap}

@@ -1,6 +1,6 @@
 -- Answers to the values of a list, put one after the other.
 use Rattle.std.proofs.Common.{◌≡◌, sym, ◌∙◌, ◌↔◌, inl, inr, Bool, Option, None, Result, Ok, List, [], ◌∷◌, ◌++◌, append_assoc}
-use Rattle.range_map.proofs.Common.{arith, common_steps, Shared, FnReturnsAt, AllZip, IsEquivalence, Equal, Bor, KeyOrder, IsLawful, position_cmp, Position, IsRangeClone, bound_clone, range_clone, same_start, Any, Every, Holds, HoldSame, IsKnownRange, AnyRange, Item, Binds, IsBound, IsSomeOf, IsStored, item_lower, item_upper, equal_is_same, nonempty_good, binds_bound, appended, eq_le, eq_ge, le_trans, lt_le_trans, le_lt_trans}
+use Rattle.range_map.proofs.Common.{append-nil, arith, common_steps, Shared, FnReturnsAt, AllZip, IsEquivalence, Equal, Bor, KeyOrder, IsLawful, position_cmp, Position, IsRangeClone, bound_clone, range_clone, same_start, Any, Every, Holds, HoldSame, IsKnownRange, AnyRange, Item, Binds, IsBound, IsSomeOf, IsStored, item_lower, item_upper, equal_is_same, nonempty_good, binds_bound, appended, eq_le, eq_ge, le_trans, lt_le_trans, le_lt_trans}
 use Rattle.range_runs.proofs.CutParts.{same_past}
 use Rattle.range_map.specs.MappedValues.{AnswersItem, AreAnswered, AreMapped, IsAnsweredEach, IsMappedAt}
 use Rattle.range_bulk.proofs.JoinedItems.{IsBuilt, RisesFrom, built_more, first_alone, stored_rises}
@@ -53,6 +53,16 @@ module _ {K : Type 0} (order : KeyOrder K) {F V W E : Type 0}
         grind (arith, common_steps, zip_first);
     says = says;
   }
+
+  -- where nothing is left, each item has its answer
+  pub all_answered : {left : List (Item (AnyRange K) V)} {built : List (Item (AnyRange K) W)}
+      → left ≡ [] → IsMappedUpTo left built → IsAnsweredEach order calls f same items built
+  all_answered none was =
+      record {
+        answers = was.answers;
+        given = rw (← was.parted, none, append-nil was.done) was.given;
+        bound = was.form.bound;
+      }
 
   module _ (lawful : IsLawful order) (equal : IsEquivalence same) where
     -- one answer more

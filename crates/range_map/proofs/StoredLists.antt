@@ -1,6 +1,6 @@
 -- Lists of the map's form are coarse over complete keys, and equal exactly where they bind every
 -- key alike.
-use Rattle.range_map.proofs.Common.{arith, common_steps, ◌≡◌, refl, sym, ap, ◌∙◌, List, [], ◌∷◌, length, ◌↔◌, Bool, IsTrue, Some, Ordering, Equal, is_eq, eq_by_cmp, IsEquivalence, IsTotalOrder, Equal-is, alike_right, first_so, second_so, KeyOrder, IsLawful, IsComplete, Holds, IsKnownRange, IsEmptyRange, IsKeyless, AnyRange, Every, and_from, Item, IsBound, BindsTo, BindAlike, IsCoarse, AreAlike, IsOnlyCoarse, IsLeastCount, IsStored, same_list, list_cmp, lists_tied, lists_order, empty_is_keyless, same_is_equal, equal_is_same, binds_bound, nonempty_holds}
+use Rattle.range_map.proofs.Common.{arith, common_steps, ◌≡◌, refl, sym, ap, ◌∙◌, List, [], ◌∷◌, length, ◌↔◌, Bool, IsTrue, Some, Ordering, Equal, is_eq, eq_by_cmp, IsEquivalence, IsTotalOrder, Equal-is, alike_right, first_so, second_so, KeyOrder, IsLawful, IsComplete, Holds, IsKnownRange, IsEmptyRange, IsKeyless, AnyRange, Every, and_from, Item, IsBound, BindsTo, BindAlike, IsCoarse, AreAlike, IsOnlyCoarse, IsLeastCount, IsStored, IsCanonical, same_list, list_cmp, lists_tied, lists_order, empty_is_keyless, same_is_equal, equal_is_same, binds_bound, nonempty_holds}
 use Rattle.range_algebra.proofs.Meeting.{not_greater}
 use Rattle.range_bulk.proofs.BoundKeys.{bound_value, bound_to_equal, bound_by, binds_by}
 use Rattle.range_map.proofs.Coarse.{coarse_alike, coarse_shortest}
@@ -43,15 +43,26 @@ module _ {K : Type 0} {order : KeyOrder K} (lawful : IsLawful order) {V : Type 0
 
 module _ {K : Type 0} {order : KeyOrder K} (lawful : IsLawful order) {V : Type 0}
     {same_value : V → V → Bool} (values : IsEquivalence same_value) where
-  pub stored_only : (items : List (Item (AnyRange K) V)) → IsStored order same_value items
+  stored_only : (items : List (Item (AnyRange K) V)) → IsStored order same_value items
       → IsComplete order → IsOnlyCoarse order same_value items
   stored_only items stored complete others =
       coarse_alike lawful values items others (stored_coarse lawful items stored complete)
 
-  pub stored_least : (items : List (Item (AnyRange K) V)) → IsStored order same_value items
+  stored_least : (items : List (Item (AnyRange K) V)) → IsStored order same_value items
       → IsComplete order → IsLeastCount order same_value items (length items)
   stored_least items stored complete others alike =
       coarse_shortest lawful values items others (stored_coarse lawful items stored complete) alike
+
+  -- the map's form is the one that every call leaves
+  pub stored_canonical : (items : List (Item (AnyRange K) V)) → IsStored order same_value items
+      → IsCanonical order same_value items
+  stored_canonical items stored =
+      record {
+        stored = stored;
+        coarse = stored_coarse lawful items stored;
+        only = stored_only items stored;
+        least = stored_least items stored;
+      }
 
   alike_equal : IsComplete order → (items others : List (Item (AnyRange K) V))
       → IsStored order same_value items → IsStored order same_value others

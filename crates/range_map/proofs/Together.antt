@@ -1,5 +1,5 @@
 -- Two lists of ranges in one pass over both: what the first ranges say of all.
-use Rattle.range_map.proofs.Common.{common_steps, ◌≡◌, ◌<◌, ◌↔◌, inl, inr, Bool, Option, Some, None, List, [], ◌∷◌, ◌++◌, length, arith, MatchOption, option_map, Bor, KeyOrder, IsLawful, position_cmp, Le, Any, Every, IsEmptyRange, LiesBefore, AnyRange, any_none, Item, shown_item, MeetsSome, LiesIn, IsStored, MeetNowhere, LieInside, le_trans, lt_le, lt_not_le, lt_le_trans}
+use Rattle.range_map.proofs.Common.{common_steps, ◌≡◌, ◌<◌, ◌↔◌, inl, inr, Bool, Option, Some, None, List, [], ◌∷◌, ◌++◌, length, arith, MatchOption, option_map, Bor, KeyOrder, IsLawful, Any, Every, IsEmptyRange, LiesBefore, AnyRange, any_none, Item, shown_item, MeetsSome, LiesIn, IsStored, MeetNowhere, LieInside, le_trans, lt_not_le, lt_le_trans}
 use Rattle.range_bulk.proofs.Ascending.{IsAscending, before_rest, before_through, stored_ascends, within}
 use Rattle.range_runs.specs.Window.{option_items}
 

@@ -11,15 +11,15 @@ ghost use Rattle.range_runs.specs.Stored.{IsStored};
 
 use range_keys::traits::PartialEnum;
 
-/// Canonical lists with the same bindings are alike, over every lawful key.
+/// Coarse lists with the same bindings are alike, over every lawful key.
 pub fn coarse_lists_are_unique<K: PartialEnum, V: Eq>()
     ensures { (items others : List (Item (AnyRange K) V)) → IsCoarse K.order V.eq items
         → IsCoarse K.order V.eq others → BindAlike K.order V.eq items others
         → AreAlike K.order V.eq items others }
 {}
 
-/// No list with the same bindings, disjoint or not, is shorter than a canonical one, and a
-/// canonical one is disjoint. Over every lawful key.
+/// No list with the same bindings, disjoint or not, is shorter than a coarse one, and a coarse one
+/// is disjoint. Over every lawful key.
 pub fn coarse_lists_are_shortest<K: PartialEnum, V: Eq>()
     ensures shortest { (items others : List (Item (AnyRange K) V)) → IsCoarse K.order V.eq items
         → BindAlike K.order V.eq items others → length items ≤ length others }
@@ -27,8 +27,8 @@ pub fn coarse_lists_are_shortest<K: PartialEnum, V: Eq>()
         → AreDisjoint K.order items }
 {}
 
-/// Over complete keys a list in the form of a map is canonical, and a canonical list of ranges of
-/// keys has that form. Two such lists are equal exactly where they bind every key alike.
+/// Over complete keys a list in the form of a map is coarse, and a coarse list of ranges of keys has
+/// that form. Two such lists are equal exactly where they bind every key alike.
 pub fn stored_lists_are_coarse<K: PartialEnum, V: Eq>()
     ensures coarse { IsComplete K.order → (items : List (Item (AnyRange K) V))
         → IsStored K.order V.eq items → IsCoarse K.order V.eq items }

@@ -1,10 +1,11 @@
 //! A map from ranges of keys to values.
 ghost use Rattle.std.specs.Prelude.{◌≡◌, ◌+◌, [], length, IfSome};
 ghost use Rattle.std.specs.Option.{option_copied, option_map};
+ghost use Rattle.range_runs.specs.Canonical.{IsCanonical};
 ghost use Rattle.range_runs.specs.Stored.{IsStored};
 ghost use Rattle.range_keys.specs.Order.{IsComplete};
 ghost use Rattle.range_store.specs.Counting.{AddsSteps};
-ghost use Rattle.range_runs.specs.Bindings.{Binds, IsCoarse, IsItemFor, IsStoredFor, IsOnlyCoarse, IsLeastCount};
+ghost use Rattle.range_runs.specs.Bindings.{Binds, IsItemFor, IsStoredFor, IsLeastCount};
 ghost use Rattle.range_reads.specs.Iteration.{shown_item};
 
 mod append;
@@ -109,7 +110,8 @@ impl<K: PartialEnum, V: Eq + Drop, C: Storage<Item<AnyRange<K>, V>>> RangeMap<K,
 
     /// Does nothing, and promises the form of what is stored.
     pub(crate) fn in_form(&self)
-        ensures { IsStored K.order V.eq (C.items self.now) }
+        ensures stored { IsStored K.order V.eq (C.items self.now) }
+        ensures canonical { IsCanonical K.order V.eq (C.items self.now) }
     {
         let _alloc = self.alloc;
     }
@@ -203,9 +205,7 @@ impl<K: PartialEnum, V: Eq + Drop, C: Storage<Item<AnyRange<K>, V>>> RangeMap<K,
     /// ```
     pub fn iter(&self) -> Iter<'_, K, V, C>
         ensures items { result ≡ C.items self.now }
-        ensures form { IsStored K.order V.eq result }
-        ensures coarse { IsComplete K.order → IsCoarse K.order V.eq result }
-        ensures only { IsComplete K.order → IsOnlyCoarse K.order V.eq result }
+        ensures canonical { IsCanonical K.order V.eq result }
     {
         self.in_form();
         Iter::new(&self.stored)

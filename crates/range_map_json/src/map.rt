@@ -3,9 +3,9 @@ ghost use Rattle.std.specs.Prelude.{◌≡◌, ◌⊎◌, IfOk, OnOk, IfErr};
 ghost use Rattle.serde_json.specs.View.{view};
 ghost use Rattle.range_algebra.specs.Range.{IsEmptyRange, IsKnownRange};
 ghost use Rattle.range_runs.specs.Bindings.{IsBoundAfter};
+ghost use Rattle.range_runs.specs.Canonical.{IsCanonical};
 ghost use Rattle.range_runs.specs.Frames.{IsInsertionFrame};
 ghost use Rattle.range_runs.specs.Lookups.{MeetsSome, MeetAlso};
-ghost use Rattle.range_runs.specs.Stored.{IsStored};
 ghost use Rattle.range_json.specs.Shapes.{map_shape};
 ghost use Rattle.range_json.specs.MapFaults.{IsMapRead, IsMapFault};
 ghost use Rattle.range_json.specs.Values.{AreItemValues};
@@ -40,7 +40,7 @@ fn insert_element<K: Measure, V: Eq + Drop, C: Storage<Item<AnyRange<K>, V>>>(
         ((¬ IsEmptyRange K.order item.key)
         → IsInsertionFrame K.order V.eq (C.items map.old) (C.items map.new) item.key
         item.value) }
-    ensures form { IsStored K.order V.eq (C.items map.new) }
+    ensures canonical { IsCanonical K.order V.eq (C.items map.new) }
     ensures empty_unchanged { IsEmptyRange K.order item.key → C.items map.new ≡ C.items map.old }
     ensures met { IfErr result
         (λ e. (e ≡ Memory)
@@ -97,7 +97,7 @@ pub fn map_from_json<K: Json + Measure, V: Json + Eq, C: Storage<Item<AnyRange<K
     ensures read { IfOk result
         (λ map. IsMapRead K.order K.reads V.reads K.is_read V.is_read V.eq (view value.now)
         (C.items map)) }
-    ensures form { IfOk result (λ map. IsStored K.order V.eq (C.items map)) }
+    ensures canonical { IfOk result (λ map. IsCanonical K.order V.eq (C.items map)) }
     ensures fault { IfErr result
         (λ e. (e ≡ Memory)
         ⊎ IsMapFault K.order K.reads V.reads K.is_read V.is_read (view value.now) e) }

@@ -3,8 +3,8 @@ ghost use Rattle.std.specs.Prelude.{◌≡◌, ◌⊎◌, Some, None, IfOk, OnOk
 ghost use Rattle.serde_json.specs.View.{view};
 ghost use Rattle.range_algebra.specs.Range.{ClonesAreEqual, IsEmptyRange, IsKnownRange};
 ghost use Rattle.range_runs.specs.Bindings.{IsBoundAfter};
+ghost use Rattle.range_runs.specs.Canonical.{IsCanonical};
 ghost use Rattle.range_runs.specs.Frames.{IsInsertionFrame};
-ghost use Rattle.range_runs.specs.Stored.{IsStored};
 ghost use Rattle.range_map_json.specs.Overwriting.{overwriting_fault, IsMapOverwritten};
 ghost use Rattle.range_json.specs.declared.error.JsonError.TheVariants.{Memory};
 
@@ -32,7 +32,7 @@ fn overwrite_element<K: Measure + Clone, V: Eq + Clone, C: Storage<Item<AnyRange
         ((¬ IsEmptyRange K.order item.key)
         → IsInsertionFrame K.order V.eq (C.items map.old) (C.items map.new) item.key
         item.value) }
-    ensures form { IsStored K.order V.eq (C.items map.new) }
+    ensures canonical { IsCanonical K.order V.eq (C.items map.new) }
 {
     let Item { key, value } = item;
     inner::known(&key);
@@ -63,7 +63,7 @@ pub fn map_from_json_overwriting<
     requires values { ClonesAreEqual V.is_clone V.eq }
     ensures read { IfOk result
         (λ map. IsMapOverwritten K.order K.is_read V.is_read V.eq (view value.now) (C.items map)) }
-    ensures form { IfOk result (λ map. IsStored K.order V.eq (C.items map)) }
+    ensures canonical { IfOk result (λ map. IsCanonical K.order V.eq (C.items map)) }
     ensures sound { OnOk result (overwriting_fault K.reads V.reads (view value.now) ≡ None) }
     ensures fault { IfErr result
         (λ e. (e ≡ Memory)

@@ -2,8 +2,8 @@
 ghost use Rattle.std.specs.Prelude.{◌≡◌, ◌↔◌, [], length, IsTrue, IsNone, IfSome};
 ghost use Rattle.std.specs.Option.{option_copied};
 ghost use Rattle.range_keys.specs.Order.{IsComplete};
-ghost use Rattle.range_runs.specs.Bindings.{Binds, IsOnlyCoarse, IsLeastCount};
-ghost use Rattle.range_runs.specs.Stored.{IsStored};
+ghost use Rattle.range_runs.specs.Bindings.{Binds, IsLeastCount};
+ghost use Rattle.range_runs.specs.Canonical.{IsCanonical};
 ghost use Rattle.range_multimaps.specs.Pairs.{HasNoEmptySet, HasPair, AreValuesAt, IsUnpaired};
 
 mod algebra;
@@ -88,9 +88,8 @@ impl<K: PartialEnum, S: MaybeEmpty, C: Storage<Item<AnyRange<K>, S>>> RangeMulti
 
     /// Does nothing, and promises the form of what is stored.
     fn in_form(&self)
-        ensures form { IsStored K.order S.eq (C.items self.now) }
+        ensures canonical { IsCanonical K.order S.eq (C.items self.now) }
         ensures nonempty { HasNoEmptySet S.is_void (C.items self.now) }
-        ensures only { IsComplete K.order → IsOnlyCoarse K.order S.eq (C.items self.now) }
     {
         // `iter` of the map promises it.
         let _items = self.map.iter();
@@ -131,9 +130,8 @@ impl<K: PartialEnum, S: MaybeEmpty, C: Storage<Item<AnyRange<K>, S>>> RangeMulti
     /// ```
     pub fn iter(&self) -> Iter<'_, K, S, C>
         ensures items { result ≡ C.items self.now }
-        ensures form { IsStored K.order S.eq result }
+        ensures canonical { IsCanonical K.order S.eq result }
         ensures nonempty { HasNoEmptySet S.is_void result }
-        ensures only { IsComplete K.order → IsOnlyCoarse K.order S.eq result }
     {
         self.map.iter()
     }

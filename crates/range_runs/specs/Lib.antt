@@ -1,5 +1,6 @@
 pub mod Answers
 pub mod Bindings
+pub mod Canonical
 pub mod Chains
 pub mod Clones
 pub mod Common

@@ -6,6 +6,7 @@ use Rattle.range_algebra.specs.Range.{Holds}
 use Rattle.range_algebra.specs.declared.any.AnyRange.{AnyRange}
 use Rattle.range_store.specs.declared.storage.Item.{Item}
 use Rattle.range_runs.specs.Bindings.{IsBound}
+use Rattle.range_runs.specs.Canonical.{IsCanonical}
 use Rattle.range_runs.specs.Stored.{IsStored}
 
 module _ {K : Type 0} (order : KeyOrder K) where
@@ -13,6 +14,10 @@ module _ {K : Type 0} (order : KeyOrder K) where
   -- place between
   abbrev pub IsStoredSet : List (Item (AnyRange K) (Unit {0})) → Type 0
   IsStoredSet items = IsStored order (λ _ _. true) items
+
+  -- the form in which every call leaves a set
+  abbrev pub IsCanonicalSet : List (Item (AnyRange K) (Unit {0})) → Type 0
+  IsCanonicalSet items = IsCanonical order (λ _ _. true) items
 
   -- some range of the list holds the key
   abbrev pub SomeHolds : List (AnyRange K) → K → Type 0

@@ -3,7 +3,7 @@ ghost use Rattle.std.specs.Prelude.{OnOk, OnErr};
 ghost use Rattle.std.specs.Iterator.{IsFiniteIterable};
 ghost use Rattle.range_algebra.specs.Range.{ClonesAreEqual};
 ghost use Rattle.range_set_extend.specs.Extending.{AfterAll, AfterSome};
-ghost use Rattle.range_set_extend.specs.KeySets.{HoldsAllAlso, IsStoredSet};
+ghost use Rattle.range_set_extend.specs.KeySets.{HoldsAllAlso, IsCanonicalSet};
 
 use range_algebra::any::AnyRange;
 use range_algebra::range::IntoRange;
@@ -13,7 +13,7 @@ use range_store::storage::{Item, Storage};
 
 /// Does nothing, and promises the form of what is stored.
 fn in_form<T: PartialEnum, C: Storage<Item<AnyRange<T>, ()>>>(set: &RangeMap<T, (), C>)
-    ensures { IsStoredSet T.order (C.items set.now) }
+    ensures { IsCanonicalSet T.order (C.items set.now) }
 {
     // `iter` promises it.
     let _items = set.iter();
@@ -35,7 +35,7 @@ where
     ensures refused { OnErr result
         (AfterSome I.into_iter_gives I.IntoIter.next_gives R.range ranges T.order
         (HoldsAllAlso T.order (C.items set.old) (C.items set.new))) }
-    ensures form { IsStoredSet T.order (C.items set.new) }
+    ensures canonical { IsCanonicalSet T.order (C.items set.new) }
 {
     in_form(set);
     for range in ranges {

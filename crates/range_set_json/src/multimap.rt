@@ -4,9 +4,9 @@ ghost use Rattle.std.specs.BTreeSet.{IsEmpty};
 ghost use Rattle.serde_json.specs.View.{view};
 ghost use Rattle.range_algebra.specs.Range.{IsEmptyRange, IsKnownRange};
 ghost use Rattle.range_runs.specs.Bindings.{IsBoundAfter};
+ghost use Rattle.range_runs.specs.Canonical.{IsCanonical};
 ghost use Rattle.range_runs.specs.Frames.{IsInsertionFrame};
 ghost use Rattle.range_runs.specs.Lookups.{MeetsSome, MeetAlso};
-ghost use Rattle.range_runs.specs.Stored.{IsStored};
 ghost use Rattle.range_multimaps.specs.Pairs.{HasNoEmptySet};
 ghost use Rattle.range_json.specs.Shapes.{map_shape};
 ghost use Rattle.range_json.specs.MapFaults.{IsElementRead, element_fault};
@@ -95,7 +95,7 @@ fn insert_values<K: Measure, S: MaybeEmpty, C: Storage<Item<AnyRange<K>, S>>>(
         ((¬ IsEmptyRange K.order item.key)
         → IsInsertionFrame K.order S.eq (C.items multimap.old) (C.items multimap.new) item.key
         item.value) }
-    ensures form { IsStored K.order S.eq (C.items multimap.new) }
+    ensures canonical { IsCanonical K.order S.eq (C.items multimap.new) }
     ensures empty_unchanged { IsEmptyRange K.order item.key
         → C.items multimap.new ≡ C.items multimap.old }
     ensures met { IfErr result
@@ -130,7 +130,7 @@ pub fn multimap_from_json<
     ensures read { IfOk result
         (λ map. IsMultimapRead K.order K.reads V.reads K.is_read V.is_read V.cmp V.eq
         (view value.now) (C.items map)) }
-    ensures form { IfOk result (λ map. IsStored K.order (same_values V.eq) (C.items map)) }
+    ensures canonical { IfOk result (λ map. IsCanonical K.order (same_values V.eq) (C.items map)) }
     ensures nonempty { IfOk result (λ map. HasNoEmptySet IsEmpty (C.items map)) }
     ensures fault { IfErr result
         (λ e. (e ≡ Memory)

@@ -2,7 +2,7 @@
 ghost use Rattle.std.specs.Prelude.{◌≡◌, ◌⊎◌, Some, None, IfOk, OnOk, IfErr};
 ghost use Rattle.serde_json.specs.View.{view};
 ghost use Rattle.range_algebra.specs.Range.{ClonesAreEqual};
-ghost use Rattle.range_sets.specs.KeySets.{IsStoredSet};
+ghost use Rattle.range_sets.specs.KeySets.{IsCanonicalSet};
 ghost use Rattle.range_json.specs.Shapes.{set_shape};
 ghost use Rattle.range_set_json.specs.Faults.{IsSetRead, set_fault};
 ghost use Rattle.range_json.specs.Values.{AreRangeValues};
@@ -49,7 +49,7 @@ pub fn set_from_json<T: Json + Measure + Clone, C: Storage<Item<AnyRange<T>, ()>
 ) -> Result<RangeSet<T, C>, JsonError>
     requires { ClonesAreEqual T.is_clone T.eq }
     ensures read { IfOk result (λ set. IsSetRead T.is_read T.order (view value.now) (C.items set)) }
-    ensures form { IfOk result (λ set. IsStoredSet T.order (C.items set)) }
+    ensures canonical { IfOk result (λ set. IsCanonicalSet T.order (C.items set)) }
     ensures sound { OnOk result (set_fault T.reads (view value.now) ≡ None) }
     ensures fault { IfErr result
         (λ e. (e ≡ Memory) ⊎ (set_fault T.reads (view value.now) ≡ Some e)) }

@@ -4,9 +4,8 @@ ghost use Rattle.range_keys.specs.Order.{IsComplete};
 ghost use Rattle.range_algebra.specs.Range.{IsEmptyRange};
 ghost use Rattle.range_reads.specs.FreeRanges.{AreGaps, IsHeldOnce, item_ranges};
 ghost use Rattle.range_store.specs.Counting.{AddsSteps};
-ghost use Rattle.range_runs.specs.Bindings.{IsCoarse, IsOnlyCoarse};
 ghost use Rattle.range_runs.specs.Lookups.{MeetsSome, BindsKeyOf};
-ghost use Rattle.range_set_extend.specs.KeySets.{HoldsKey, IsLeastCount, IsStoredSet};
+ghost use Rattle.range_set_extend.specs.KeySets.{HoldsKey, IsCanonicalSet, IsLeastCount, IsStoredSet};
 
 mod algebra;
 mod clear;
@@ -99,7 +98,8 @@ impl<T: PartialEnum, C: Storage<Item<AnyRange<T>, ()>>> RangeSet<T, C> {
 
     /// Does nothing, and promises the form of what is stored.
     pub(crate) fn in_form(&self)
-        ensures { IsStoredSet T.order (C.items self.now) }
+        ensures stored { IsStoredSet T.order (C.items self.now) }
+        ensures canonical { IsCanonicalSet T.order (C.items self.now) }
     {
         // `iter` of the map promises it.
         let _items = self.map.iter();
@@ -174,9 +174,7 @@ impl<T: PartialEnum, C: Storage<Item<AnyRange<T>, ()>>> RangeSet<T, C> {
     /// ```
     pub fn iter(&self) -> Iter<'_, T, C>
         ensures ranges { result ≡ item_ranges (C.items self.now) }
-        ensures form { IsStoredSet T.order (C.items self.now) }
-        ensures coarse { IsComplete T.order → IsCoarse T.order (λ _ _. true) (C.items self.now) }
-        ensures only { IsComplete T.order → IsOnlyCoarse T.order (λ _ _. true) (C.items self.now) }
+        ensures canonical { IsCanonicalSet T.order (C.items self.now) }
     {
         Iter::new(self.map.iter())
     }

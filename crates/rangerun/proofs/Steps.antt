@@ -58,7 +58,7 @@ module _ {K : Type 0} (order : KeyOrder K) {V : Type 0} (same : V → V → Bool
     step_as items (Update r t) Done next step = record {
       answered = λ some. answered_as (few t) (many t) (follows t) items next r (step.answered some);
       rebound = rebound_as (few t) (many t) (follows t) items next r step.rebound;
-      form = step.form;
+      canonical = step.canonical;
       empty = step.empty;
     }
     step_as items (Update r t) (Closure e) next step =

@@ -10,7 +10,7 @@ ghost use Rattle.btree_range_map.specs.Holding.{box_items};
 ghost use Rattle.btree_range_map.specs.Names.{u8_order, u16_order, u32_order, u64_order, usize_order, i8_order, i16_order, i32_order, i64_order, char_order};
 ghost use Rattle.btree_range_map.specs.Range.{ClonesAreEqual};
 ghost use Rattle.btree_range_map.specs.Tagged.{MayBeAskedAll};
-ghost use Rattle.odd_keys.specs.Promises.{IsAdded, IsCanonical};
+ghost use Rattle.odd_keys.specs.Promises.{IsAdded, IsShortest};
 
 use crate::half::Half;
 use crate::only::Only;
@@ -49,7 +49,7 @@ where
     requires values { ClonesAreEqual V.is_clone V.eq }
     requires callable { MayBeAskedAll F.Fn f.now }
     ensures canonical { IfOk result
-        (λ made. IsCanonical K.order V.eq (C.items made.map) made.range_count) }
+        (λ made. IsShortest K.order V.eq (C.items made.map) made.range_count) }
     ensures equal { IfOk result (λ made. IsTrue made.is_equal
         ↔ BindAlike K.order V.eq (C.items made.map) (D.items other.now)) }
 {
@@ -78,7 +78,7 @@ fn numbers_after_commands<K: Complete + Measure + Clone>(
 ) -> Numbers<K>
     requires { ClonesAreEqual K.is_clone K.eq }
     ensures canonical { IfOk result
-        (λ made. IsCanonical K.order int_eq (box_items made.map) made.range_count) }
+        (λ made. IsShortest K.order int_eq (box_items made.map) made.range_count) }
     ensures equal { IfOk result (λ made. IsTrue made.is_equal
         ↔ BindAlike K.order int_eq (box_items made.map) (box_items other.now)) }
 {
@@ -91,7 +91,7 @@ fn numbers_after_commands<K: Complete + Measure + Clone>(
 /// Over a type that has one key.
 pub fn over_only(alloc: Global, commands: Commands<Only>, other: &Map<Only, i64>) -> Numbers<Only>
     ensures canonical { IfOk result
-        (λ made. IsCanonical ⟦<Only as MaybeBounded>⟧.order int_eq (box_items made.map) made.range_count) }
+        (λ made. IsShortest ⟦<Only as MaybeBounded>⟧.order int_eq (box_items made.map) made.range_count) }
     ensures equal { IfOk result (λ made. IsTrue made.is_equal
         ↔ BindAlike ⟦<Only as MaybeBounded>⟧.order int_eq (box_items made.map) (box_items other.now)) }
 {
@@ -101,7 +101,7 @@ pub fn over_only(alloc: Global, commands: Commands<Only>, other: &Map<Only, i64>
 /// Over keys of which several are equal, and whose neighbours are known.
 pub fn over_halves(alloc: Global, commands: Commands<Half>, other: &Map<Half, i64>) -> Numbers<Half>
     ensures canonical { IfOk result
-        (λ made. IsCanonical ⟦<Half as MaybeBounded>⟧.order int_eq (box_items made.map) made.range_count) }
+        (λ made. IsShortest ⟦<Half as MaybeBounded>⟧.order int_eq (box_items made.map) made.range_count) }
     ensures equal { IfOk result (λ made. IsTrue made.is_equal
         ↔ BindAlike ⟦<Half as MaybeBounded>⟧.order int_eq (box_items made.map) (box_items other.now)) }
 {
@@ -110,7 +110,7 @@ pub fn over_halves(alloc: Global, commands: Commands<Half>, other: &Map<Half, i6
 
 pub fn over_u8(alloc: Global, commands: Commands<u8>, other: &Map<u8, i64>) -> Numbers<u8>
     ensures canonical { IfOk result
-        (λ made. IsCanonical u8_order int_eq (box_items made.map) made.range_count) }
+        (λ made. IsShortest u8_order int_eq (box_items made.map) made.range_count) }
     ensures equal { IfOk result (λ made. IsTrue made.is_equal
         ↔ BindAlike u8_order int_eq (box_items made.map) (box_items other.now)) }
 {
@@ -119,7 +119,7 @@ pub fn over_u8(alloc: Global, commands: Commands<u8>, other: &Map<u8, i64>) -> N
 
 pub fn over_u16(alloc: Global, commands: Commands<u16>, other: &Map<u16, i64>) -> Numbers<u16>
     ensures canonical { IfOk result
-        (λ made. IsCanonical u16_order int_eq (box_items made.map) made.range_count) }
+        (λ made. IsShortest u16_order int_eq (box_items made.map) made.range_count) }
     ensures equal { IfOk result (λ made. IsTrue made.is_equal
         ↔ BindAlike u16_order int_eq (box_items made.map) (box_items other.now)) }
 {
@@ -128,7 +128,7 @@ pub fn over_u16(alloc: Global, commands: Commands<u16>, other: &Map<u16, i64>) -
 
 pub fn over_u32(alloc: Global, commands: Commands<u32>, other: &Map<u32, i64>) -> Numbers<u32>
     ensures canonical { IfOk result
-        (λ made. IsCanonical u32_order int_eq (box_items made.map) made.range_count) }
+        (λ made. IsShortest u32_order int_eq (box_items made.map) made.range_count) }
     ensures equal { IfOk result (λ made. IsTrue made.is_equal
         ↔ BindAlike u32_order int_eq (box_items made.map) (box_items other.now)) }
 {
@@ -137,7 +137,7 @@ pub fn over_u32(alloc: Global, commands: Commands<u32>, other: &Map<u32, i64>) -
 
 pub fn over_u64(alloc: Global, commands: Commands<u64>, other: &Map<u64, i64>) -> Numbers<u64>
     ensures canonical { IfOk result
-        (λ made. IsCanonical u64_order int_eq (box_items made.map) made.range_count) }
+        (λ made. IsShortest u64_order int_eq (box_items made.map) made.range_count) }
     ensures equal { IfOk result (λ made. IsTrue made.is_equal
         ↔ BindAlike u64_order int_eq (box_items made.map) (box_items other.now)) }
 {
@@ -150,7 +150,7 @@ pub fn over_usize(
     other: &Map<usize, i64>,
 ) -> Numbers<usize>
     ensures canonical { IfOk result
-        (λ made. IsCanonical usize_order int_eq (box_items made.map) made.range_count) }
+        (λ made. IsShortest usize_order int_eq (box_items made.map) made.range_count) }
     ensures equal { IfOk result (λ made. IsTrue made.is_equal
         ↔ BindAlike usize_order int_eq (box_items made.map) (box_items other.now)) }
 {
@@ -159,7 +159,7 @@ pub fn over_usize(
 
 pub fn over_i8(alloc: Global, commands: Commands<i8>, other: &Map<i8, i64>) -> Numbers<i8>
     ensures canonical { IfOk result
-        (λ made. IsCanonical i8_order int_eq (box_items made.map) made.range_count) }
+        (λ made. IsShortest i8_order int_eq (box_items made.map) made.range_count) }
     ensures equal { IfOk result (λ made. IsTrue made.is_equal
         ↔ BindAlike i8_order int_eq (box_items made.map) (box_items other.now)) }
 {
@@ -168,7 +168,7 @@ pub fn over_i8(alloc: Global, commands: Commands<i8>, other: &Map<i8, i64>) -> N
 
 pub fn over_i16(alloc: Global, commands: Commands<i16>, other: &Map<i16, i64>) -> Numbers<i16>
     ensures canonical { IfOk result
-        (λ made. IsCanonical i16_order int_eq (box_items made.map) made.range_count) }
+        (λ made. IsShortest i16_order int_eq (box_items made.map) made.range_count) }
     ensures equal { IfOk result (λ made. IsTrue made.is_equal
         ↔ BindAlike i16_order int_eq (box_items made.map) (box_items other.now)) }
 {
@@ -177,7 +177,7 @@ pub fn over_i16(alloc: Global, commands: Commands<i16>, other: &Map<i16, i64>) -
 
 pub fn over_i32(alloc: Global, commands: Commands<i32>, other: &Map<i32, i64>) -> Numbers<i32>
     ensures canonical { IfOk result
-        (λ made. IsCanonical i32_order int_eq (box_items made.map) made.range_count) }
+        (λ made. IsShortest i32_order int_eq (box_items made.map) made.range_count) }
     ensures equal { IfOk result (λ made. IsTrue made.is_equal
         ↔ BindAlike i32_order int_eq (box_items made.map) (box_items other.now)) }
 {
@@ -186,7 +186,7 @@ pub fn over_i32(alloc: Global, commands: Commands<i32>, other: &Map<i32, i64>) -
 
 pub fn over_i64(alloc: Global, commands: Commands<i64>, other: &Map<i64, i64>) -> Numbers<i64>
     ensures canonical { IfOk result
-        (λ made. IsCanonical i64_order int_eq (box_items made.map) made.range_count) }
+        (λ made. IsShortest i64_order int_eq (box_items made.map) made.range_count) }
     ensures equal { IfOk result (λ made. IsTrue made.is_equal
         ↔ BindAlike i64_order int_eq (box_items made.map) (box_items other.now)) }
 {
@@ -195,7 +195,7 @@ pub fn over_i64(alloc: Global, commands: Commands<i64>, other: &Map<i64, i64>) -
 
 pub fn over_char(alloc: Global, commands: Commands<char>, other: &Map<char, i64>) -> Numbers<char>
     ensures canonical { IfOk result
-        (λ made. IsCanonical char_order int_eq (box_items made.map) made.range_count) }
+        (λ made. IsShortest char_order int_eq (box_items made.map) made.range_count) }
     ensures equal { IfOk result (λ made. IsTrue made.is_equal
         ↔ BindAlike char_order int_eq (box_items made.map) (box_items other.now)) }
 {

@@ -1,5 +1,6 @@
 //! A map made of a list in stored form.
 ghost use Rattle.std.specs.Prelude.{◌≡◌, length, IfOk, IsOk};
+ghost use Rattle.range_runs.specs.Canonical.{IsCanonical};
 ghost use Rattle.range_runs.specs.Stored.{IsStored};
 
 use crate::map::RangeMap;
@@ -16,6 +17,7 @@ pub fn map_of<K: PartialEnum, X: Eq + Drop, C: Storage<Item<AnyRange<K>, X>>>(
 ) -> Result<RangeMap<K, X, C>, AllocError>
     requires { IsStored K.order X.eq items.items }
     ensures items { IfOk result (λ map. C.items map ≡ items.items) }
+    ensures canonical { IfOk result (λ map. IsCanonical K.order X.eq (C.items map)) }
     ensures none_needed { length items.items ≡ 0 → IsOk result }
 {
     let mut stored = C::new(alloc);

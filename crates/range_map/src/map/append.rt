@@ -2,9 +2,8 @@
 ghost use Rattle.std.specs.Prelude.{◌≡◌, ◌↔◌, ◌+◌, ◌≤◌, ◌++◌, [], length, IsTrue, IsErrAnd, IsOk, OnOk, OnErr};
 ghost use Rattle.range_algebra.specs.Relations.{LiesBefore};
 ghost use Rattle.range_bulk.specs.Appending.{IsOutOfOrder, LieBefore, appended};
-ghost use Rattle.range_keys.specs.Order.{IsComplete};
-ghost use Rattle.range_runs.specs.Bindings.{BindAlike, IsCoarse, IsOnlyCoarse};
-ghost use Rattle.range_runs.specs.Stored.{IsStored};
+ghost use Rattle.range_runs.specs.Bindings.{BindAlike};
+ghost use Rattle.range_runs.specs.Canonical.{IsCanonical};
 
 use crate::map::RangeMap;
 use range_algebra::any::AnyRange;
@@ -63,9 +62,7 @@ impl<K: PartialEnum, V: Eq + Drop, C: Storage<Item<AnyRange<K>, V>>> RangeMap<K,
         ensures list { OnOk result (C.items self.new
             ≡ appended K.order V.eq (C.items self.old) (D.items other.old)) }
         ensures emptied { OnOk result (D.items other.new ≡ []) }
-        ensures form { IsStored K.order V.eq (C.items self.new) }
-        ensures coarse { IsComplete K.order → IsCoarse K.order V.eq (C.items self.new) }
-        ensures only { IsComplete K.order → IsOnlyCoarse K.order V.eq (C.items self.new) }
+        ensures canonical { IsCanonical K.order V.eq (C.items self.new) }
         ensures few { length (C.items self.new)
             ≤ length (C.items self.old) + length (D.items other.old) }
         ensures succeeds { LieBefore K.order (C.items self.old) (D.items other.old)

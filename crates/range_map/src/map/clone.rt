@@ -1,8 +1,8 @@
 //! Copies of a map, and an empty one.
 ghost use Rattle.std.specs.Prelude.{◌≡◌, [], IfOk, All};
 ghost use Rattle.range_algebra.specs.Range.{ClonesAreEqual, IsKnownRange};
-ghost use Rattle.range_runs.specs.Stored.{IsStored};
 ghost use Rattle.range_reads.specs.ListOrder.{IsCopyOf};
+ghost use Rattle.range_runs.specs.Canonical.{IsCanonical};
 
 use crate::map::RangeMap;
 use range_algebra::any::AnyRange;
@@ -52,7 +52,7 @@ impl<K: PartialEnum + Clone, V: Eq + Clone, C: Storage<Item<AnyRange<K>, V>>> Ra
         requires values { ClonesAreEqual V.is_clone V.eq }
         ensures equal { IfOk result
             (λ copy. IsCopyOf K.order V.eq (C.items copy) (C.items self.now)) }
-        ensures form { IfOk result (λ copy. IsStored K.order V.eq (C.items copy)) }
+        ensures canonical { IfOk result (λ copy. IsCanonical K.order V.eq (C.items copy)) }
     {
         self.in_form();
         let stored = self.stored.clone()?;

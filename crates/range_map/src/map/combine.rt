@@ -1,8 +1,7 @@
 //! Two maps put together, key by key, by a closure.
 ghost use Rattle.std.specs.Prelude.{◌≡◌, ◌<◌, length, IfOk, Err};
-ghost use Rattle.range_keys.specs.Order.{IsComplete};
 ghost use Rattle.range_algebra.specs.Range.{ClonesAreEqual};
-ghost use Rattle.range_runs.specs.Bindings.{IsCoarse, IsOnlyCoarse};
+ghost use Rattle.range_runs.specs.Canonical.{IsCanonical};
 ghost use Rattle.range_runs.specs.Stored.{IsStored};
 ghost use Rattle.range_runs.specs.declared.error.UpdateError.TheVariants.{Closure as ClosureError, Memory as MemoryError};
 ghost use Rattle.range_merge.specs.Combining.{MayAnswerBoth, MayBeAskedOfBoth, AreCombined, IsCombination, MayFailOnBoth, MayGiveValueOnBoth};
@@ -101,11 +100,7 @@ impl<K: PartialEnum + Clone, V: Eq + Drop, C: Storage<Item<AnyRange<K>, V>>> Ran
         ensures pieces { IfOk result
             (λ new. IsCombination K.order V.eq W.eq X.eq (MayAnswerBoth F.Fn f) (C.items self.now)
             (D.items other.now) (B.items new)) }
-        ensures form { IfOk result (λ new. IsStored K.order X.eq (B.items new)) }
-        ensures coarse { IsComplete K.order → IfOk result
-            (λ new. IsCoarse K.order X.eq (B.items new)) }
-        ensures only { IsComplete K.order → IfOk result
-            (λ new. IsOnlyCoarse K.order X.eq (B.items new)) }
+        ensures canonical { IfOk result (λ new. IsCanonical K.order X.eq (B.items new)) }
         ensures closure { (e : E) → result ≡ Err (ClosureError e)
             → MayFailOnBoth K.order (MayAnswerBoth F.Fn f) (C.items self.now) (D.items other.now)
             e }

@@ -3,7 +3,7 @@ ghost use Rattle.std.specs.Prelude.{◌≡◌, ◌+◌, ◌≤◌, List, [], ◌
 ghost use Rattle.range_algebra.specs.declared.any.AnyRange.{AnyRange};
 ghost use Rattle.range_store.specs.declared.storage.Item.{Item};
 ghost use Rattle.range_reads.specs.Iteration.{pair_item, shown_item};
-ghost use Rattle.range_runs.specs.Stored.{IsStored};
+ghost use Rattle.range_runs.specs.Canonical.{IsCanonical};
 
 use crate::map::RangeMap;
 use range_algebra::any::AnyRange;
@@ -55,7 +55,7 @@ impl<K: PartialEnum, V: Eq + Drop, C: Storage<Item<AnyRange<K>, V>>> RangeMap<K,
     pub fn pop_first(&mut self) -> Option<(AnyRange<K>, V)>
         ensures first { MatchOption result ((C.items self.old ≡ []) × (C.items self.new ≡ []))
             (λ pair. C.items self.old ≡ pair_item pair ∷ C.items self.new) }
-        ensures form { IsStored K.order V.eq (C.items self.new) }
+        ensures canonical { IsCanonical K.order V.eq (C.items self.new) }
         ensures space { MatchOption result (C.room self.old ≤ C.room self.new)
             (λ _. C.room self.old + 1 ≤ C.room self.new) }
     {
@@ -77,7 +77,7 @@ impl<K: PartialEnum, V: Eq + Drop, C: Storage<Item<AnyRange<K>, V>>> RangeMap<K,
     pub fn pop_last(&mut self) -> Option<(AnyRange<K>, V)>
         ensures last { MatchOption result ((C.items self.old ≡ []) × (C.items self.new ≡ []))
             (λ pair. C.items self.old ≡ C.items self.new ++ pair_item pair ∷ []) }
-        ensures form { IsStored K.order V.eq (C.items self.new) }
+        ensures canonical { IsCanonical K.order V.eq (C.items self.new) }
         ensures space { MatchOption result (C.room self.old ≤ C.room self.new)
             (λ _. C.room self.old + 1 ≤ C.room self.new) }
     {

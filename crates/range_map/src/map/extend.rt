@@ -1,11 +1,9 @@
 //! Binding the keys of many ranges.
 ghost use Rattle.std.specs.Prelude.{[], IfOk, OnOk, OnErr};
 ghost use Rattle.std.specs.Iterator.{IsFiniteIterable};
-ghost use Rattle.range_keys.specs.Order.{IsComplete};
 ghost use Rattle.range_algebra.specs.Range.{ClonesAreEqual};
-ghost use Rattle.range_runs.specs.Bindings.{IsCoarse, IsOnlyCoarse};
 ghost use Rattle.range_map.specs.Extending.{AfterAll, AfterSome, AreBoundAfter, IsNonempty};
-ghost use Rattle.range_runs.specs.Stored.{IsStored};
+ghost use Rattle.range_runs.specs.Canonical.{IsCanonical};
 
 use crate::map::RangeMap;
 use range_algebra::any::AnyRange;
@@ -41,9 +39,7 @@ impl<K: Measure + Clone, V: Eq + Clone, C: Storage<Item<AnyRange<K>, V>>> RangeM
         ensures refused { OnErr result
             (AfterSome I.into_iter_gives I.IntoIter.next_gives R.range pairs (IsNonempty K.order)
             (AreBoundAfter K.order V.eq (C.items self.old) (C.items self.new))) }
-        ensures form { IsStored K.order V.eq (C.items self.new) }
-        ensures coarse { IsComplete K.order → IsCoarse K.order V.eq (C.items self.new) }
-        ensures only { IsComplete K.order → IsOnlyCoarse K.order V.eq (C.items self.new) }
+        ensures canonical { IsCanonical K.order V.eq (C.items self.new) }
     {
         self.in_form();
         for (range, value) in pairs {
@@ -71,11 +67,7 @@ impl<K: Measure + Clone, V: Eq + Clone, C: Storage<Item<AnyRange<K>, V>>> RangeM
         ensures bound { IfOk result
             (λ map. AfterAll I.into_iter_gives I.IntoIter.next_gives R.range pairs
             (AreBoundAfter K.order V.eq [] (C.items map))) }
-        ensures form { IfOk result (λ map. IsStored K.order V.eq (C.items map)) }
-        ensures coarse { IfOk result
-            (λ map. IsComplete K.order → IsCoarse K.order V.eq (C.items map)) }
-        ensures only { IfOk result
-            (λ map. IsComplete K.order → IsOnlyCoarse K.order V.eq (C.items map)) }
+        ensures canonical { IfOk result (λ map. IsCanonical K.order V.eq (C.items map)) }
     {
         let mut map = RangeMap::new(alloc);
         map.extend(pairs)?;

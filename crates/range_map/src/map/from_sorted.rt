@@ -1,11 +1,10 @@
 //! A map built of ranges that are in order.
 ghost use Rattle.std.specs.List.{AllByRecursion as Every};
 ghost use Rattle.std.specs.Prelude.{◌≡◌, ◌↔◌, ℕ, IfOk, IsOk, Err, length, map};
-ghost use Rattle.range_keys.specs.Order.{IsComplete};
 ghost use Rattle.range_algebra.specs.Range.{IsKnownRange};
 ghost use Rattle.range_bulk.specs.Sorting.{IsFirstFault, IsSorted, item_of};
-ghost use Rattle.range_runs.specs.Bindings.{BindAlike, IsCoarse, IsOnlyCoarse};
-ghost use Rattle.range_runs.specs.Stored.{IsStored};
+ghost use Rattle.range_runs.specs.Bindings.{BindAlike};
+ghost use Rattle.range_runs.specs.Canonical.{IsCanonical};
 ghost use Rattle.range_map.specs.declared.map.from_sorted.NotSorted.TheVariants.{OutOfOrder as FaultAt};
 
 use crate::inner::build::map_of;
@@ -40,7 +39,7 @@ fn build<K: Measure, V: Eq + Drop, C: Storage<Item<AnyRange<K>, V>>, R: IntoRang
         (map (item_of R.range) pairs.items) }
     ensures bound { IfOk result
         (λ new. BindAlike K.order V.eq (C.items new) (map (item_of R.range) pairs.items)) }
-    ensures form { IfOk result (λ new. IsStored K.order V.eq (C.items new)) }
+    ensures canonical { IfOk result (λ new. IsCanonical K.order V.eq (C.items new)) }
     ensures none_needed { length pairs.items ≡ 0 → IsOk result }
 {
     map_of(alloc, list_of(alloc, pairs)?)
@@ -69,11 +68,7 @@ impl<K: Measure, V: Eq + Drop, C: Storage<Item<AnyRange<K>, V>>> RangeMap<K, V, 
             ↔ IsFirstFault K.order (map (item_of R.range) pairs.items) n }
         ensures bound { IfOk result
             (λ new. BindAlike K.order V.eq (C.items new) (map (item_of R.range) pairs.items)) }
-        ensures form { IfOk result (λ new. IsStored K.order V.eq (C.items new)) }
-        ensures coarse { IsComplete K.order → IfOk result
-            (λ new. IsCoarse K.order V.eq (C.items new)) }
-        ensures only { IsComplete K.order → IfOk result
-            (λ new. IsOnlyCoarse K.order V.eq (C.items new)) }
+        ensures canonical { IfOk result (λ new. IsCanonical K.order V.eq (C.items new)) }
         ensures empty { length pairs.items ≡ 0 → IsOk result }
     {
         match first_fault::<K, R, V>(pairs.as_slice()) {

@@ -1,11 +1,9 @@
 //! A map changed by the bindings of another, range by range.
 ghost use Rattle.std.specs.Prelude.{OnOk, OnErr};
-ghost use Rattle.range_keys.specs.Order.{IsComplete};
 ghost use Rattle.range_algebra.specs.Range.{ClonesAreEqual};
-ghost use Rattle.range_runs.specs.Bindings.{IsCoarse, IsOnlyCoarse};
-ghost use Rattle.range_runs.specs.Stored.{IsStored};
 ghost use Rattle.range_map.specs.Overlays.{IsOverlaid, IsRestricted, IsWithout};
 ghost use Rattle.range_map.specs.PartWay.{AreUnboundAfter, BeforeOne, BeforeOneGap};
+ghost use Rattle.range_runs.specs.Canonical.{IsCanonical};
 
 use crate::map::RangeMap;
 use range_algebra::any::AnyRange;
@@ -36,9 +34,7 @@ impl<K: Measure + Clone, V: Eq + Clone, C: Storage<Item<AnyRange<K>, V>>> RangeM
             (IsOverlaid K.order V.eq (C.items self.old) (D.items other.now) (C.items self.new)) }
         ensures refused { OnErr result (BeforeOne (D.items other.now)
             (λ front. IsOverlaid K.order V.eq (C.items self.old) front (C.items self.new))) }
-        ensures form { IsStored K.order V.eq (C.items self.new) }
-        ensures coarse { IsComplete K.order → IsCoarse K.order V.eq (C.items self.new) }
-        ensures only { IsComplete K.order → IsOnlyCoarse K.order V.eq (C.items self.new) }
+        ensures canonical { IsCanonical K.order V.eq (C.items self.new) }
     {
         self.in_form();
         let mut items = other.iter();
@@ -69,9 +65,7 @@ impl<K: Measure + Clone, V: Eq + Clone, C: Storage<Item<AnyRange<K>, V>>> RangeM
             (IsWithout K.order V.eq (C.items self.old) (D.items other.now) (C.items self.new)) }
         ensures refused { OnErr result (BeforeOne (D.items other.now)
             (λ front. IsWithout K.order V.eq (C.items self.old) front (C.items self.new))) }
-        ensures form { IsStored K.order V.eq (C.items self.new) }
-        ensures coarse { IsComplete K.order → IsCoarse K.order V.eq (C.items self.new) }
-        ensures only { IsComplete K.order → IsOnlyCoarse K.order V.eq (C.items self.new) }
+        ensures canonical { IsCanonical K.order V.eq (C.items self.new) }
     {
         self.in_form();
         let mut items = other.iter();
@@ -105,9 +99,7 @@ impl<K: Measure + Clone, V: Eq + Clone, C: Storage<Item<AnyRange<K>, V>>> RangeM
             (IsRestricted K.order V.eq (C.items self.old) (D.items other.now) (C.items self.new)) }
         ensures refused { OnErr result (BeforeOneGap K.order (D.items other.now)
             (AreUnboundAfter K.order V.eq (C.items self.old) (C.items self.new))) }
-        ensures form { IsStored K.order V.eq (C.items self.new) }
-        ensures coarse { IsComplete K.order → IsCoarse K.order V.eq (C.items self.new) }
-        ensures only { IsComplete K.order → IsOnlyCoarse K.order V.eq (C.items self.new) }
+        ensures canonical { IsCanonical K.order V.eq (C.items self.new) }
     {
         self.in_form();
         let mut gaps = other.gaps();

@@ -1,12 +1,11 @@
 //! Binding the keys of a range.
 ghost use Rattle.std.specs.Prelude.{◌≡◌, ◌+◌, ◌≤◌, length, OnOk, OnErr, IsOk};
-ghost use Rattle.range_keys.specs.Order.{IsComplete};
 ghost use Rattle.range_algebra.specs.Range.{ClonesAreEqual, IsEmptyRange};
+ghost use Rattle.range_runs.specs.Canonical.{IsCanonical};
 ghost use Rattle.range_runs.specs.Clones.{ClonesNeverFail};
-ghost use Rattle.range_runs.specs.Stored.{IsStored};
 ghost use Rattle.range_edit.specs.Costs.{TakesAtLeast, TakesAsChange};
 ghost use Rattle.range_runs.specs.Frames.{IsInsertionFrame};
-ghost use Rattle.range_runs.specs.Bindings.{IsBoundAfter, IsCoarse, IsOnlyCoarse};
+ghost use Rattle.range_runs.specs.Bindings.{IsBoundAfter};
 ghost use Rattle.range_runs.specs.Lookups.{MeetAlso};
 
 use crate::map::RangeMap;
@@ -37,9 +36,7 @@ impl<K: Measure + Clone, V: Eq + Clone, C: Storage<Item<AnyRange<K>, V>>> RangeM
         ensures bound { OnOk result
             (IsBoundAfter K.order V.eq (C.items self.old) (C.items self.new) (R.range range)
             value) }
-        ensures form { IsStored K.order V.eq (C.items self.new) }
-        ensures coarse { IsComplete K.order → IsCoarse K.order V.eq (C.items self.new) }
-        ensures only { IsComplete K.order → IsOnlyCoarse K.order V.eq (C.items self.new) }
+        ensures canonical { IsCanonical K.order V.eq (C.items self.new) }
         ensures frame { OnOk result
             (¬ IsEmptyRange K.order (R.range range)
             → IsInsertionFrame K.order V.eq (C.items self.old) (C.items self.new) (R.range range)
@@ -86,9 +83,7 @@ impl<K: Measure + Clone, V: Eq + Clone, C: Storage<Item<AnyRange<K>, V>>> RangeM
         ensures bound { OnOk result
             (IsBoundAfter K.order V.eq (C.items self.old) (C.items self.new) (R.range range)
             value) }
-        ensures form { IsStored K.order V.eq (C.items self.new) }
-        ensures coarse { IsComplete K.order → IsCoarse K.order V.eq (C.items self.new) }
-        ensures only { IsComplete K.order → IsOnlyCoarse K.order V.eq (C.items self.new) }
+        ensures canonical { IsCanonical K.order V.eq (C.items self.new) }
         ensures frame { OnOk result
             (¬ IsEmptyRange K.order (R.range range)
             → IsInsertionFrame K.order V.eq (C.items self.old) (C.items self.new) (R.range range)

@@ -1,9 +1,8 @@
 //! Binding a range that lies apart from all that is stored.
 ghost use Rattle.std.specs.Prelude.{◌≡◌, ◌↔◌, ◌+◌, ◌≤◌, length, IsErrAnd, IfErr, OnOk, OnErr, IsOk};
-ghost use Rattle.range_keys.specs.Order.{IsComplete};
 ghost use Rattle.range_algebra.specs.Range.{IsEmptyRange};
-ghost use Rattle.range_runs.specs.Stored.{IsStored};
-ghost use Rattle.range_runs.specs.Bindings.{IsBoundAfter, IsCoarse, IsOnlyCoarse};
+ghost use Rattle.range_runs.specs.Bindings.{IsBoundAfter};
+ghost use Rattle.range_runs.specs.Canonical.{IsCanonical};
 ghost use Rattle.range_runs.specs.Lookups.{IsConnectedToSome, IsPutInto, MeetAlso};
 ghost use Rattle.range_edit.specs.Apart.{IsConnectedError, handed_back};
 
@@ -47,9 +46,7 @@ impl<K: Measure, V: Eq + Drop, C: Storage<Item<AnyRange<K>, V>>> RangeMap<K, V, 
         ensures meets { OnOk result
             (¬ IsEmptyRange K.order (R.range range)
             → MeetAlso K.order (C.items self.old) (C.items self.new) (R.range range)) }
-        ensures form { IsStored K.order V.eq (C.items self.new) }
-        ensures coarse { IsComplete K.order → IsCoarse K.order V.eq (C.items self.new) }
-        ensures only { IsComplete K.order → IsOnlyCoarse K.order V.eq (C.items self.new) }
+        ensures canonical { IsCanonical K.order V.eq (C.items self.new) }
         ensures few { length (C.items self.new) ≤ length (C.items self.old) + 1 }
         ensures refused { OnErr result (C.items self.new ≡ C.items self.old) }
         ensures empty { IsEmptyRange K.order (R.range range) → IsOk result }

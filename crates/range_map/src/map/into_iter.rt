@@ -1,8 +1,6 @@
 //! A map taken apart: its ranges with their values, moved out from both ends.
 ghost use Rattle.std.specs.Prelude.{◌≡◌};
-ghost use Rattle.range_keys.specs.Order.{IsComplete};
-ghost use Rattle.range_runs.specs.Bindings.{IsCoarse, IsOnlyCoarse};
-ghost use Rattle.range_runs.specs.Stored.{IsStored};
+ghost use Rattle.range_runs.specs.Canonical.{IsCanonical};
 
 use crate::map::{Iter, RangeMap};
 use range_algebra::any::AnyRange;
@@ -17,8 +15,7 @@ impl<K: PartialEnum, V: Eq + Drop, C: Storage<Item<AnyRange<K>, V>>> IntoIterato
 
     type IntoIter = IntoIter<K, V, C>;
 
-    ghost into_iter_gives = { λ map list. (list ≡ C.items map) × IsStored K.order V.eq list
-        × (IsComplete K.order → IsCoarse K.order V.eq list × IsOnlyCoarse K.order V.eq list) };
+    ghost into_iter_gives = { λ map list. (list ≡ C.items map) × IsCanonical K.order V.eq list };
 
     fn into_iter(self) -> IntoIter<K, V, C> {
         self.in_form();
@@ -33,8 +30,7 @@ impl<'a, K: PartialEnum, V: Eq + Drop, C: Storage<Item<AnyRange<K>, V>>> IntoIte
 
     type IntoIter = Iter<'a, K, V, C>;
 
-    ghost into_iter_gives = { λ map list. (list ≡ C.items map.now) × IsStored K.order V.eq list
-        × (IsComplete K.order → IsCoarse K.order V.eq list × IsOnlyCoarse K.order V.eq list) };
+    ghost into_iter_gives = { λ map list. (list ≡ C.items map.now) × IsCanonical K.order V.eq list };
 
     fn into_iter(self) -> Iter<'a, K, V, C> {
         self.iter()

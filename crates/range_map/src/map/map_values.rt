@@ -1,13 +1,11 @@
 //! A map with a new value for each of its values.
 ghost use Rattle.std.specs.Prelude.{◌≡◌, IfOk, Ok, Err};
 ghost use Rattle.std.specs.Fn.{FnReturnsAt};
-ghost use Rattle.range_keys.specs.Order.{IsComplete};
 ghost use Rattle.range_algebra.specs.Clones.{IsRangeClone};
 ghost use Rattle.range_algebra.specs.Range.{ClonesAreEqual, IsKnownRange};
-ghost use Rattle.range_runs.specs.Bindings.{IsCoarse, IsOnlyCoarse};
-ghost use Rattle.range_runs.specs.Stored.{IsStored};
 ghost use Rattle.range_map.specs.MappedValues.{AnswersItem, AreFirstAnswered, AreMapped, IsAnsweredEach, MayBeAskedOfValues};
 ghost use Rattle.range_merge.specs.Merged.{part_item};
+ghost use Rattle.range_runs.specs.Canonical.{IsCanonical};
 ghost use Rattle.range_runs.specs.declared.error.UpdateError.TheVariants.{Closure as ClosureError, Memory as MemoryError};
 
 use crate::inner::build::map_of;
@@ -61,7 +59,7 @@ fn answers_to<
     requires asked { MayBeAskedOfValues F.Fn f.now (C.items map.now) }
     ensures answers { IfOk result
         (λ new. IsAnsweredEach K.order F.Fn f.now W.eq (C.items map.now) (D.items new)) }
-    ensures form { IfOk result (λ new. IsStored K.order W.eq (D.items new)) }
+    ensures canonical { IfOk result (λ new. IsCanonical K.order W.eq (D.items new)) }
     ensures closure { (e : E) → result ≡ Err (ClosureError e)
         → AnswersItem F.Fn f.now (C.items map.now) (Err e) }
     ensures memory { result ≡ Err MemoryError
@@ -107,11 +105,7 @@ impl<K: PartialEnum + Clone, V: Eq + Drop, C: Storage<Item<AnyRange<K>, V>>> Ran
             (λ new. AreMapped K.order F.Fn f W.eq (C.items self.now) (D.items new)) }
         ensures answers { IfOk result
             (λ new. IsAnsweredEach K.order F.Fn f W.eq (C.items self.now) (D.items new)) }
-        ensures form { IfOk result (λ new. IsStored K.order W.eq (D.items new)) }
-        ensures coarse { IsComplete K.order → IfOk result
-            (λ new. IsCoarse K.order W.eq (D.items new)) }
-        ensures only { IsComplete K.order → IfOk result
-            (λ new. IsOnlyCoarse K.order W.eq (D.items new)) }
+        ensures canonical { IfOk result (λ new. IsCanonical K.order W.eq (D.items new)) }
         ensures closure { (e : E) → result ≡ Err (ClosureError e)
             → AnswersItem F.Fn f (C.items self.now) (Err e) }
         ensures memory { result ≡ Err MemoryError

@@ -1,12 +1,10 @@
 //! Maps in which each key keeps the value that it has in one of two.
 ghost use Rattle.std.specs.Prelude.{◌≡◌, IfOk, true, false};
 ghost use Rattle.std.specs.Option.{option_copied};
-ghost use Rattle.range_keys.specs.Order.{IsComplete};
 ghost use Rattle.range_algebra.specs.Range.{ClonesAreEqual};
-ghost use Rattle.range_runs.specs.Bindings.{IsCoarse, IsOnlyCoarse};
-ghost use Rattle.range_runs.specs.Stored.{IsStored};
 ghost use Rattle.range_merge.specs.Combining.{AreCombined};
 ghost use Rattle.range_map.specs.Overlays.{IsCopyOfValue, IsOverlaid, IsRestricted, IsSecondOrFirst, IsWithout, MayOverlay, first_where};
+ghost use Rattle.range_runs.specs.Canonical.{IsCanonical};
 
 use crate::map::RangeMap;
 use range_algebra::any::AnyRange;
@@ -74,11 +72,7 @@ impl<K: PartialEnum + Clone, V: Eq + Clone, C: Storage<Item<AnyRange<K>, V>>> Ra
         ensures without { bound ≡ false → IfOk result
             (λ new. IsWithout K.order V.eq (C.items self.now) (D.items other.now)
             (C.items new)) }
-        ensures form { IfOk result (λ new. IsStored K.order V.eq (C.items new)) }
-        ensures coarse { IsComplete K.order → IfOk result
-            (λ new. IsCoarse K.order V.eq (C.items new)) }
-        ensures only { IsComplete K.order → IfOk result
-            (λ new. IsOnlyCoarse K.order V.eq (C.items new)) }
+        ensures canonical { IfOk result (λ new. IsCanonical K.order V.eq (C.items new)) }
     {
         self.in_form();
         match self.combine(other, |first, second| kept(bound, first, second)) {
@@ -99,7 +93,7 @@ impl<K: PartialEnum + Clone, V: Eq + Clone, C: Storage<Item<AnyRange<K>, V>>> Ra
         ensures combined { IfOk result
             (λ new. AreCombined K.order V.eq W.eq V.eq (MayOverlay V.is_clone F.Fn copy)
             (C.items self.now) (D.items other.now) (C.items new)) }
-        ensures form { IfOk result (λ new. IsStored K.order V.eq (C.items new)) }
+        ensures canonical { IfOk result (λ new. IsCanonical K.order V.eq (C.items new)) }
     {
         match self.combine(other, |first, second| second_or_first(first, second, &copy)) {
             Ok(new) => Ok(new),
@@ -127,11 +121,7 @@ impl<K: PartialEnum + Clone, V: Eq + Clone, C: Storage<Item<AnyRange<K>, V>>> Ra
         ensures bound { IfOk result
             (λ new. IsOverlaid K.order V.eq (C.items self.now) (D.items other.now)
             (C.items new)) }
-        ensures form { IfOk result (λ new. IsStored K.order V.eq (C.items new)) }
-        ensures coarse { IsComplete K.order → IfOk result
-            (λ new. IsCoarse K.order V.eq (C.items new)) }
-        ensures only { IsComplete K.order → IfOk result
-            (λ new. IsOnlyCoarse K.order V.eq (C.items new)) }
+        ensures canonical { IfOk result (λ new. IsCanonical K.order V.eq (C.items new)) }
     {
         self.in_form();
         other.in_form();
@@ -159,11 +149,7 @@ impl<K: PartialEnum + Clone, V: Eq + Clone, C: Storage<Item<AnyRange<K>, V>>> Ra
         ensures bound { IfOk result
             (λ new. IsRestricted K.order V.eq (C.items self.now) (D.items other.now)
             (C.items new)) }
-        ensures form { IfOk result (λ new. IsStored K.order V.eq (C.items new)) }
-        ensures coarse { IsComplete K.order → IfOk result
-            (λ new. IsCoarse K.order V.eq (C.items new)) }
-        ensures only { IsComplete K.order → IfOk result
-            (λ new. IsOnlyCoarse K.order V.eq (C.items new)) }
+        ensures canonical { IfOk result (λ new. IsCanonical K.order V.eq (C.items new)) }
     {
         self.kept_where(other, true)
     }
@@ -188,11 +174,7 @@ impl<K: PartialEnum + Clone, V: Eq + Clone, C: Storage<Item<AnyRange<K>, V>>> Ra
         ensures bound { IfOk result
             (λ new. IsWithout K.order V.eq (C.items self.now) (D.items other.now)
             (C.items new)) }
-        ensures form { IfOk result (λ new. IsStored K.order V.eq (C.items new)) }
-        ensures coarse { IsComplete K.order → IfOk result
-            (λ new. IsCoarse K.order V.eq (C.items new)) }
-        ensures only { IsComplete K.order → IfOk result
-            (λ new. IsOnlyCoarse K.order V.eq (C.items new)) }
+        ensures canonical { IfOk result (λ new. IsCanonical K.order V.eq (C.items new)) }
     {
         self.kept_where(other, false)
     }

@@ -1,14 +1,13 @@
 //! Unbinding the keys of a range.
 ghost use Rattle.std.specs.List.{AllByRecursion as Every};
 ghost use Rattle.std.specs.Prelude.{◌≡◌, ◌+◌, ◌≤◌, length, OnOk, OnErr, IsOk};
-ghost use Rattle.range_keys.specs.Order.{IsComplete};
 ghost use Rattle.range_algebra.specs.Range.{ClonesAreEqual, IsEmptyRange};
+ghost use Rattle.range_runs.specs.Canonical.{IsCanonical};
 ghost use Rattle.range_runs.specs.Clones.{ClonesNeverFail};
-ghost use Rattle.range_runs.specs.Stored.{IsStored};
 ghost use Rattle.range_runs.specs.Lookups.{Overlap};
 ghost use Rattle.range_edit.specs.Costs.{TakesAtLeast, TakesAsChange};
 ghost use Rattle.range_runs.specs.Frames.{IsRemovalFrame};
-ghost use Rattle.range_runs.specs.Bindings.{IsUnboundAfter, IsCoarse, IsOnlyCoarse};
+ghost use Rattle.range_runs.specs.Bindings.{IsUnboundAfter};
 
 use crate::map::RangeMap;
 use range_algebra::any::AnyRange;
@@ -36,9 +35,7 @@ impl<K: Measure + Clone, V: Eq + Clone, C: Storage<Item<AnyRange<K>, V>>> RangeM
         requires values { ClonesAreEqual V.is_clone V.eq }
         ensures unbound { OnOk result
             (IsUnboundAfter K.order V.eq (C.items self.old) (C.items self.new) (R.range range)) }
-        ensures form { IsStored K.order V.eq (C.items self.new) }
-        ensures coarse { IsComplete K.order → IsCoarse K.order V.eq (C.items self.new) }
-        ensures only { IsComplete K.order → IsOnlyCoarse K.order V.eq (C.items self.new) }
+        ensures canonical { IsCanonical K.order V.eq (C.items self.new) }
         ensures apart { OnOk result
             (¬ IsEmptyRange K.order (R.range range)
             → Every (λ i. ¬ Overlap K.order i.key (R.range range)) (C.items self.new)) }
@@ -82,9 +79,7 @@ impl<K: Measure + Clone, V: Eq + Clone, C: Storage<Item<AnyRange<K>, V>>> RangeM
         requires values { ClonesAreEqual V.is_clone V.eq }
         ensures unbound { OnOk result
             (IsUnboundAfter K.order V.eq (C.items self.old) (C.items self.new) (R.range range)) }
-        ensures form { IsStored K.order V.eq (C.items self.new) }
-        ensures coarse { IsComplete K.order → IsCoarse K.order V.eq (C.items self.new) }
-        ensures only { IsComplete K.order → IsOnlyCoarse K.order V.eq (C.items self.new) }
+        ensures canonical { IsCanonical K.order V.eq (C.items self.new) }
         ensures apart { OnOk result
             (¬ IsEmptyRange K.order (R.range range)
             → Every (λ i. ¬ Overlap K.order i.key (R.range range)) (C.items self.new)) }

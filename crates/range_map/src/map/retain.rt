@@ -1,10 +1,8 @@
 //! Keeping only such stored ranges as a closure says.
 ghost use Rattle.std.specs.Prelude.{◌+◌, ◌≤◌, length};
 ghost use Rattle.std.specs.List.Retain.{IsFiltered};
-ghost use Rattle.range_keys.specs.Order.{IsComplete};
-ghost use Rattle.range_runs.specs.Bindings.{IsCoarse, IsOnlyCoarse};
 ghost use Rattle.range_map.specs.Retaining.{CalledAtItem, BindOnlyAsBefore};
-ghost use Rattle.range_runs.specs.Stored.{IsStored};
+ghost use Rattle.range_runs.specs.Canonical.{IsCanonical};
 
 use crate::map::RangeMap;
 use range_algebra::any::AnyRange;
@@ -39,9 +37,7 @@ impl<K: PartialEnum, V: Eq + Drop, C: Storage<Item<AnyRange<K>, V>>> RangeMap<K,
         ensures filtered { IsFiltered (CalledAtItem F.FnMut) f (C.items self.old)
             (C.items self.new) }
         ensures kept { BindOnlyAsBefore K.order V.eq (C.items self.old) (C.items self.new) }
-        ensures form { IsStored K.order V.eq (C.items self.new) }
-        ensures coarse { IsComplete K.order → IsCoarse K.order V.eq (C.items self.new) }
-        ensures only { IsComplete K.order → IsOnlyCoarse K.order V.eq (C.items self.new) }
+        ensures canonical { IsCanonical K.order V.eq (C.items self.new) }
         ensures few { length (C.items self.new) ≤ length (C.items self.old) }
         ensures space { C.room self.old + length (C.items self.old)
             ≤ C.room self.new + length (C.items self.new) }

@@ -1,12 +1,10 @@
 //! A map cut in two at a key.
 ghost use Rattle.std.specs.Prelude.{◌≡◌, ◌+◌, ◌≤◌, length, IfOk, IsOk, OnErr};
 ghost use Rattle.std.specs.declared.ops.Bound.TheVariants.{Included, Unbounded};
-ghost use Rattle.range_keys.specs.Order.{IsComplete};
 ghost use Rattle.range_algebra.specs.Range.{ClonesAreEqual};
 ghost use Rattle.range_bulk.specs.Splitting.{IsSplitAt};
-ghost use Rattle.range_runs.specs.Bindings.{IsCoarse, IsOnlyCoarse};
+ghost use Rattle.range_runs.specs.Canonical.{IsCanonical};
 ghost use Rattle.range_runs.specs.Lookups.{MeetsSome};
-ghost use Rattle.range_runs.specs.Stored.{IsStored};
 
 use crate::map::RangeMap;
 use range_algebra::any::AnyRange;
@@ -36,14 +34,8 @@ impl<K: PartialEnum + Clone, V: Eq + Clone, C: Storage<Item<AnyRange<K>, V>>> Ra
         requires values { ClonesAreEqual V.is_clone V.eq }
         ensures split { IfOk result (λ rest. IsSplitAt K.order V.eq key (C.items self.old)
             (C.items self.new) (C.items rest)) }
-        ensures form { IsStored K.order V.eq (C.items self.new) }
-        ensures coarse { IsComplete K.order → IsCoarse K.order V.eq (C.items self.new) }
-        ensures only { IsComplete K.order → IsOnlyCoarse K.order V.eq (C.items self.new) }
-        ensures rest_form { IfOk result (λ rest. IsStored K.order V.eq (C.items rest)) }
-        ensures rest_coarse { IsComplete K.order → IfOk result
-            (λ rest. IsCoarse K.order V.eq (C.items rest)) }
-        ensures rest_only { IsComplete K.order → IfOk result
-            (λ rest. IsOnlyCoarse K.order V.eq (C.items rest)) }
+        ensures canonical { IsCanonical K.order V.eq (C.items self.new) }
+        ensures rest_canonical { IfOk result (λ rest. IsCanonical K.order V.eq (C.items rest)) }
         ensures few { IfOk result (λ rest. length (C.items self.new) + length (C.items rest)
             ≤ length (C.items self.old) + 1) }
         ensures succeeds { ¬ MeetsSome K.order (C.items self.old)

@@ -1,9 +1,9 @@
 //! Binding the keys of a range where it meets no stored one.
 ghost use Rattle.std.specs.Prelude.{◌≡◌, ◌↔◌, ◌≤◌, IsErrAnd, IfErr, OnOk, OnErr, IsOk};
-ghost use Rattle.range_keys.specs.Order.{IsComplete};
 ghost use Rattle.range_algebra.specs.Range.{IsEmptyRange};
-ghost use Rattle.range_runs.specs.Bindings.{IsBoundAfter, IsCoarse, IsOnlyCoarse};
+ghost use Rattle.range_runs.specs.Bindings.{IsBoundAfter};
 ghost use Rattle.range_edit.specs.Changes.{IsInserted};
+ghost use Rattle.range_runs.specs.Canonical.{IsCanonical};
 ghost use Rattle.range_runs.specs.Frames.{IsInsertionFrame};
 ghost use Rattle.range_map.specs.Freeing.{IsOccupied, given_back};
 ghost use Rattle.range_runs.specs.Lookups.{MeetsSome, MeetAlso};
@@ -106,9 +106,7 @@ impl<K: Measure, V: Eq + Drop, C: Storage<Item<AnyRange<K>, V>>> RangeMap<K, V, 
         ensures meets { OnOk result
             (¬ IsEmptyRange K.order (R.range range)
             → MeetAlso K.order (C.items self.old) (C.items self.new) (R.range range)) }
-        ensures form { IsStored K.order V.eq (C.items self.new) }
-        ensures coarse { IsComplete K.order → IsCoarse K.order V.eq (C.items self.new) }
-        ensures only { IsComplete K.order → IsOnlyCoarse K.order V.eq (C.items self.new) }
+        ensures canonical { IsCanonical K.order V.eq (C.items self.new) }
         ensures refused { OnErr result (C.items self.new ≡ C.items self.old) }
         ensures succeeds { 1 ≤ C.room self.old
             → ¬ MeetsSome K.order (C.items self.old) (R.range range) → IsOk result }

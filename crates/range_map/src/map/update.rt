@@ -1,16 +1,14 @@
 //! Changing what the keys of a range are bound to by a closure.
 ghost use Rattle.std.specs.Prelude.{◌≡◌, ◌+◌, IfOk, OnOk, OnErr, IsOk, Some, None, Ok, Err};
-ghost use Rattle.range_keys.specs.Order.{IsComplete};
 ghost use Rattle.range_algebra.specs.Clones.{IsBoundClone};
 ghost use Rattle.range_algebra.specs.Range.{ClonesAreEqual, IsEmptyRange};
 ghost use Rattle.range_runs.specs.Answers.{MayAnswer, MayBeAsked, FailsAt, SucceedsAtFirst, IsUpdated};
 ghost use Rattle.range_map.specs.Askable.{MayBeAskedOfEach};
+ghost use Rattle.range_runs.specs.Canonical.{IsCanonical};
 ghost use Rattle.range_runs.specs.Clones.{ClonesNeverFail};
-ghost use Rattle.range_runs.specs.Bindings.{IsCoarse, IsOnlyCoarse};
 ghost use Rattle.range_runs.specs.Frames.{IsUpdateFrame};
 ghost use Rattle.range_map.specs.Rebinding.{AreRebound};
 ghost use Rattle.range_runs.specs.Spelling.{KeepsSpelling};
-ghost use Rattle.range_runs.specs.Stored.{IsStored};
 ghost use Rattle.range_runs.specs.declared.error.UpdateError.TheVariants.{Closure as ClosureError, Memory as MemoryError};
 
 use crate::map::RangeMap;
@@ -81,9 +79,7 @@ impl<K: Measure + Clone, V: Eq + Clone, C: Storage<Item<AnyRange<K>, V>>> RangeM
             (IsUpdateFrame K.order V.eq (C.items self.old) (C.items self.new) (R.range range)) }
         ensures spelled { OnOk result
             (KeepsSpelling K.order (C.items self.old) (C.items self.new)) }
-        ensures form { IsStored K.order V.eq (C.items self.new) }
-        ensures coarse { IsComplete K.order → IsCoarse K.order V.eq (C.items self.new) }
-        ensures only { IsComplete K.order → IsOnlyCoarse K.order V.eq (C.items self.new) }
+        ensures canonical { IsCanonical K.order V.eq (C.items self.new) }
         ensures closure { (e : E) → result ≡ Err (ClosureError e)
             → FailsAt K.order V.eq F.Fn f (C.items self.old) (R.range range) e }
         ensures memory { ClonesNeverFail K.is_infallible → result ≡ Err MemoryError

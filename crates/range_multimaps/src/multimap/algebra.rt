@@ -1,12 +1,10 @@
 //! Two multimaps put together.
 ghost use Rattle.std.specs.Prelude.{IfOk, OnOk, IfSome};
 ghost use Rattle.std.specs.Option.{option_copied};
-ghost use Rattle.range_keys.specs.Order.{IsComplete};
 ghost use Rattle.range_algebra.specs.Range.{ClonesAreEqual};
-ghost use Rattle.range_runs.specs.Bindings.{IsOnlyCoarse};
-ghost use Rattle.range_runs.specs.Stored.{IsStored};
 ghost use Rattle.range_multimaps.specs.Members.{HasAllAlso, HasAllWithout};
 ghost use Rattle.range_multimaps.specs.Pairs.{HasNoEmptySet, HasAllPairsAlso, HasAllPairsWithout, HasPairsOfEither, HasPairsOfFirstAlone};
+ghost use Rattle.range_runs.specs.Canonical.{IsCanonical};
 
 use super::RangeMultiMap;
 use crate::members::{MaybeEmpty, SetAlgebra};
@@ -133,10 +131,8 @@ impl<K: Measure + Clone, S: MaybeEmpty, C: Storage<Item<AnyRange<K>, S>>> RangeM
         requires values { ClonesAreEqual V.is_clone V.eq }
         ensures pairs { IfOk result (λ new. HasPairsOfEither K.order S.has (C.items self.now)
             (D.items other.now) (C.items new)) }
-        ensures form { IfOk result (λ new. IsStored K.order S.eq (C.items new)) }
+        ensures canonical { IfOk result (λ new. IsCanonical K.order S.eq (C.items new)) }
         ensures nonempty { IfOk result (λ new. HasNoEmptySet S.is_void (C.items new)) }
-        ensures only { IsComplete K.order
-            → IfOk result (λ new. IsOnlyCoarse K.order S.eq (C.items new)) }
     {
         let mut new = self.clone::<V>()?;
         let mut items = other.iter();
@@ -169,10 +165,8 @@ impl<K: Measure + Clone, S: MaybeEmpty, C: Storage<Item<AnyRange<K>, S>>> RangeM
         requires values { ClonesAreEqual V.is_clone V.eq }
         ensures pairs { IfOk result (λ new. HasPairsOfFirstAlone K.order S.has (C.items self.now)
             (D.items other.now) (C.items new)) }
-        ensures form { IfOk result (λ new. IsStored K.order S.eq (C.items new)) }
+        ensures canonical { IfOk result (λ new. IsCanonical K.order S.eq (C.items new)) }
         ensures nonempty { IfOk result (λ new. HasNoEmptySet S.is_void (C.items new)) }
-        ensures only { IsComplete K.order
-            → IfOk result (λ new. IsOnlyCoarse K.order S.eq (C.items new)) }
     {
         let mut new = self.clone::<V>()?;
         let mut items = other.iter();

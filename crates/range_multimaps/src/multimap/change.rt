@@ -1,13 +1,11 @@
 //! How the values of the keys of a range are added and taken out.
 ghost use Rattle.std.specs.Prelude.{◌≡◌, IsTrue, IsOk, IfOk, OnOk, OnErr, IfSome};
 ghost use Rattle.std.specs.Option.{option_copied};
-ghost use Rattle.range_keys.specs.Order.{IsComplete};
 ghost use Rattle.range_algebra.specs.Range.{ClonesAreEqual, Holds, IsEmptyRange};
 ghost use Rattle.range_runs.specs.Answers.{IsAsAnswered};
-ghost use Rattle.range_runs.specs.Bindings.{IsCoarse, IsOnlyCoarse};
+ghost use Rattle.range_runs.specs.Canonical.{IsCanonical};
 ghost use Rattle.range_runs.specs.Frames.{IsMergeFrame};
 ghost use Rattle.range_runs.specs.Spelling.{KeepsSpelling};
-ghost use Rattle.range_runs.specs.Stored.{IsStored};
 ghost use Rattle.range_multimaps.specs.Members.{HasAlso, HasAllBut, among};
 ghost use Rattle.range_multimaps.specs.Pairs.{HasNoEmptySet, HasPair, HasPairsAlso, HasPairsWithout, StayBound};
 
@@ -118,10 +116,8 @@ impl<K: Measure + Clone, S: MaybeEmpty, C: Storage<Item<AnyRange<K>, S>>> RangeM
             (λ s. IsTrue (S.has s value))) }
         ensures spelled { OnOk result
             (KeepsSpelling K.order (C.items self.old) (C.items self.new)) }
-        ensures form { IsStored K.order S.eq (C.items self.new) }
+        ensures canonical { IsCanonical K.order S.eq (C.items self.new) }
         ensures nonempty { HasNoEmptySet S.is_void (C.items self.new) }
-        ensures coarse { IsComplete K.order → IsCoarse K.order S.eq (C.items self.new) }
-        ensures only { IsComplete K.order → IsOnlyCoarse K.order S.eq (C.items self.new) }
         ensures refused { OnErr result (C.items self.new ≡ C.items self.old) }
         ensures empty { IsEmptyRange K.order (R.range range) → IsOk result }
         ensures empty_unchanged { IsEmptyRange K.order (R.range range)
@@ -179,10 +175,8 @@ impl<K: Measure + Clone, S: MaybeEmpty, C: Storage<Item<AnyRange<K>, S>>> RangeM
             (λ s. ¬ IsTrue (S.has s value.now))) }
         ensures spelled { OnOk result
             (KeepsSpelling K.order (C.items self.old) (C.items self.new)) }
-        ensures form { IsStored K.order S.eq (C.items self.new) }
+        ensures canonical { IsCanonical K.order S.eq (C.items self.new) }
         ensures nonempty { HasNoEmptySet S.is_void (C.items self.new) }
-        ensures coarse { IsComplete K.order → IsCoarse K.order S.eq (C.items self.new) }
-        ensures only { IsComplete K.order → IsOnlyCoarse K.order S.eq (C.items self.new) }
         ensures refused { OnErr result (C.items self.new ≡ C.items self.old) }
         ensures empty { IsEmptyRange K.order (R.range range) → IsOk result }
         ensures empty_unchanged { IsEmptyRange K.order (R.range range)

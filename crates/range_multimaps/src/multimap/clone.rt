@@ -2,8 +2,8 @@
 ghost use Rattle.std.specs.Prelude.{IfOk};
 ghost use Rattle.range_algebra.specs.Range.{ClonesAreEqual};
 ghost use Rattle.range_reads.specs.ListOrder.{IsCopyOf};
-ghost use Rattle.range_runs.specs.Stored.{IsStored};
 ghost use Rattle.range_multimaps.specs.Pairs.{HasNoEmptySet};
+ghost use Rattle.range_runs.specs.Canonical.{IsCanonical};
 
 use super::RangeMultiMap;
 use crate::members::{MaybeEmpty, SetMut};
@@ -33,7 +33,7 @@ impl<K: PartialEnum + Clone, S: MaybeEmpty, C: Storage<Item<AnyRange<K>, S>>> Ra
         requires values { ClonesAreEqual V.is_clone V.eq }
         ensures equal { IfOk result
             (λ copy. IsCopyOf K.order S.eq (C.items copy) (C.items self.now)) }
-        ensures form { IfOk result (λ copy. IsStored K.order S.eq (C.items copy)) }
+        ensures canonical { IfOk result (λ copy. IsCanonical K.order S.eq (C.items copy)) }
         ensures nonempty { IfOk result (λ copy. HasNoEmptySet S.is_void (C.items copy)) }
     {
         Ok(RangeMultiMap {

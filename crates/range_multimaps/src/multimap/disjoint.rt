@@ -2,9 +2,9 @@
 ghost use Rattle.std.specs.Prelude.{◌≡◌, ◌↔◌, IsErrAnd, IsOk, OnOk, OnErr};
 ghost use Rattle.range_algebra.specs.Range.{IsEmptyRange};
 ghost use Rattle.range_runs.specs.Bindings.{IsBoundAfter};
+ghost use Rattle.range_runs.specs.Canonical.{IsCanonical};
 ghost use Rattle.range_runs.specs.Frames.{IsInsertionFrame};
 ghost use Rattle.range_runs.specs.Lookups.{MeetsSome, MeetAlso};
-ghost use Rattle.range_runs.specs.Stored.{IsStored};
 ghost use Rattle.range_map.specs.Freeing.{IsOccupied};
 ghost use Rattle.range_multimaps.specs.Pairs.{HasNoEmptySet};
 
@@ -35,7 +35,7 @@ pub fn insert_set<K: Measure, S: MaybeEmpty, C: Storage<Item<AnyRange<K>, S>>>(
     ensures meets { OnOk result
         (¬ IsEmptyRange K.order range
         → MeetAlso K.order (C.items multimap.old) (C.items multimap.new) range) }
-    ensures form { IsStored K.order S.eq (C.items multimap.new) }
+    ensures canonical { IsCanonical K.order S.eq (C.items multimap.new) }
     ensures nonempty { HasNoEmptySet S.is_void (C.items multimap.new) }
     ensures refused { OnErr result (C.items multimap.new ≡ C.items multimap.old) }
     ensures empty { IsEmptyRange K.order range → IsOk result }

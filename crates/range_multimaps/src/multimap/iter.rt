@@ -2,11 +2,9 @@
 ghost use Rattle.std.specs.Prelude.{◌≡◌, length, IfSome, Some};
 ghost use Rattle.std.specs.Iterator.{UpTo, YieldsFirstBy, YieldsLastBy, at_most, item_count};
 ghost use Rattle.std.specs.Iterator.SizeHint.{IsWithinCount};
-ghost use Rattle.range_keys.specs.Order.{IsComplete};
-ghost use Rattle.range_runs.specs.Bindings.{IsOnlyCoarse};
 ghost use Rattle.range_reads.specs.Iteration.{pair_item};
-ghost use Rattle.range_runs.specs.Stored.{IsStored};
 ghost use Rattle.range_multimaps.specs.Pairs.{HasNoEmptySet};
+ghost use Rattle.range_runs.specs.Canonical.{IsCanonical};
 
 use super::{Iter, RangeMultiMap};
 use crate::members::MaybeEmpty;
@@ -78,8 +76,8 @@ impl<K: PartialEnum, S: MaybeEmpty, C: Storage<Item<AnyRange<K>, S>>> IntoIterat
 
     type IntoIter = IntoIter<K, S, C>;
 
-    ghost into_iter_gives = { λ map list. (list ≡ C.items map) × IsStored K.order S.eq list
-        × HasNoEmptySet S.is_void list × (IsComplete K.order → IsOnlyCoarse K.order S.eq list) };
+    ghost into_iter_gives = { λ map list. (list ≡ C.items map) × IsCanonical K.order S.eq list
+        × HasNoEmptySet S.is_void list };
 
     fn into_iter(self) -> IntoIter<K, S, C> {
         self.in_form();
@@ -94,8 +92,8 @@ impl<'a, K: PartialEnum, S: MaybeEmpty, C: Storage<Item<AnyRange<K>, S>>> IntoIt
 
     type IntoIter = Iter<'a, K, S, C>;
 
-    ghost into_iter_gives = { λ map list. (list ≡ C.items map.now) × IsStored K.order S.eq list
-        × HasNoEmptySet S.is_void list × (IsComplete K.order → IsOnlyCoarse K.order S.eq list) };
+    ghost into_iter_gives = { λ map list. (list ≡ C.items map.now) × IsCanonical K.order S.eq list
+        × HasNoEmptySet S.is_void list };
 
     fn into_iter(self) -> Iter<'a, K, S, C> {
         self.iter()

@@ -2,7 +2,7 @@
 ghost use Rattle.std.specs.Prelude.{◌≡◌, ◌&&◌, Bool, IfOk, is_some, not};
 ghost use Rattle.std.specs.Bool.{beq};
 ghost use Rattle.range_algebra.specs.Range.{ClonesAreEqual};
-ghost use Rattle.range_set_extend.specs.KeySets.{IsStoredSet};
+ghost use Rattle.range_set_extend.specs.KeySets.{IsCanonicalSet};
 ghost use Rattle.range_sets.specs.TwoSets.{HoldsEither, HoldsBoth, HoldsFirstAlone, HoldsJustOne, AreKept};
 
 use super::RangeSet;
@@ -76,7 +76,7 @@ impl<T: PartialEnum + Clone, C: Storage<Item<AnyRange<T>, ()>>> RangeSet<T, C> {
         requires { ClonesAreEqual T.is_clone T.eq }
         ensures kept { IfOk result
             (λ new. AreKept T.order (C.items self.now) (D.items other.now) (C.items new) W.truth) }
-        ensures form { IfOk result (λ new. IsStoredSet T.order (C.items new)) }
+        ensures canonical { IfOk result (λ new. IsCanonicalSet T.order (C.items new)) }
     {
         match self
             .map
@@ -109,7 +109,7 @@ impl<T: PartialEnum + Clone, C: Storage<Item<AnyRange<T>, ()>>> RangeSet<T, C> {
         requires { ClonesAreEqual T.is_clone T.eq }
         ensures held { IfOk result
             (λ new. HoldsEither T.order (C.items self.now) (D.items other.now) (C.items new)) }
-        ensures form { IfOk result (λ new. IsStoredSet T.order (C.items new)) }
+        ensures canonical { IfOk result (λ new. IsCanonicalSet T.order (C.items new)) }
     {
         let mut ranges = Vec::new(self.alloc);
         unite(&mut ranges, self, other)?;
@@ -136,7 +136,7 @@ impl<T: PartialEnum + Clone, C: Storage<Item<AnyRange<T>, ()>>> RangeSet<T, C> {
         requires { ClonesAreEqual T.is_clone T.eq }
         ensures held { IfOk result
             (λ new. HoldsBoth T.order (C.items self.now) (D.items other.now) (C.items new)) }
-        ensures form { IfOk result (λ new. IsStoredSet T.order (C.items new)) }
+        ensures canonical { IfOk result (λ new. IsCanonicalSet T.order (C.items new)) }
     {
         self.kept::<Both, D>(other)
     }
@@ -160,7 +160,7 @@ impl<T: PartialEnum + Clone, C: Storage<Item<AnyRange<T>, ()>>> RangeSet<T, C> {
         ensures held { IfOk result
             (λ new. HoldsFirstAlone T.order (C.items self.now) (D.items other.now)
             (C.items new)) }
-        ensures form { IfOk result (λ new. IsStoredSet T.order (C.items new)) }
+        ensures canonical { IfOk result (λ new. IsCanonicalSet T.order (C.items new)) }
     {
         self.kept::<FirstAlone, D>(other)
     }
@@ -183,7 +183,7 @@ impl<T: PartialEnum + Clone, C: Storage<Item<AnyRange<T>, ()>>> RangeSet<T, C> {
         requires { ClonesAreEqual T.is_clone T.eq }
         ensures held { IfOk result
             (λ new. HoldsJustOne T.order (C.items self.now) (D.items other.now) (C.items new)) }
-        ensures form { IfOk result (λ new. IsStoredSet T.order (C.items new)) }
+        ensures canonical { IfOk result (λ new. IsCanonicalSet T.order (C.items new)) }
     {
         self.kept::<JustOne, D>(other)
     }

@@ -2,7 +2,7 @@
 ghost use Rattle.std.specs.Prelude.{IfOk, true};
 ghost use Rattle.range_algebra.specs.Range.{ClonesAreEqual};
 ghost use Rattle.range_reads.specs.ListOrder.{IsCopyOf};
-ghost use Rattle.range_set_extend.specs.KeySets.{IsStoredSet};
+ghost use Rattle.range_set_extend.specs.KeySets.{IsCanonicalSet};
 
 use super::RangeSet;
 use range_algebra::any::AnyRange;
@@ -24,7 +24,7 @@ impl<T: PartialEnum + Clone, C: Storage<Item<AnyRange<T>, ()>>> RangeSet<T, C> {
         requires { ClonesAreEqual T.is_clone T.eq }
         ensures equal { IfOk result
             (λ copy. IsCopyOf T.order (λ _ _. true) (C.items copy) (C.items self.now)) }
-        ensures form { IfOk result (λ copy. IsStoredSet T.order (C.items copy)) }
+        ensures canonical { IfOk result (λ copy. IsCanonicalSet T.order (C.items copy)) }
     {
         Ok(RangeSet {
             map: self.map.clone()?,

@@ -2,7 +2,7 @@
 ghost use Rattle.std.specs.Prelude.{◌≡◌, ◌+◌, ◌≤◌, [], length, IfOk, OnOk};
 ghost use Rattle.range_algebra.specs.Range.{ClonesAreEqual};
 ghost use Rattle.range_sets.specs.Complements.{EqualGapsOf};
-ghost use Rattle.range_set_extend.specs.KeySets.{HoldsTheOthers, IsStoredSet};
+ghost use Rattle.range_set_extend.specs.KeySets.{HoldsTheOthers, IsCanonicalSet};
 
 use super::RangeSet;
 use range_algebra::any::AnyRange;
@@ -30,7 +30,7 @@ impl<T: Measure + Clone, C: Storage<Item<AnyRange<T>, ()>>> RangeSet<T, C> {
             (λ others. HoldsTheOthers T.order (C.items self.now) (C.items others)) }
         ensures gaps { IfOk result
             (λ others. EqualGapsOf T.order (C.items self.now) (C.items others)) }
-        ensures form { IfOk result (λ others. IsStoredSet T.order (C.items others)) }
+        ensures canonical { IfOk result (λ others. IsCanonicalSet T.order (C.items others)) }
     {
         let most = match self.range_count().checked_add(1) {
             Some(most) => most,
@@ -53,7 +53,7 @@ impl<T: Measure + Clone, C: Storage<Item<AnyRange<T>, ()>>> RangeSet<T, C> {
         ensures held { OnOk result
             (HoldsTheOthers T.order (C.items self.now) (C.items others.new)) }
         ensures gaps { OnOk result (EqualGapsOf T.order (C.items self.now) (C.items others.new)) }
-        ensures form { OnOk result (IsStoredSet T.order (C.items others.new)) }
+        ensures canonical { OnOk result (IsCanonicalSet T.order (C.items others.new)) }
     {
         self.in_form();
         let mut gaps = self.gaps();

@@ -4,7 +4,7 @@ ghost use Rattle.range_algebra.specs.Intervals.{Any};
 ghost use Rattle.range_algebra.specs.Range.{Holds};
 ghost use Rattle.range_algebra.specs.declared.any.AnyRange.{AnyRange};
 ghost use Rattle.range_reads.specs.FreeRanges.{item_ranges};
-ghost use Rattle.range_set_extend.specs.KeySets.{HoldsKey, IsStoredSet};
+ghost use Rattle.range_set_extend.specs.KeySets.{HoldsKey, IsCanonicalSet};
 
 use super::RangeSet;
 use range_algebra::any::AnyRange;
@@ -78,7 +78,7 @@ impl<T: PartialEnum, C: Storage<Item<AnyRange<T>, ()>>> RangeSet<T, C> {
     pub fn pop_first(&mut self) -> Option<AnyRange<T>>
         ensures first { MatchOption result ((C.items self.old ≡ []) × (C.items self.new ≡ []))
             (λ r. item_ranges (C.items self.old) ≡ r ∷ item_ranges (C.items self.new)) }
-        ensures form { IsStoredSet T.order (C.items self.new) }
+        ensures canonical { IsCanonicalSet T.order (C.items self.new) }
         ensures space { MatchOption result (C.room self.old ≤ C.room self.new)
             (λ _. C.room self.old + 1 ≤ C.room self.new) }
     {
@@ -99,7 +99,7 @@ impl<T: PartialEnum, C: Storage<Item<AnyRange<T>, ()>>> RangeSet<T, C> {
     pub fn pop_last(&mut self) -> Option<AnyRange<T>>
         ensures last { MatchOption result ((C.items self.old ≡ []) × (C.items self.new ≡ []))
             (λ r. item_ranges (C.items self.old) ≡ item_ranges (C.items self.new) ++ r ∷ []) }
-        ensures form { IsStoredSet T.order (C.items self.new) }
+        ensures canonical { IsCanonicalSet T.order (C.items self.new) }
         ensures space { MatchOption result (C.room self.old ≤ C.room self.new)
             (λ _. C.room self.old + 1 ≤ C.room self.new) }
     {

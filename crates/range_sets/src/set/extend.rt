@@ -3,7 +3,7 @@ ghost use Rattle.std.specs.Prelude.{IfOk, OnOk, OnErr};
 ghost use Rattle.std.specs.Iterator.{IsFiniteIterable};
 ghost use Rattle.range_algebra.specs.Range.{ClonesAreEqual};
 ghost use Rattle.range_set_extend.specs.Extending.{AfterAll, AfterSome};
-ghost use Rattle.range_set_extend.specs.KeySets.{HoldsAllAlso, HoldsAllOf, IsStoredSet};
+ghost use Rattle.range_set_extend.specs.KeySets.{HoldsAllAlso, HoldsAllOf, IsCanonicalSet};
 
 use super::RangeSet;
 use range_algebra::any::AnyRange;
@@ -37,7 +37,7 @@ impl<T: Measure + Clone, C: Storage<Item<AnyRange<T>, ()>>> RangeSet<T, C> {
         ensures refused { OnErr result
             (AfterSome I.into_iter_gives I.IntoIter.next_gives R.range ranges T.order
             (HoldsAllAlso T.order (C.items self.old) (C.items self.new))) }
-        ensures form { IsStoredSet T.order (C.items self.new) }
+        ensures canonical { IsCanonicalSet T.order (C.items self.new) }
     {
         extend(&mut self.map, ranges)
     }
@@ -59,7 +59,7 @@ impl<T: Measure + Clone, C: Storage<Item<AnyRange<T>, ()>>> RangeSet<T, C> {
         ensures held { IfOk result
             (λ set. AfterAll I.into_iter_gives I.IntoIter.next_gives R.range ranges
             (HoldsAllOf T.order (C.items set))) }
-        ensures form { IfOk result (λ set. IsStoredSet T.order (C.items set)) }
+        ensures canonical { IfOk result (λ set. IsCanonicalSet T.order (C.items set)) }
     {
         let mut set = RangeSet::new(alloc);
         set.extend(ranges)?;

@@ -2,7 +2,7 @@
 ghost use Rattle.std.specs.Prelude.{OnOk, OnErr};
 ghost use Rattle.range_algebra.specs.Range.{ClonesAreEqual};
 ghost use Rattle.range_map.specs.PartWay.{BeforeOne, BeforeOneGap};
-ghost use Rattle.range_set_extend.specs.KeySets.{HoldsWithoutAll, IsStoredSet};
+ghost use Rattle.range_set_extend.specs.KeySets.{HoldsWithoutAll, IsCanonicalSet};
 ghost use Rattle.range_sets.specs.TwoSets.{HoldsEither, HoldsBoth, HoldsFirstAlone};
 
 use super::RangeSet;
@@ -33,7 +33,7 @@ impl<T: Measure + Clone, C: Storage<Item<AnyRange<T>, ()>>> RangeSet<T, C> {
             (HoldsEither T.order (C.items self.old) (D.items other.now) (C.items self.new)) }
         ensures refused { OnErr result (BeforeOne (D.items other.now)
             (λ front. HoldsEither T.order (C.items self.old) front (C.items self.new))) }
-        ensures form { IsStoredSet T.order (C.items self.new) }
+        ensures canonical { IsCanonicalSet T.order (C.items self.new) }
     {
         self.map.extend_from(&other.map)
     }
@@ -59,7 +59,7 @@ impl<T: Measure + Clone, C: Storage<Item<AnyRange<T>, ()>>> RangeSet<T, C> {
             (HoldsFirstAlone T.order (C.items self.old) (D.items other.now) (C.items self.new)) }
         ensures refused { OnErr result (BeforeOne (D.items other.now)
             (λ front. HoldsFirstAlone T.order (C.items self.old) front (C.items self.new))) }
-        ensures form { IsStoredSet T.order (C.items self.new) }
+        ensures canonical { IsCanonicalSet T.order (C.items self.new) }
     {
         self.map.remove_all(&other.map)
     }
@@ -87,7 +87,7 @@ impl<T: Measure + Clone, C: Storage<Item<AnyRange<T>, ()>>> RangeSet<T, C> {
             (HoldsBoth T.order (C.items self.old) (D.items other.now) (C.items self.new)) }
         ensures refused { OnErr result (BeforeOneGap T.order (D.items other.now)
             (HoldsWithoutAll T.order (C.items self.old) (C.items self.new))) }
-        ensures form { IsStoredSet T.order (C.items self.new) }
+        ensures canonical { IsCanonicalSet T.order (C.items self.new) }
     {
         self.map.retain_all(&other.map)
     }

@@ -5,7 +5,7 @@ ghost use Rattle.range_runs.specs.Clones.{ClonesNeverFail};
 ghost use Rattle.range_edit.specs.Costs.{TakesAtLeast, TakesAsChange};
 ghost use Rattle.range_runs.specs.Frames.{IsInsertionFrame};
 ghost use Rattle.range_runs.specs.Lookups.{MeetAlso};
-ghost use Rattle.range_set_extend.specs.KeySets.{HoldsAlso, IsStoredSet};
+ghost use Rattle.range_set_extend.specs.KeySets.{HoldsAlso, IsCanonicalSet};
 
 use super::RangeSet;
 use range_algebra::any::AnyRange;
@@ -29,7 +29,7 @@ impl<T: Measure + Clone, C: Storage<Item<AnyRange<T>, ()>>> RangeSet<T, C> {
         requires { ClonesAreEqual T.is_clone T.eq }
         ensures added { OnOk result
             (HoldsAlso T.order (C.items self.old) (C.items self.new) (R.range range)) }
-        ensures form { IsStoredSet T.order (C.items self.new) }
+        ensures canonical { IsCanonicalSet T.order (C.items self.new) }
         ensures frame { OnOk result (¬ IsEmptyRange T.order (R.range range)
             → IsInsertionFrame T.order (λ _ _. true) (C.items self.old) (C.items self.new)
             (R.range range) tt) }
@@ -63,7 +63,7 @@ impl<T: Measure + Clone, C: Storage<Item<AnyRange<T>, ()>>> RangeSet<T, C> {
         requires { ClonesAreEqual T.is_clone T.eq }
         ensures added { OnOk result
             (HoldsAlso T.order (C.items self.old) (C.items self.new) (R.range range)) }
-        ensures form { IsStoredSet T.order (C.items self.new) }
+        ensures canonical { IsCanonicalSet T.order (C.items self.new) }
         ensures frame { OnOk result (¬ IsEmptyRange T.order (R.range range)
             → IsInsertionFrame T.order (λ _ _. true) (C.items self.old) (C.items self.new)
             (R.range range) tt) }

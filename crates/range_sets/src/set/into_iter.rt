@@ -3,7 +3,7 @@ ghost use Rattle.std.specs.Prelude.{◌≡◌, length, IfSome, Some};
 ghost use Rattle.std.specs.Iterator.{UpTo, YieldsFirst, at_most, item_count};
 ghost use Rattle.std.specs.Iterator.SizeHint.{IsWithinCount};
 ghost use Rattle.range_reads.specs.FreeRanges.{item_ranges};
-ghost use Rattle.range_set_extend.specs.KeySets.{IsStoredSet};
+ghost use Rattle.range_set_extend.specs.KeySets.{IsCanonicalSet};
 
 use super::RangeSet;
 use range_algebra::any::AnyRange;
@@ -59,7 +59,7 @@ impl<T: PartialEnum, C: Storage<Item<AnyRange<T>, ()>>> IntoIterator for RangeSe
     type IntoIter = IntoIter<T, C>;
 
     ghost into_iter_gives = { λ set list. (list ≡ item_ranges (C.items set))
-        × IsStoredSet T.order (C.items set) };
+        × IsCanonicalSet T.order (C.items set) };
 
     fn into_iter(self) -> IntoIter<T, C> {
         self.in_form();

@@ -3,7 +3,7 @@ ghost use Rattle.std.specs.Prelude.{◌≡◌, List, length, IfSome, Some};
 ghost use Rattle.std.specs.Iterator.{UpTo, YieldsFirstRef, YieldsLastRef, at_most, item_count};
 ghost use Rattle.std.specs.Iterator.SizeHint.{IsWithinCount};
 ghost use Rattle.range_reads.specs.FreeRanges.{item_ranges};
-ghost use Rattle.range_set_extend.specs.KeySets.{IsStoredSet};
+ghost use Rattle.range_set_extend.specs.KeySets.{IsCanonicalSet};
 
 use super::RangeSet;
 use range_algebra::any::AnyRange;
@@ -79,7 +79,7 @@ impl<'a, T: PartialEnum, C: Storage<Item<AnyRange<T>, ()>>> IntoIterator for &'a
     type IntoIter = Iter<'a, T, C>;
 
     ghost into_iter_gives = { λ set list. (list ≡ item_ranges (C.items set.now))
-        × IsStoredSet T.order (C.items set.now) };
+        × IsCanonicalSet T.order (C.items set.now) };
 
     fn into_iter(self) -> Iter<'a, T, C> {
         self.iter()

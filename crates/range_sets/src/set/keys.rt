@@ -1,7 +1,7 @@
 //! A set of the keys of a map, and a set as a map.
 ghost use Rattle.std.specs.Prelude.{◌≡◌, IfOk, Ok};
 ghost use Rattle.range_algebra.specs.Range.{ClonesAreEqual};
-ghost use Rattle.range_set_extend.specs.KeySets.{HoldsKeysOf, IsStoredSet};
+ghost use Rattle.range_set_extend.specs.KeySets.{HoldsKeysOf, IsCanonicalSet};
 
 use super::RangeSet;
 use range_algebra::any::AnyRange;
@@ -53,7 +53,7 @@ impl<T: PartialEnum + Clone, C: Storage<Item<AnyRange<T>, ()>>> RangeSet<T, C> {
         requires { ClonesAreEqual T.is_clone T.eq }
         ensures held { IfOk result
             (λ keys. HoldsKeysOf T.order (D.items map.now) (C.items keys)) }
-        ensures form { IfOk result (λ keys. IsStoredSet T.order (C.items keys)) }
+        ensures canonical { IfOk result (λ keys. IsCanonicalSet T.order (C.items keys)) }
     {
         match map.map_values(|value| no_value(value)) {
             Ok(map) => Ok(RangeSet { map, alloc }),

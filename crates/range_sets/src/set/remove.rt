@@ -6,7 +6,7 @@ ghost use Rattle.range_runs.specs.Clones.{ClonesNeverFail};
 ghost use Rattle.range_edit.specs.Costs.{TakesAtLeast, TakesAsChange};
 ghost use Rattle.range_runs.specs.Frames.{IsRemovalFrame};
 ghost use Rattle.range_runs.specs.Lookups.{Overlap};
-ghost use Rattle.range_set_extend.specs.KeySets.{HoldsWithout, IsStoredSet};
+ghost use Rattle.range_set_extend.specs.KeySets.{HoldsWithout, IsCanonicalSet};
 
 use super::RangeSet;
 use range_algebra::any::AnyRange;
@@ -32,7 +32,7 @@ impl<T: Measure + Clone, C: Storage<Item<AnyRange<T>, ()>>> RangeSet<T, C> {
         requires { ClonesAreEqual T.is_clone T.eq }
         ensures removed { OnOk result
             (HoldsWithout T.order (C.items self.old) (C.items self.new) (R.range range)) }
-        ensures form { IsStoredSet T.order (C.items self.new) }
+        ensures canonical { IsCanonicalSet T.order (C.items self.new) }
         ensures apart { OnOk result (¬ IsEmptyRange T.order (R.range range)
             → Every (λ i. ¬ Overlap T.order i.key (R.range range)) (C.items self.new)) }
         ensures frame { OnOk result (¬ IsEmptyRange T.order (R.range range)
@@ -74,7 +74,7 @@ impl<T: Measure + Clone, C: Storage<Item<AnyRange<T>, ()>>> RangeSet<T, C> {
         requires { ClonesAreEqual T.is_clone T.eq }
         ensures removed { OnOk result
             (HoldsWithout T.order (C.items self.old) (C.items self.new) (R.range range)) }
-        ensures form { IsStoredSet T.order (C.items self.new) }
+        ensures canonical { IsCanonicalSet T.order (C.items self.new) }
         ensures apart { OnOk result (¬ IsEmptyRange T.order (R.range range)
             → Every (λ i. ¬ Overlap T.order i.key (R.range range)) (C.items self.new)) }
         ensures frame { OnOk result (¬ IsEmptyRange T.order (R.range range)

@@ -4,7 +4,7 @@ ghost use Rattle.std.specs.Fn.{CalledAt};
 ghost use Rattle.std.specs.List.Retain.{IsFiltered};
 ghost use Rattle.range_reads.specs.FreeRanges.{item_ranges};
 ghost use Rattle.range_map.specs.Together.{BindKeysOf};
-ghost use Rattle.range_set_extend.specs.KeySets.{IsStoredSet};
+ghost use Rattle.range_set_extend.specs.KeySets.{IsCanonicalSet};
 
 use super::RangeSet;
 use range_algebra::any::AnyRange;
@@ -29,7 +29,7 @@ impl<T: PartialEnum, C: Storage<Item<AnyRange<T>, ()>>> RangeSet<T, C> {
         ensures filtered { IsFiltered (CalledAt F.FnMut) f (item_ranges (C.items self.old))
             (item_ranges (C.items self.new)) }
         ensures kept { BindKeysOf T.order (C.items self.new) (C.items self.old) }
-        ensures form { IsStoredSet T.order (C.items self.new) }
+        ensures canonical { IsCanonicalSet T.order (C.items self.new) }
         ensures few { length (C.items self.new) ≤ length (C.items self.old) }
         ensures space { C.room self.old + length (C.items self.old)
             ≤ C.room self.new + length (C.items self.new) }

@@ -4,7 +4,7 @@ ghost use Rattle.range_algebra.specs.Range.{IsEmptyRange};
 ghost use Rattle.range_runs.specs.Frames.{IsInsertionFrame};
 ghost use Rattle.range_runs.specs.Lookups.{MeetsSome, MeetAlso};
 ghost use Rattle.range_sets.specs.Adding.{IsOccupied, given_back};
-ghost use Rattle.range_set_extend.specs.KeySets.{HoldsAlso, IsStoredSet};
+ghost use Rattle.range_set_extend.specs.KeySets.{HoldsAlso, IsCanonicalSet};
 
 use super::RangeSet;
 use range_algebra::any::AnyRange;
@@ -43,7 +43,7 @@ impl<T: Measure, C: Storage<Item<AnyRange<T>, ()>>> RangeSet<T, C> {
         ensures given { IfErr result (λ e. given_back e ≡ R.range range) }
         ensures added { OnOk result
             (HoldsAlso T.order (C.items self.old) (C.items self.new) (R.range range)) }
-        ensures form { IsStoredSet T.order (C.items self.new) }
+        ensures canonical { IsCanonicalSet T.order (C.items self.new) }
         ensures frame { OnOk result (¬ IsEmptyRange T.order (R.range range)
             → IsInsertionFrame T.order (λ _ _. true) (C.items self.old) (C.items self.new)
             (R.range range) tt) }

@@ -1,7 +1,7 @@
 //! Callers of sets in any container.
 
 ghost use Rattle.std.specs.Prelude.{◌≡◌, ◌↔◌, [], IsTrue, length};
-ghost use Rattle.btree_range_map.specs.KeySets.{IsStoredSet, HoldsKey};
+ghost use Rattle.btree_range_map.specs.KeySets.{IsCanonicalSet, HoldsKey};
 ghost use Rattle.btree_range_map.specs.Names.{u8_order};
 ghost use Rattle.btree_range_map.specs.Numbers.{IsNumberOfKeys};
 
@@ -25,7 +25,7 @@ fn gathered<C: Storage<Key>>(alloc: Global) -> Result<Set<C>, MapError> {
 }
 
 fn add_all<C: Storage<Key>>(set: &mut Set<C>) -> Result<(), MapError>
-    ensures form { IsStoredSet u8_order (C.items set.new) }
+    ensures canonical { IsCanonicalSet u8_order (C.items set.new) }
 {
     set.extend([0..2u8, 4..6])
 }

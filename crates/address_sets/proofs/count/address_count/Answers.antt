@@ -14,7 +14,7 @@ counted-requires g c =
     subst (λ ranges. AllByRecursion (HasSpan g.A.Address.number g.A.Address.WIDTH) ranges)
     (sym c.iter.ensures.ranges)
     (have_spans g.met.A.Address.family (g.C.Storage.items c.args.set.now)
-    c.iter.ensures.form.known (c.iter.ensures.coarse g.met.A.Complete.complete))
+    c.iter.ensures.canonical.stored.known (c.iter.ensures.canonical.coarse g.met.A.Complete.complete))
 
 pub returns : goal.returns
 returns g c =
@@ -22,8 +22,8 @@ returns g c =
     let shown = map (span g.A.Address.number g.A.Address.WIDTH) in
     count_is g.met.A.Address.family (HoldsKey g.A.MaybeBounded.order items)
     (shown (item_ranges items))
-    (are_runs g.met.A.Address.family items c.iter.ensures.form.known
-    (c.iter.ensures.coarse g.met.A.Complete.complete))
+    (are_runs g.met.A.Address.family items c.iter.ensures.canonical.stored.known
+    (c.iter.ensures.canonical.coarse g.met.A.Complete.complete))
     c.counted.result
     (subst (λ ranges. MatchOption c.counted.result (2 ^ 128 ≤ total (shown ranges))
     (λ n. n ≡ total (shown ranges))) c.iter.ensures.ranges c.counted.ensures)

@@ -13,7 +13,7 @@ invariant_of-result g c =
     subst (λ ranges. AllByRecursion (HasSpan g.A.Address.number g.A.Address.WIDTH) ranges)
     (sym c.iter.ensures.ranges)
     (have_spans g.met.A.Address.family (box_items c.args.set.now)
-    c.iter.ensures.form.known (c.iter.ensures.coarse g.met.A.Complete.complete))
+    c.iter.ensures.canonical.stored.known (c.iter.ensures.canonical.coarse g.met.A.Complete.complete))
 
 pub returns : goal.returns
 returns g c =
@@ -22,4 +22,4 @@ returns g c =
     (2 ^ g.A.Address.WIDTH) (map (span g.A.Address.number g.A.Address.WIDTH) ranges))
     (sym c.iter.ensures.ranges)
     (are_runs g.met.A.Address.family (box_items c.args.set.now)
-    c.iter.ensures.form.known (c.iter.ensures.coarse g.met.A.Complete.complete))
+    c.iter.ensures.canonical.stored.known (c.iter.ensures.canonical.coarse g.met.A.Complete.complete))

@@ -17,7 +17,7 @@ reached c =
     let sets = c.args.sets.now.listed.items in
     let set = c.index.result.now in
     let all = c.iter-entries.result in
-    let form = c.iter-entries.ensures.form in
+    let form = c.iter-entries.ensures.canonical.stored in
     let entry : Entry = record { key = c.in-Some.range.now; value = c.in-Some.targets.now } in
     let coarse =
     c.stored_lists_are_coarse.ensures.coarse (counted_complete character_counted) all form in
@@ -75,6 +75,6 @@ returns-clause-row c =
     rw (← same)
     (row_all rules first c.in_ok-leads.leads all c.iter-entries.ensures.items
     c.in_ok-leads.ensures.leads
-    (c.stored_sets_have_all_values.ensures all c.iter-entries.ensures.form)
+    (c.stored_sets_have_all_values.ensures all c.iter-entries.ensures.canonical.stored)
     c.loop-range.sets.listed.items c.loop-range.row c.loop-range.entries c.loop-range.invariant.row
     c.in_default.ensures.steps.0)

@@ -44,7 +44,7 @@ returns-in-Ok-remove_counted g c =
           let items = g.C.Storage.items c.args.map.now in
           rw c.in-Remove.is record {
             unbound = done.unbound;
-            form = done.form;
+            canonical = done.canonical;
             few = done.few;
             empty = done.empty_unchanged;
             unmet =

@@ -24,7 +24,7 @@ returns-in-Ok g c =
           (g.C.Storage.items c.update.new.self) c.args.range done.rebound
           (λ value a m.
           subst (λ v. MayAnswerTo g.F.Fn c.args.f.now c.args.tag v a) m.shows m.says.1);
-      form = done.form;
+      canonical = done.canonical;
       empty = done.empty_unchanged;
     }
 

@@ -12,4 +12,4 @@ returns-in-Ok-from_sorted g c =
     let items = box_items c.in-Ok-from_sorted.made in
     subst (λ said. AreBoundAfter order nat_eq [] items said) c.in-Ok.ensures
     (bound_at_once order items (map pair_item c.in-Ok.pairs.items)
-    (c.stored_lists_bind_once.ensures items made.form) made.bound)
+    (c.stored_lists_bind_once.ensures items made.canonical.stored) made.bound)

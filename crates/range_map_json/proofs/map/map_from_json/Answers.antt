@@ -1,5 +1,6 @@
 use Rattle.std.proofs.Common.{refl, rules, map, arith}
 use Rattle.serde_json.specs.View.{view}
+use Rattle.range_map.proofs.StoredLists.{stored_canonical}
 use Rattle.range_map_json.proofs.BoundElements.{none_bound, one_more_alike}
 use Rattle.range_map_json.proofs.ElementLoop.{one_read, reading_begun, reading_ended}
 use Rattle.range_map_json.proofs.MapReading.{are_read, map_fails, map_meets}
@@ -17,7 +18,7 @@ loop-index-preserved g c =
     one_read c.in_ok-elements.elements.now c.loop-index.index c.index-elements-index.result
     (omega (arith, c.loop-index-test.true, c.loop-index.auto.index-end)) c.index-elements-index.is h
     g.met.K.PartialEnum.lawful g.met.V.Eq.laws c.in_ok-item.item refl item.sound item.read
-    done.known done.frame done.form (one_more_alike g.K.MaybeBounded.order
+    done.known done.frame done.canonical.stored (one_more_alike g.K.MaybeBounded.order
     g.met.K.PartialEnum.lawful g.V.PartialEq.eq (items c.loop-index.map)
     (items c.insert_element.new.map) h.elements c.in_ok-item.item h.bound (record {
       known = done.known;
@@ -60,6 +61,6 @@ returns g c =
         bound = whole.bound.alike;
         kept = whole.kept;
       };
-      form = whole.form;
+      canonical = stored_canonical g.met.K.PartialEnum.lawful g.met.V.Eq.laws _ whole.form;
       fault = tt;
     }

@@ -1,6 +1,7 @@
 use Rattle.std.proofs.Common.{refl, ap, ◌∙◌, map, arith, []}
 use Rattle.serde_json.specs.View.{view}
 use Rattle.range_map.proofs.ExtendedLists.{none_bound_after, one_bound_after}
+use Rattle.range_map.proofs.StoredLists.{stored_canonical}
 use Rattle.range_map_json.specs.Overwriting.{fault_of_elements}
 use Rattle.range_map_json.proofs.ElementLoop.{one_fails, one_read, reading_begun, reading_ended}
 use Rattle.range_map_json.proofs.overwriting.map_from_json_overwriting.Goals as goal
@@ -19,7 +20,7 @@ loop-index-preserved g c =
     one_read c.in_ok-elements.elements.now c.loop-index.index c.index-elements-index.result
     (omega (arith, c.loop-index-test.true, c.loop-index.auto.index-end)) c.index-elements-index.is h
     g.met.K.PartialEnum.lawful g.met.V.Eq.laws x refl item.sound item.read
-    c.overwrite_element.ensures.known done.frame c.overwrite_element.ensures.form
+    c.overwrite_element.ensures.known done.frame c.overwrite_element.ensures.canonical.stored
     (one_bound_after g.K.MaybeBounded.order g.V.PartialEq.eq [] (g.C.Storage.items c.loop-index.map)
     (g.C.Storage.items c.overwrite_element.new.map) h.elements x.key x.value h.bound done.bound)
 
@@ -51,7 +52,7 @@ returns g c =
         bound = whole.bound;
         kept = whole.kept;
       };
-      form = whole.form;
+      canonical = stored_canonical g.met.K.PartialEnum.lawful g.met.V.Eq.laws _ whole.form;
       sound =
           ap (fault_of_elements g.K.Json.reads g.V.Json.reads) c.in_ok-elements.ensures.found
           ∙ whole.sound;

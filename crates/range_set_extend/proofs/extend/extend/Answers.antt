@@ -14,7 +14,7 @@ loop-range-init g c =
       can = ready.0;
       ends = ready.1;
       added = none_added g.T.MaybeBounded.order (g.C.Storage.items c.args.set.now);
-      form = c.in_form.ensures;
+      canonical = c.in_form.ensures;
     }
 
 pub loop-range-preserved : goal.loop-range-preserved
@@ -35,7 +35,7 @@ loop-range-preserved g c =
       can = (c.in-Some.ensures.goes.on was.ends).0;
       ends = (c.in-Some.ensures.goes.on was.ends).1;
       added = rw (map-append range c.loop-range.yielded (next ∷ [])) more;
-      form = c.insert.ensures.form;
+      canonical = c.insert.ensures.canonical;
     }
 
 pub returns : goal.returns
@@ -52,7 +52,7 @@ returns g c =
         c.loop-range.invariant.added,
       );
       refused = tt;
-      form = c.loop-range.invariant.form;
+      canonical = c.loop-range.invariant.canonical;
     }
 
 pub returns-in_err-insert : goal.returns-in_err-insert
@@ -70,7 +70,7 @@ returns-in_err-insert g c =
             λ empty. absurd (false≢true (c.in_err-insert.ensures.empty empty)),
             rw c.in_err-insert.ensures.refused c.loop-range.invariant.added,
           );
-      form = c.insert.ensures.form;
+      canonical = c.insert.ensures.canonical;
     }
 
 pub insert-requires : goal.insert-requires

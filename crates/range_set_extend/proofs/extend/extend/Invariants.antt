@@ -1,5 +1,5 @@
 use Rattle.std.proofs.Common.{map}
-use Rattle.range_set_extend.specs.KeySets.{HoldsAllAlso, IsStoredSet}
+use Rattle.range_set_extend.specs.KeySets.{HoldsAllAlso, IsCanonicalSet}
 use Rattle.range_set_extend.proofs.extend.extend.Given as goal
 
 abbrev pub invariant-loop-range : goal.invariant-loop-range
@@ -9,5 +9,5 @@ invariant-loop-range g l =
       ends : (goal.iterator-loop-range g).is_finite l.range-iterator;
       added : HoldsAllAlso g.T.MaybeBounded.order (g.C.Storage.items l.initial.set)
           (g.C.Storage.items l.set) (map g.R.AsRange.range l.yielded);
-      form : IsStoredSet g.T.MaybeBounded.order (g.C.Storage.items l.set);
+      canonical : IsCanonicalSet g.T.MaybeBounded.order (g.C.Storage.items l.set);
     }

@@ -3,6 +3,7 @@ use Rattle.std.specs.Cmp.{on_equiv}
 use Rattle.std.specs.Cmp.Lexicographic.{lists_equiv}
 use Rattle.serde_json.specs.View.{view}
 use Rattle.range_json.specs.ValueSets.{reads_some_values, same_values, AreValuesRead}
+use Rattle.range_map.proofs.StoredLists.{stored_canonical}
 use Rattle.range_map_json.proofs.BoundElements.{none_bound, one_more_alike}
 use Rattle.range_map_json.proofs.ElementLoop.{one_read, reading_begun, reading_ended}
 use Rattle.range_map_json.proofs.MapReading.{are_read, map_fails, map_meets}
@@ -22,7 +23,7 @@ loop-index-preserved g c =
     (omega (arith, c.loop-index-test.true, c.loop-index.auto.index-end)) c.index-elements-index.is h
     g.met.K.PartialEnum.lawful
     (on_equiv (λ s. s.keys) (lists_equiv g.met.V.Eq.laws)) c.in_ok-item.item refl item.sound
-    item.read done.known done.frame done.form (one_more_alike g.K.MaybeBounded.order
+    item.read done.known done.frame done.canonical.stored (one_more_alike g.K.MaybeBounded.order
     g.met.K.PartialEnum.lawful
     (same_values g.V.PartialEq.eq) (items c.loop-index.multimap)
     (items c.insert_values.new.multimap) h.elements c.in_ok-item.item h.bound (record {
@@ -68,5 +69,7 @@ returns-clause-read g c =
       kept = whole.kept;
     }
 
-pub returns-clause-form : goal.returns-clause-form
-returns-clause-form g c = c.loop-index.invariant.form
+pub returns-clause-canonical : goal.returns-clause-canonical
+returns-clause-canonical g c =
+    stored_canonical g.met.K.PartialEnum.lawful
+    (on_equiv (λ s. s.keys) (lists_equiv g.met.V.Eq.laws)) _ c.loop-index.invariant.form

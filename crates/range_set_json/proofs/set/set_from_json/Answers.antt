@@ -1,6 +1,7 @@
 use Rattle.std.proofs.Common.{refl, ap, ◌∙◌, ◌∷◌, [], map, arith}
 use Rattle.std.proofs.lemmas.List.{map-append}
 use Rattle.serde_json.specs.View.{view}
+use Rattle.range_map.proofs.StoredLists.{stored_canonical}
 use Rattle.range_sets.proofs.Filling.{all_equal}
 use Rattle.range_sets.proofs.Membership.{all_of, none_added, one_more}
 use Rattle.range_map_json.proofs.ElementLoop.{one_fails, one_read, reading_begun, reading_ended}
@@ -20,7 +21,7 @@ loop-index-preserved g c =
     (omega (arith, c.loop-index-test.true, c.loop-index.auto.index-end)) c.index-elements-index.is h
     g.met.T.PartialEnum.lawful all_equal r (map-append _ h.elements (r ∷ []))
     c.in_ok-range.ensures.sound c.in_ok-range.ensures.read c.known.ensures done.frame
-    c.insert.ensures.form (one_more g.T.MaybeBounded.order [] (g.C.Storage.items c.loop-index.set)
+    c.insert.ensures.canonical.stored (one_more g.T.MaybeBounded.order [] (g.C.Storage.items c.loop-index.set)
     (g.C.Storage.items c.insert.new.self) h.elements r h.bound done.added)
 
 pub returns : goal.returns
@@ -41,7 +42,7 @@ returns g c =
             (g.C.Storage.items c.loop-index.set) whole.elements whole.bound;
         kept = whole.kept;
       };
-      form = whole.form;
+      canonical = stored_canonical g.met.T.PartialEnum.lawful all_equal _ whole.form;
       sound = ap (array_fault (range_fault g.T.Json.reads)) array ∙ whole.sound;
       fault = tt;
     }

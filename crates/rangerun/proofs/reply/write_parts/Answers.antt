@@ -5,7 +5,7 @@ use Rattle.rangerun.proofs.reply.write_parts.Goals as goal
 
 pub loop-range-init : goal.loop-range-init
 loop-range-init g c = record {
-  nonempty = c.iter-parts.ensures.form.nonempty;
+  nonempty = c.iter-parts.ensures.canonical.stored.nonempty;
   shown = rw c.iter-parts.ensures.items
       (shown_none (SpellsPart g.K.MaybeBounded.order g.K.NumberKey.as_number) _ _);
 }

@@ -4,14 +4,14 @@ use Rattle.tour.proofs.round_trip.read_back.Goals as goal
 
 pub returns-clause-equal : goal.returns-clause-equal
 returns-clause-equal g c =
-    let form = rw c.iter-items.ensures.items at c.iter-items.ensures.form in
+    let form = rw c.iter-items.ensures.items at c.iter-items.ensures.canonical.stored in
     IfOk-weaker c.map_from_json.result _ _ (λ read is.
     c.maps_are_read_back.ensures.equal _ _ c.in_ok-written.ensures.values form
     (rw c.in_ok-written.ensures.written at is)) c.map_from_json.ensures.read
 
 pub returns-clause-fails : goal.returns-clause-fails
 returns-clause-fails g c =
-    let form = rw c.iter-items.ensures.items at c.iter-items.ensures.form in
+    let form = rw c.iter-items.ensures.items at c.iter-items.ensures.canonical.stored in
     IfErr-weaker c.map_from_json.result _ _ (λ e fails. elim fails [
       | inl memory ↦ memory
       | inr fault ↦

@@ -10,5 +10,5 @@ returns-clause-met c =
     rw (← c.self.view_is)
     (are_in_the_way _ _ _
     (subst (IsStored u32_order string_eq) c.iter-bookings.ensures.items
-    c.iter-bookings.ensures.form)
+    c.iter-bookings.ensures.canonical.stored)
     (omega arith, omega arith) c.overlapping.ensures.empty c.overlapping.ensures.items)

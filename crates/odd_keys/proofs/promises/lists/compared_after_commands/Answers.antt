@@ -4,8 +4,8 @@ pub returns-clause-canonical : goal.returns-clause-canonical
 returns-clause-canonical g c =
     let complete = g.met.K.Complete.complete in
     record {
-      coarse = rw c.iter-items.ensures.items at (c.iter-items.ensures.coarse complete);
-      only = rw c.iter-items.ensures.items at (c.iter-items.ensures.only complete);
+      coarse = rw c.iter-items.ensures.items at (c.iter-items.ensures.canonical.coarse complete);
+      only = rw c.iter-items.ensures.items at (c.iter-items.ensures.canonical.only complete);
       least = c.range_count-range_count.ensures.least complete;
     }
 

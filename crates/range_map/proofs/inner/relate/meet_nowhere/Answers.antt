@@ -8,8 +8,8 @@ loop-next-init g c =
     let near = c.next-near in
     sets_out g.met.K.PartialEnum.lawful (MeetNowhere g.K.MaybeBounded.order) c.iter-ranges.result
     next.new.self _ next.result c.iter-others.result near.new.self _ near.result
-    c.iter-ranges.ensures.items c.iter-others.ensures.items c.iter-ranges.ensures.form
-    c.iter-others.ensures.form next.ensures.steps near.ensures.steps
+    c.iter-ranges.ensures.items c.iter-others.ensures.items c.iter-ranges.ensures.canonical.stored
+    c.iter-others.ensures.canonical.stored next.ensures.steps near.ensures.steps
 
 pub loop-next-preserved-then-lies_before : goal.loop-next-preserved-then-lies_before
 loop-next-preserved-then-lies_before g c =

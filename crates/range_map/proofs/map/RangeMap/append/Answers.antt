@@ -4,7 +4,7 @@ use Rattle.range_bulk.specs.declared.append.NotAppended.{NotAppended}
 use Rattle.range_bulk.specs.declared.append.NotAppended.TheVariants.{Memory}
 use Rattle.range_bulk.specs.Appending.{IsOutOfOrder}
 use Rattle.range_bulk.proofs.AppendedLists.{appended_binds, appended_length, appended_stored}
-use Rattle.range_map.proofs.StoredLists.{stored_coarse, stored_only}
+use Rattle.range_map.proofs.StoredLists.{stored_canonical}
 use Rattle.range_map.proofs.map.RangeMap.append.Goals as goal
 
 -- an error that is of memory is none of the order
@@ -12,14 +12,6 @@ memory_is_in_order : {A : Type 0} (r : Result A NotAppended) → IsErrAnd r (λ 
     → IsErrAnd r IsOutOfOrder → ⊥
 memory_is_in_order (Ok a) memory fault = absurd memory
 memory_is_in_order (Err e) memory fault = absurd (rw memory at fault)
-
-pub returns-then-not-lies_before-clause-coarse : goal.returns-then-not-lies_before-clause-coarse
-returns-then-not-lies_before-clause-coarse g c =
-    stored_coarse g.met.K.PartialEnum.lawful _ c.in_form.ensures
-
-pub returns-then-not-lies_before-clause-only : goal.returns-then-not-lies_before-clause-only
-returns-then-not-lies_before-clause-only g c =
-    stored_only g.met.K.PartialEnum.lawful g.met.V.Eq.laws _ c.in_form.ensures
 
 pub returns-in_err-reserve : goal.returns-in_err-reserve
 returns-in_err-reserve g c =
@@ -32,13 +24,7 @@ returns-in_err-reserve g c =
       bound = error_has_no_value _ left.result left.ensures.0;
       list = error_has_no_value _ left.result left.ensures.0;
       emptied = error_has_no_value _ left.result left.ensures.0;
-      form = rw c.reserve.ensures.list c.self.invariant;
-      coarse = λ complete.
-          rw c.reserve.ensures.list
-          (stored_coarse g.met.K.PartialEnum.lawful _ c.self.invariant complete);
-      only = λ complete.
-          rw c.reserve.ensures.list
-          (stored_only g.met.K.PartialEnum.lawful g.met.V.Eq.laws _ c.self.invariant complete);
+      canonical = rw c.reserve.ensures.list (stored_canonical g.met.K.PartialEnum.lawful g.met.V.Eq.laws _ c.self.invariant);
       few = rw (← c.self.view_is, c.reserve.ensures.list) (omega arith);
       succeeds = λ before enough.
           absurd (false≢true (c.in_err-reserve.ensures.succeeds
@@ -71,9 +57,7 @@ returns g c =
           g.met.V.Eq.laws items others c.self.invariant c.other.invariant before);
       list = search rules;
       emptied = search rules;
-      form = form;
-      coarse = stored_coarse lawful _ form;
-      only = stored_only lawful g.met.V.Eq.laws _ form;
+      canonical = stored_canonical lawful g.met.V.Eq.laws _ form;
       few =
           rw (← c.self.view_is, ← c.other.view_is, whole) (appended_length order same items others);
       succeeds = λ before enough. refl;

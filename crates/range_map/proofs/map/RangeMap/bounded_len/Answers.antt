@@ -3,14 +3,14 @@ use Rattle.range_map.proofs.map.RangeMap.bounded_len.Goals as goal
 
 pub measure-requires : goal.measure-requires
 measure-requires g c =
-    stored_in_order g.met.K.PartialEnum.lawful g.V.PartialEq.eq c.iter.result c.iter.ensures.form
+    stored_in_order g.met.K.PartialEnum.lawful g.V.PartialEq.eq c.iter.result c.iter.ensures.canonical.stored
 
 pub returns : goal.returns
 returns g c =
     let lawful = g.met.K.PartialEnum.lawful in
     let items = g.C.Storage.items c.args.self.now in
     let ordered =
-    stored_in_order lawful g.V.PartialEq.eq items (rw c.iter.ensures.items at c.iter.ensures.form)
+    stored_in_order lawful g.V.PartialEq.eq items (rw c.iter.ensures.items at c.iter.ensures.canonical.stored)
     in
     let measure = rw c.iter.ensures.items at c.measure.ensures in
     record {

@@ -1,5 +1,6 @@
 use Rattle.std.proofs.Common.{get_or}
 use Rattle.range_map.proofs.CloneLists.{clones_tied, equal_items_are_copy, copy_stored, item_clone}
+use Rattle.range_map.proofs.StoredLists.{stored_canonical}
 use Rattle.range_map.proofs.map.RangeMap.clone.Goals as goal
 
 pub clone-requires : goal.clone-requires
@@ -29,5 +30,6 @@ returns-clause-equal g c =
     (equal_items_are_copy g.met.K.PartialEnum.lawful g.met.V.Eq.laws items copy
     c.in_ok-stored.ensures)
 
-pub returns-clause-form : goal.returns-clause-form
-returns-clause-form g c = invariant_of-result g c
+pub returns-clause-canonical : goal.returns-clause-canonical
+returns-clause-canonical g c =
+    stored_canonical g.met.K.PartialEnum.lawful g.met.V.Eq.laws _ (invariant_of-result g c)

@@ -13,4 +13,4 @@ pub returns-clause-same : goal.returns-clause-same
 returns-clause-same g c = λ complete.
     rw (returns-clause-value g c)
     (stored_equal g.met.K.PartialEnum.lawful g.met.V.Eq.laws complete _ _
-    c.in_form.ensures c.in_form-2.ensures)
+    c.in_form.ensures.stored c.in_form-2.ensures.stored)

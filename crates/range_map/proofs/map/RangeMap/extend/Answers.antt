@@ -1,6 +1,5 @@
 use Rattle.range_map.proofs.Common.{arith, common_steps, rules, error_has_no_value, on_error, ◌∷◌, [], map, map-append, item_of}
 use Rattle.range_map.proofs.ExtendedLists.{none_bound_after, one_bound_after}
-use Rattle.range_map.proofs.StoredLists.{stored_coarse, stored_only}
 use Rattle.range_map.proofs.map.RangeMap.extend.Goals as goal
 
 pub loop-range-init : goal.loop-range-init
@@ -21,7 +20,7 @@ loop-range-preserved g c =
       bound =
           rw (map-append (item_of range) c.loop-range.yielded
           ((c.in-Some.range, c.in-Some.value) ∷ [])) more;
-      form = c.insert.ensures.form;
+      canonical = c.insert.ensures.canonical;
     }
 
 pub returns-in_err-insert-clause-bound : goal.returns-in_err-insert-clause-bound
@@ -40,10 +39,3 @@ returns-in_err-insert-clause-refused g c =
       λ empty. absurd (search (rules, c.insert.ensures.empty empty)),
       rw c.in_err-insert.ensures.refused c.loop-range.invariant.bound,
     )
-
-pub returns-clause-coarse : goal.returns-clause-coarse
-returns-clause-coarse g c = stored_coarse g.met.K.PartialEnum.lawful _ c.loop-range.invariant.form
-
-pub returns-clause-only : goal.returns-clause-only
-returns-clause-only g c =
-    stored_only g.met.K.PartialEnum.lawful g.met.V.Eq.laws _ c.loop-range.invariant.form

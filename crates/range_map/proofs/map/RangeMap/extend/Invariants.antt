@@ -1,4 +1,4 @@
-use Rattle.range_map.proofs.Common.{map, AreBoundAfter, item_of, IsStored}
+use Rattle.range_map.proofs.Common.{map, AreBoundAfter, item_of, IsCanonical}
 use Rattle.range_map.proofs.map.RangeMap.extend.Given as goal
 
 abbrev pub invariant-loop-range : goal.invariant-loop-range
@@ -9,5 +9,5 @@ invariant-loop-range g l =
       ends : (goal.iterator-loop-range g).is_finite l.range-iterator;
       bound : AreBoundAfter g.K.MaybeBounded.order g.V.PartialEq.eq (items l.initial.self)
           (items l.self) (map (item_of g.R.AsRange.range) l.yielded);
-      form : IsStored g.K.MaybeBounded.order g.V.PartialEq.eq (items l.self);
+      canonical : IsCanonical g.K.MaybeBounded.order g.V.PartialEq.eq (items l.self);
     }

@@ -1,7 +1,6 @@
 use Rattle.range_map.proofs.Common.{tied_back, range_clone, range_total, AnyRange, Item, IsOverlaid, error_has_no_value, on_error}
 use Rattle.range_map.proofs.InPlace.{none_over, one_over}
 use Rattle.range_map.proofs.PartWay.{set_out, one_done, stopped}
-use Rattle.range_map.proofs.StoredLists.{stored_coarse, stored_only}
 use Rattle.range_map.proofs.CloneLists.{clones_tied}
 use Rattle.range_map.proofs.map.RangeMap.extend_from.Goals as goal
 
@@ -14,9 +13,7 @@ loop-range-init g c =
       way = rw c.iter-items.ensures.items
           (set_out (λ front. IsOverlaid order same items front items) _
           (none_over order same items));
-      form = c.in_form.ensures;
-      coarse = stored_coarse g.met.K.PartialEnum.lawful _ c.in_form.ensures;
-      only = stored_only g.met.K.PartialEnum.lawful g.met.V.Eq.laws _ c.in_form.ensures;
+      canonical = c.in_form.ensures.canonical;
     }
 
 pub loop-range-preserved : goal.loop-range-preserved
@@ -43,13 +40,11 @@ loop-range-preserved g c =
       way =
           one_done {Q = λ front. IsOverlaid order same first front after} c.in-Some.ensures.steps
           (λ done split so_far. one_over order same lawful g.met.V.Eq.laws others
-          (rw (← c.iter-items.ensures.items) c.iter-items.ensures.form) done c.next.new.self item
+          (rw (← c.iter-items.ensures.items) c.iter-items.ensures.canonical.stored) done c.next.new.self item
           split first (items c.loop-range.self) after copy put alike
           (c.requires.values value put c.in_ok-clone-2.ensures.cases) so_far
           c.in_ok-insert.ensures.bound) c.loop-range.invariant.way;
-      form = c.insert.ensures.form;
-      coarse = c.insert.ensures.coarse;
-      only = c.insert.ensures.only;
+      canonical = c.insert.ensures.canonical;
     }
 
 pub returns-in_err-clone-clause-refused : goal.returns-in_err-clone-clause-refused
@@ -64,9 +59,7 @@ returns-in_err-clone-2 g c =
       bound = error_has_no_value _ left.result left.ensures.0;
       refused =
           on_error _ left.result (stopped c.in-Some.ensures.steps c.loop-range.invariant.way);
-      form = c.loop-range.invariant.form;
-      coarse = c.loop-range.invariant.coarse;
-      only = c.loop-range.invariant.only;
+      canonical = c.loop-range.invariant.canonical;
     }
 
 pub returns-in_err-insert : goal.returns-in_err-insert
@@ -77,7 +70,5 @@ returns-in_err-insert g c =
       refused =
           rw c.in_err-insert.ensures.refused (on_error _ left.result
           (stopped c.in-Some.ensures.steps c.loop-range.invariant.way));
-      form = c.insert.ensures.form;
-      coarse = c.insert.ensures.coarse;
-      only = c.insert.ensures.only;
+      canonical = c.insert.ensures.canonical;
     }

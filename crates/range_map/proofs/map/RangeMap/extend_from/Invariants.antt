@@ -1,4 +1,4 @@
-use Rattle.range_map.proofs.Common.{length, IsComplete, IsCoarse, IsOnlyCoarse, IsStored, IsOverlaid}
+use Rattle.range_map.proofs.Common.{length, IsCanonical, IsOverlaid}
 use Rattle.range_map.proofs.PartWay.{IsPartWay}
 use Rattle.range_map.proofs.map.RangeMap.extend_from.Given as goal
 
@@ -10,9 +10,7 @@ invariant-loop-range g l =
     record {
       way : IsPartWay (λ front. IsOverlaid order same (g.C.Storage.items l.initial.self) front now)
           (g.D.Storage.items l.other) l.items;
-      form : IsStored order same now;
-      coarse : IsComplete order → IsCoarse order same now;
-      only : IsComplete order → IsOnlyCoarse order same now;
+      canonical : IsCanonical order same now;
     }
 
 abbrev pub decreases-loop-range : goal.decreases-loop-range

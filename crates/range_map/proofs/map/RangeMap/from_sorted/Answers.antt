@@ -2,7 +2,6 @@ use Rattle.range_map.proofs.Common.{◌≡◌, ℕ, refl, ap, subst, map, Result
 use Rattle.range_map.specs.declared.map.from_sorted.NotSorted.{NotSorted}
 use Rattle.range_map.specs.declared.map.from_sorted.NotSorted.TheVariants.{Memory, OutOfOrder as FaultAt}
 use Rattle.range_bulk.proofs.SortedLists.{one_fault, sorted_has_none}
-use Rattle.range_map.proofs.StoredLists.{stored_coarse, stored_only}
 use Rattle.range_map.proofs.map.RangeMap.from_sorted.Goals as goal
 
 pub returns-in-Some-clause-out_of_order : goal.returns-in-Some-clause-out_of_order
@@ -41,8 +40,6 @@ returns-in-Ok g c =
         λ fault. absurd (sorted_has_none g.K.MaybeBounded.order items n sorted fault),
       );
       bound = c.in-Ok.ensures.bound;
-      form = c.in-Ok.ensures.form;
-      coarse = stored_coarse g.met.K.PartialEnum.lawful _ c.in-Ok.ensures.form;
-      only = stored_only g.met.K.PartialEnum.lawful g.met.V.Eq.laws _ c.in-Ok.ensures.form;
+      canonical = c.in-Ok.ensures.canonical;
       empty = λ none. refl;
     }

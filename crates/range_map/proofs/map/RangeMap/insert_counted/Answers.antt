@@ -1,5 +1,5 @@
 use Rattle.range_map.proofs.Common.{refl, arith, false≢true, common_steps, error_has_no_value, on_error, not_both}
-use Rattle.range_map.proofs.StoredLists.{stored_coarse, stored_only}
+use Rattle.range_map.proofs.StoredLists.{stored_canonical}
 use Rattle.range_map.proofs.map.RangeMap.insert_counted.Goals as goal
 
 pub returns : goal.returns
@@ -10,9 +10,7 @@ returns g c =
     record {
       succeeds = λ keys values enough. refl;
       bound = rw (← c.self.view_is) (rw range at done.bound);
-      form = done.stored;
-      coarse = stored_coarse g.met.K.PartialEnum.lawful _ done.stored;
-      only = stored_only g.met.K.PartialEnum.lawful g.met.V.Eq.laws _ done.stored;
+      canonical = stored_canonical g.met.K.PartialEnum.lawful g.met.V.Eq.laws _ done.stored;
       frame = λ full. rw (← c.self.view_is) (rw range at done.frame);
       meets = λ full. rw (← c.self.view_is) (rw range at done.meets);
       few = grind (arith, common_steps);
@@ -24,27 +22,17 @@ returns g c =
       empty_uncounted = λ e. absurd (not_both c.if-is_empty.false (empty_is.1 e));
     }
 
-pub returns-then-is_empty-clause-coarse : goal.returns-then-is_empty-clause-coarse
-returns-then-is_empty-clause-coarse g c =
-    stored_coarse g.met.K.PartialEnum.lawful _ c.in_form.ensures
-
-pub returns-then-is_empty-clause-only : goal.returns-then-is_empty-clause-only
-returns-then-is_empty-clause-only g c =
-    stored_only g.met.K.PartialEnum.lawful g.met.V.Eq.laws _ c.in_form.ensures
-
 pub returns-in_err-bind : goal.returns-in_err-bind
 returns-in_err-bind g c =
     let empty_is = rw c.into_range-range.ensures at c.is_empty.ensures.by_position in
-    let form = rw (← c.self.view_is, ← c.in_err-bind.ensures.refused) at c.in_form.ensures in
+    let canonical = rw (← c.self.view_is, ← c.in_err-bind.ensures.refused) at c.in_form.ensures.canonical in
     record {
       succeeds =
           λ keys values enough.
           absurd (false≢true (c.in_err-bind.ensures.succeeds keys values
           (rw (← c.self.view_is) at enough)));
       bound = error_has_no_value _ c.from_residual.result c.from_residual.ensures.0;
-      form = form;
-      coarse = stored_coarse g.met.K.PartialEnum.lawful _ form;
-      only = stored_only g.met.K.PartialEnum.lawful g.met.V.Eq.laws _ form;
+      canonical = canonical;
       frame = error_has_no_value _ c.from_residual.result c.from_residual.ensures.0;
       meets = error_has_no_value _ c.from_residual.result c.from_residual.ensures.0;
       few = grind (arith, common_steps);

@@ -1,7 +1,7 @@
 use Rattle.range_map.proofs.Common.{OnOk, OnErr, Ok, Err, Result, List, ◌≡◌, ◌+◌, ◌≤◌, length, ap, arith, subst, common_steps, length-insert, IsBoundAfter, IsEmptyRange, IsPutInto, MeetAlso, not_both, on_ok}
 use Rattle.range_edit.specs.Changes.{IsInserted}
 use Rattle.range_edit.proofs.Freeing.{form_after}
-use Rattle.range_map.proofs.StoredLists.{stored_coarse, stored_only}
+use Rattle.range_map.proofs.StoredLists.{stored_canonical}
 use Rattle.range_map.proofs.map.RangeMap.insert_disconnected.Goals as goal
 
 -- putting one item in adds one
@@ -39,20 +39,10 @@ returns g c =
           rw (← c.self.view_is) (on_ok (IsInserted order same items new range c.args.value)
           ((IsEmptyRange order range → ⊥) → MeetAlso order items new range) c.bind_apart.result
           (λ h full. h.meets) done);
-      form = form;
-      coarse = stored_coarse g.met.K.PartialEnum.lawful _ form;
-      only = stored_only g.met.K.PartialEnum.lawful g.met.V.Eq.laws _ form;
+      canonical = stored_canonical g.met.K.PartialEnum.lawful g.met.V.Eq.laws _ form;
       few = rw (← c.self.view_is)
           (put_few c.bind_apart.result _ _ _ c.bind_apart.ensures.put c.bind_apart.ensures.refused);
       refused = rw (← c.self.view_is) c.bind_apart.ensures.refused;
       empty = λ e. absurd (not_both c.if-is_empty.false (empty_is.1 e));
       empty_unchanged = λ e. absurd (not_both c.if-is_empty.false (empty_is.1 e));
     }
-
-pub returns-then-is_empty-clause-coarse : goal.returns-then-is_empty-clause-coarse
-returns-then-is_empty-clause-coarse g c =
-    stored_coarse g.met.K.PartialEnum.lawful _ c.in_form.ensures
-
-pub returns-then-is_empty-clause-only : goal.returns-then-is_empty-clause-only
-returns-then-is_empty-clause-only g c =
-    stored_only g.met.K.PartialEnum.lawful g.met.V.Eq.laws _ c.in_form.ensures

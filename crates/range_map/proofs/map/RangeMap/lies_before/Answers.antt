@@ -17,7 +17,7 @@ returns g c =
     ends_tell g.met.K.PartialEnum.lawful g.met.V.Eq.laws last.0 first.0
     (shown_item (c.in-Some.last, c.in-Some.field-0-1))
     (shown_item (c.in-Some-first_range_value.first, c.in-Some-first_range_value.field-0-1))
-    (rw last.1 at c.in_form.ensures) (rw first.1 at c.in_form-2.ensures) in
+    (rw last.1 at c.in_form.ensures.stored) (rw first.1 at c.in_form-2.ensures.stored) in
     rw (last.1, first.1) (λ h. all.0 (ends.0 h), λ h. ends.1 (all.1 h))
 
 pub returns-in_default-first_range_value : goal.returns-in_default-first_range_value

@@ -27,5 +27,5 @@ returns-clause-complete g c = λ complete unbound.
     let full : IsEmptyRange order range → ⊥ =
     λ h. not_both c.if-is_empty.false (c.is_empty.ensures.by_position.1 h) in
     all_shown lawful items range c.new-2.result (returns-clause-items g c full) (λ meets. unbound
-    (meeting_binds order lawful g.V.PartialEq.eq items range complete c.in_form.ensures
+    (meeting_binds order lawful g.V.PartialEq.eq items range complete c.in_form.ensures.stored
     c.known_range.ensures full meets))

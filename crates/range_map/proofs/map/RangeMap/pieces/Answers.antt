@@ -15,10 +15,10 @@ returns g c =
       c.end.ensures,
     ) (record {
       pieces =
-          all_pieces lawful g.met.V.Eq.laws items r met c.in_form.ensures c.known_range.ensures
+          all_pieces lawful g.met.V.Eq.laws items r met c.in_form.ensures.stored c.known_range.ensures
           c.met_by-items.ensures.items c.met_by-items.ensures.empty;
       free =
           λ part free. any_over _ _ _ (λ p h. h.1) (all_free lawful g.met.V.Eq.laws items r met
-          c.in_form.ensures c.known_range.ensures c.met_by-items.ensures.items
+          c.in_form.ensures.stored c.known_range.ensures c.met_by-items.ensures.items
           c.met_by-items.ensures.empty part free);
     }))

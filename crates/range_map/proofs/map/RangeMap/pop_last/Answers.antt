@@ -1,4 +1,5 @@
 use Rattle.range_map.proofs.Common.{◌≡◌, Bool, List, [], ◌∷◌, ◌++◌, Option, Some, None, MatchOption, IsEquivalence, IsLawful, every_left, line_of, KeyOrder, AnyRange, Item, IsStored, chain_left, chain_stored, stored_chain, stored_known}
+use Rattle.range_map.proofs.StoredLists.{stored_canonical}
 use Rattle.range_map.proofs.map.RangeMap.pop_last.Goals as goal
 
 module _ {K : Type 0} {order : KeyOrder K} (lawful : IsLawful order) {V : Type 0}
@@ -25,5 +26,6 @@ invariant_of-self g c =
     g.met.V.Eq.laws (items c.self.inside.stored) (items c.pop_last.new.self) c.pop_last.result
     c.self.invariant c.pop_last.ensures.list
 
-pub returns-clause-form : goal.returns-clause-form
-returns-clause-form g c = invariant_of-self g c
+pub returns-clause-canonical : goal.returns-clause-canonical
+returns-clause-canonical g c =
+    stored_canonical g.met.K.PartialEnum.lawful g.met.V.Eq.laws _ (invariant_of-self g c)

@@ -1,4 +1,3 @@
-use Rattle.range_map.proofs.StoredLists.{stored_least}
 use Rattle.std.proofs.Common.{rules}
 use Rattle.range_map.proofs.map.RangeMap.range_count.Goals as goal
 
@@ -7,5 +6,4 @@ returns-clause-value g c = search rules
 
 pub returns-clause-least : goal.returns-clause-least
 returns-clause-least g c = λ complete.
-    rw (returns-clause-value g c)
-    (stored_least g.met.K.PartialEnum.lawful g.met.V.Eq.laws _ c.in_form.ensures complete)
+    rw (returns-clause-value g c) (c.in_form.ensures.canonical.least complete)

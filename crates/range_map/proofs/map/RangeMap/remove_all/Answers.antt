@@ -1,7 +1,6 @@
 use Rattle.range_map.proofs.Common.{AnyRange, Item, IsWithout, error_has_no_value, on_error}
 use Rattle.range_map.proofs.InPlace.{none_without, one_without}
 use Rattle.range_map.proofs.PartWay.{set_out, one_done, stopped}
-use Rattle.range_map.proofs.StoredLists.{stored_coarse, stored_only}
 use Rattle.range_map.proofs.map.RangeMap.remove_all.Goals as goal
 
 pub loop-range-init : goal.loop-range-init
@@ -13,9 +12,7 @@ loop-range-init g c =
       way = rw c.iter-items.ensures.items
           (set_out (λ front. IsWithout order same items front items) _
           (none_without order same items));
-      form = c.in_form.ensures;
-      coarse = stored_coarse g.met.K.PartialEnum.lawful _ c.in_form.ensures;
-      only = stored_only g.met.K.PartialEnum.lawful g.met.V.Eq.laws _ c.in_form.ensures;
+      canonical = c.in_form.ensures.canonical;
     }
 
 pub loop-range-preserved : goal.loop-range-preserved
@@ -33,9 +30,7 @@ loop-range-preserved g c =
           one_done {Q = λ front. IsWithout order same first front after} c.in-Some.ensures.steps
           (λ done split so_far. one_without order same g.met.K.PartialEnum.lawful first before after
           done item so_far c.in_ok-remove.ensures.unbound) c.loop-range.invariant.way;
-      form = c.remove.ensures.form;
-      coarse = c.remove.ensures.coarse;
-      only = c.remove.ensures.only;
+      canonical = c.remove.ensures.canonical;
     }
 
 pub returns-in_err-remove-clause-bound : goal.returns-in_err-remove-clause-bound

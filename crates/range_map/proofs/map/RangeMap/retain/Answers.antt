@@ -1,6 +1,6 @@
 use Rattle.range_map.proofs.Common.{common_steps, ◌≡◌, ◌∙◌, ◌+◌, ◌<◌, ap, arith, length, rules, length-remove, place_before, IsStored, place_at, CalledAtItem}
 use Rattle.range_map.proofs.KeptItems.{retaining_starts, kept_next, removed_next, retained, kept_stored, kept_as_before, fewer_kept}
-use Rattle.range_map.proofs.StoredLists.{stored_coarse, stored_only}
+use Rattle.range_map.proofs.StoredLists.{stored_canonical}
 use Rattle.range_map.proofs.map.RangeMap.retain.Goals as goal
 
 pub loop-at-init : goal.loop-at-init
@@ -95,9 +95,7 @@ returns g c =
     record {
       filtered = search rules;
       kept = rw (← c.self.view_is, done.4) (kept_as_before lawful equal done.0 _ c.self.invariant);
-      form = form;
-      coarse = stored_coarse lawful _ form;
-      only = stored_only lawful equal _ form;
+      canonical = stored_canonical lawful equal _ form;
       few = rw (← c.self.view_is, done.4) (fewer_kept done.0 _);
       space = rw (← c.self.view_is) c.loop-at.invariant.space;
     }

@@ -1,7 +1,6 @@
 use Rattle.range_map.proofs.Common.{tied_back, range_clone, range_total, range_of, error_has_no_value, on_error, AreUnboundAfter}
 use Rattle.range_map.proofs.InPlace.{none_unbound, one_unbound, all_kept}
 use Rattle.range_map.proofs.PartWay.{set_out, one_done, stopped_at_gap, arrived}
-use Rattle.range_map.proofs.StoredLists.{stored_coarse, stored_only}
 use Rattle.range_map.proofs.CloneLists.{clones_tied}
 use Rattle.range_map.proofs.map.RangeMap.retain_all.Goals as goal
 
@@ -13,9 +12,7 @@ loop-gap-init g c =
     record {
       way = set_out (AreUnboundAfter order same items items) c.gaps-gaps.result
           (none_unbound order same items);
-      form = c.in_form.ensures;
-      coarse = stored_coarse g.met.K.PartialEnum.lawful _ c.in_form.ensures;
-      only = stored_only g.met.K.PartialEnum.lawful g.met.V.Eq.laws _ c.in_form.ensures;
+      canonical = c.in_form.ensures.canonical;
     }
 
 pub loop-gap-preserved : goal.loop-gap-preserved
@@ -39,9 +36,7 @@ loop-gap-preserved g c =
           one_done {Q = AreUnboundAfter order same first after} c.in-Some.ensures.steps
           (λ done split so_far. one_unbound order same lawful first before after done gap copy alike
           so_far c.in_ok-remove.ensures.unbound) c.loop-gap.invariant.way;
-      form = c.remove.ensures.form;
-      coarse = c.remove.ensures.coarse;
-      only = c.remove.ensures.only;
+      canonical = c.remove.ensures.canonical;
     }
 
 pub returns-clause-bound : goal.returns-clause-bound
@@ -68,7 +63,5 @@ returns-in_err-remove g c =
           rw c.in_err-remove.ensures.refused (on_error _ left.result
           (stopped_at_gap c.gaps-gaps.ensures.gaps c.in-Some.ensures.steps
           c.loop-gap.invariant.way));
-      form = c.remove.ensures.form;
-      coarse = c.remove.ensures.coarse;
-      only = c.remove.ensures.only;
+      canonical = c.remove.ensures.canonical;
     }

@@ -1,4 +1,4 @@
-use Rattle.range_map.proofs.Common.{length, IsComplete, IsCoarse, IsOnlyCoarse, IsStored, AreUnboundAfter}
+use Rattle.range_map.proofs.Common.{length, IsCanonical, AreUnboundAfter}
 use Rattle.range_map.proofs.PartWay.{IsPartWay}
 use Rattle.range_map.proofs.map.RangeMap.retain_all.Given as goal
 
@@ -10,9 +10,7 @@ invariant-loop-gap g l =
     record {
       way : IsPartWay (AreUnboundAfter order same (g.C.Storage.items l.initial.self) now)
           l.initial.gaps l.gaps;
-      form : IsStored order same now;
-      coarse : IsComplete order → IsCoarse order same now;
-      only : IsComplete order → IsOnlyCoarse order same now;
+      canonical : IsCanonical order same now;
     }
 
 abbrev pub decreases-loop-gap : goal.decreases-loop-gap

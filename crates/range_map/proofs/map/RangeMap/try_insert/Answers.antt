@@ -1,7 +1,7 @@
 use Rattle.range_map.proofs.Common.{OnOk, arith, subst, common_steps, IsEmptyRange, IsBoundAfter, MeetAlso, not_both, IsInsertionFrame, on_ok}
 use Rattle.range_edit.specs.Changes.{IsInserted}
 use Rattle.range_edit.proofs.Freeing.{form_after}
-use Rattle.range_map.proofs.StoredLists.{stored_coarse, stored_only}
+use Rattle.range_map.proofs.StoredLists.{stored_canonical}
 use Rattle.range_map.proofs.map.RangeMap.try_insert.Goals as goal
 
 pub returns : goal.returns
@@ -38,18 +38,8 @@ returns g c =
           rw (← c.self.view_is) (on_ok (IsInserted order same items new range c.args.value)
           ((IsEmptyRange order range → ⊥) → MeetAlso order items new range)
           c.bind_where_free.result (λ h full. h.meets) done);
-      form = form;
-      coarse = stored_coarse g.met.K.PartialEnum.lawful _ form;
-      only = stored_only g.met.K.PartialEnum.lawful g.met.V.Eq.laws _ form;
+      canonical = stored_canonical g.met.K.PartialEnum.lawful g.met.V.Eq.laws _ form;
       refused = rw (← c.self.view_is) c.bind_where_free.ensures.refused;
       empty = λ e. absurd (not_both c.if-is_empty.false (empty_is.1 e));
       empty_unchanged = λ e. absurd (not_both c.if-is_empty.false (empty_is.1 e));
     }
-
-pub returns-then-is_empty-clause-coarse : goal.returns-then-is_empty-clause-coarse
-returns-then-is_empty-clause-coarse g c =
-    stored_coarse g.met.K.PartialEnum.lawful _ c.in_form.ensures
-
-pub returns-then-is_empty-clause-only : goal.returns-then-is_empty-clause-only
-returns-then-is_empty-clause-only g c =
-    stored_only g.met.K.PartialEnum.lawful g.met.V.Eq.laws _ c.in_form.ensures

@@ -4,7 +4,7 @@ use Rattle.range_map.proofs.Likeness.{clone_empty, updated_too, answers_too}
 use Rattle.range_edit.proofs.MergedItems.{unchanged_stands}
 use Rattle.range_edit.proofs.SpelledChanges.{list_keeps_spelling}
 use Rattle.range_map.proofs.ReboundKeys.{update_rebinds}
-use Rattle.range_map.proofs.StoredLists.{stored_coarse, stored_only}
+use Rattle.range_map.proofs.StoredLists.{stored_canonical}
 use Rattle.range_map.proofs.CloneLists.{clones_tied}
 use Rattle.range_map.proofs.map.RangeMap.update.Goals as goal
 
@@ -48,9 +48,7 @@ returns g c =
           rw (← c.self.view_is) (on_ok _ _ c.update_pieces.result
           (updated_stands order same g.met.V.Eq.laws g.F.Fn c.args.f items new r) done);
       spelled = rw (← c.self.view_is) c.update_pieces.ensures.spelled;
-      form = c.update_pieces.ensures.form;
-      coarse = stored_coarse lawful _ c.update_pieces.ensures.form;
-      only = stored_only lawful g.met.V.Eq.laws _ c.update_pieces.ensures.form;
+      canonical = stored_canonical lawful g.met.V.Eq.laws _ c.update_pieces.ensures.form;
       closure =
           λ e failed. rw (← c.self.view_is)
           (answers_too lawful r s start end same g.F.Fn c.args.f items (Err e)
@@ -72,15 +70,7 @@ returns-then-is_empty-clause-kept g c = unchanged_stands g.K.MaybeBounded.order 
 
 pub returns-then-is_empty-clause-spelled : goal.returns-then-is_empty-clause-spelled
 returns-then-is_empty-clause-spelled g c =
-    list_keeps_spelling g.met.K.PartialEnum.lawful g.met.V.Eq.laws c.in_form.ensures
-
-pub returns-then-is_empty-clause-coarse : goal.returns-then-is_empty-clause-coarse
-returns-then-is_empty-clause-coarse g c =
-    stored_coarse g.met.K.PartialEnum.lawful _ c.in_form.ensures
-
-pub returns-then-is_empty-clause-only : goal.returns-then-is_empty-clause-only
-returns-then-is_empty-clause-only g c =
-    stored_only g.met.K.PartialEnum.lawful g.met.V.Eq.laws _ c.in_form.ensures
+    list_keeps_spelling g.met.K.PartialEnum.lawful g.met.V.Eq.laws c.in_form.ensures.stored
 
 pub returns-in_err-range : goal.returns-in_err-range
 returns-in_err-range g c =
@@ -90,9 +80,7 @@ returns-in_err-range g c =
       rebound = error_has_no_value _ left.result left.ensures.0;
       kept = error_has_no_value _ left.result left.ensures.0;
       spelled = error_has_no_value _ left.result left.ensures.0;
-      form = c.in_form.ensures;
-      coarse = stored_coarse g.met.K.PartialEnum.lawful _ c.in_form.ensures;
-      only = stored_only g.met.K.PartialEnum.lawful g.met.V.Eq.laws _ c.in_form.ensures;
+      canonical = c.in_form.ensures.canonical;
       closure = λ e failed. absurd (memory_is_no_closure left.result e left.ensures.1 failed);
       memory = λ never failed. absurd (false≢true (c.in_err-range.ensures.succeeds never));
       refused = on_error _ left.result refl;

@@ -19,7 +19,7 @@ loop-answers-init g c =
       up_to = λ lawful equal.
           rw (left, right, c.new-answers.ensures.items)
           (combined_none lawful equal (MayAnswerBoth g.F.Fn c.args.f.now) _ _ g.met.V.Eq.laws
-          g.met.W.Eq.laws c.in_form.ensures c.in_form-2.ensures);
+          g.met.W.Eq.laws c.in_form.ensures.stored c.in_form-2.ensures.stored);
       first = λ e. c.next_part-left.ensures.last (unmapped part_item _ e);
       second = λ e. c.next_part-right.ensures.last (unmapped part_item _ e);
       some = λ some. absurd (omega (arith, some, ap length c.new-answers.ensures.items));

@@ -1,5 +1,5 @@
 use Rattle.std.proofs.lemmas.Result.{IfOk-weaker}
-use Rattle.range_map.proofs.Common.{arith, map, subst, sym, BindAlike, IsStored, error_has_no_value, false≢true, item_of}
+use Rattle.range_map.proofs.Common.{arith, map, subst, sym, BindAlike, error_has_no_value, false≢true, item_of}
 use Rattle.range_map.proofs.map.from_sorted.build.Goals as goal
 
 pub returns-in_err-list_of : goal.returns-in_err-list_of
@@ -7,7 +7,7 @@ returns-in_err-list_of g c =
     let left = c.from_residual in
     record {
       bound = error_has_no_value _ left.result left.ensures.0;
-      form = error_has_no_value _ left.result left.ensures.0;
+      canonical = error_has_no_value _ left.result left.ensures.0;
       none_needed = λ none. absurd (false≢true (c.in_err-list_of.ensures.none_needed none));
     }
 
@@ -21,8 +21,6 @@ returns g c =
       bound = IfOk-weaker c.map_of.result _ (λ new. BindAlike order same _ pairs)
           (λ new is. subst (λ items. BindAlike order same items pairs) (sym is) made.bound)
           c.map_of.ensures.items;
-      form = IfOk-weaker c.map_of.result _ (λ new. IsStored order same _)
-          (λ new is. subst (λ items. IsStored order same items) (sym is) made.form)
-          c.map_of.ensures.items;
+      canonical = c.map_of.ensures.canonical;
       none_needed = λ none. c.map_of.ensures.none_needed (omega (arith, none, made.few));
     }

@@ -1,9 +1,9 @@
 use Rattle.std.proofs.lemmas.Bool.{cases_lt}
-use Rattle.range_map.proofs.Common.{◌≡◌, sym, ap, arith, inl, inr, length, [], rules, false≢true, error_has_no_value, lower, full_range}
+use Rattle.range_map.proofs.Common.{◌≡◌, sym, ap, arith, common_steps, inl, inr, length, [], rules, false≢true, error_has_no_value, lower, full_range}
 use Rattle.range_merge.specs.Merged.{part_item}
 use Rattle.range_map.proofs.ClosureAnswers.{memory_is_no_closure}
 use Rattle.range_bulk.proofs.JoinedItems.{built_none, stored_rises}
-use Rattle.range_map.proofs.MappedValues.{first_left, mapped_more, next_answered}
+use Rattle.range_map.proofs.MappedValues.{all_answered, first_left, mapped_more, next_answered}
 use Rattle.range_map.proofs.CloneLists.{clones_tied}
 use Rattle.range_map.proofs.map.map_values.answers_to.Goals as goal
 
@@ -22,7 +22,7 @@ loop-part-init g c =
             (built_none order g.W.PartialEq.eq (lower order full_range));
         rises =
             rw c.iter-items.ensures.items (stored_rises g.met.K.PartialEnum.lawful g.met.V.Eq.laws _
-            c.in_form.ensures);
+            c.in_form.ensures.stored);
       };
       some = λ some. absurd (omega (arith, some, ap length c.new-answers.ensures.items));
     }
@@ -54,13 +54,19 @@ loop-part-preserved g c =
       );
     }
 
+pub returns-clause-answers : goal.returns-clause-answers
+returns-clause-answers g c =
+    let none : c.loop-part.items ≡ [] = grind (arith, common_steps) in
+    rw c.in_ok-map_of.ensures.items (all_answered g.K.MaybeBounded.order g.F.Fn c.args.f.now
+    g.W.PartialEq.eq _ none c.loop-part.invariant.mapped)
+
 pub returns-in_err-item : goal.returns-in_err-item
 returns-in_err-item g c =
     let left = c.from_residual in
     let was = rw (← c.in-Some.ensures.items) at c.loop-part.invariant.mapped in
     record {
       answers = error_has_no_value _ left.result left.ensures.0;
-      form = error_has_no_value _ left.result left.ensures.0;
+      canonical = error_has_no_value _ left.result left.ensures.0;
       closure = λ e failed.
           next_answered g.K.MaybeBounded.order g.F.Fn c.args.f.now g.W.PartialEq.eq _ was
           (c.answered.ensures.closure e (search rules));
@@ -76,7 +82,7 @@ returns-in_err-push g c =
     let left = c.from_residual-in_err-push in
     record {
       answers = error_has_no_value _ left.result left.ensures.0;
-      form = error_has_no_value _ left.result left.ensures.0;
+      canonical = error_has_no_value _ left.result left.ensures.0;
       closure = λ e failed. absurd (memory_is_no_closure left.result e left.ensures.1 failed);
       memory = λ failed. (
         c.in_ok-item.item.value,
@@ -91,7 +97,7 @@ returns-in_err-map_of g c =
     let left = c.from_residual-in_err-map_of in
     record {
       answers = error_has_no_value _ left.result left.ensures.0;
-      form = error_has_no_value _ left.result left.ensures.0;
+      canonical = error_has_no_value _ left.result left.ensures.0;
       closure = λ e failed. absurd (memory_is_no_closure left.result e left.ensures.1 failed);
       memory = λ failed.
           elim (cases_lt 0 (length c.loop-part.answers.items)) [

@@ -13,9 +13,9 @@ returns g c =
     let equal = g.met.S.Eq.laws in
     let has = g.S.SetMut.has in
     let respects = g.met.S.SetMut.equal_same in
-    let form = rw (← c.self.view_is) at c.in_form.ensures.form in
+    let form = rw (← c.self.view_is) at c.in_form.ensures.canonical.stored in
     let once = c.stored_lists_bind_once.ensures items form in
-    let next_once = c.stored_lists_bind_once.ensures next c.update.ensures.form in
+    let next_once = c.stored_lists_bind_once.ensures next c.update.ensures.canonical.stored in
     let now = not_refused c.update.result c.update.ensures.rebound c.in_default.not-Err in
     record {
       refused = search rules;
@@ -40,12 +40,8 @@ returns g c =
           stays_full order equal g.met.S.MaybeEmpty.void_equal
           (not_refused c.update.result c.update.ensures.updated c.in_default.not-Err)
           (λ old answer m. m.says.1.1.0) c.self.invariant c.update.ensures.empty_unchanged;
-      form =
-          c.update.ensures.form;
-      coarse =
-          c.update.ensures.coarse;
-      only =
-          c.update.ensures.only;
+      canonical =
+          c.update.ensures.canonical;
       empty_unchanged =
           rw (← c.self.view_is) c.update.ensures.empty_unchanged;
       empty =

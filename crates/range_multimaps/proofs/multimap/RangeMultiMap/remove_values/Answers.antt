@@ -6,9 +6,9 @@ pub returns : goal.returns
 returns g c =
     let items = g.C.Storage.items c.self.inside.map in
     let next = g.C.Storage.items c.update.new.self in
-    let form = rw (← c.self.view_is) at c.in_form.ensures.form in
+    let form = rw (← c.self.view_is) at c.in_form.ensures.canonical.stored in
     let once = c.stored_lists_bind_once.ensures items form in
-    let next_once = c.stored_lists_bind_once.ensures next c.update.ensures.form in
+    let next_once = c.stored_lists_bind_once.ensures next c.update.ensures.canonical.stored in
     let now = not_refused c.update.result c.update.ensures.rebound c.in_default.not-Err in
     rw (← c.self.view_is) (all_removed g.K.MaybeBounded.order g.met.S.Eq.laws
     g.met.S.SetMut.equal_same now g.met.K.PartialEnum.lawful once next_once (g.S.SetMut.has c.args.values.now)

@@ -1,8 +1,9 @@
 use Rattle.std.proofs.Common.{true, arith, rules}
 use Rattle.range_algebra.specs.References.{range_of}
 use Rattle.range_map.proofs.CloneLists.{clones_tied}
+use Rattle.range_map.proofs.StoredLists.{stored_canonical}
 use Rattle.range_sets.proofs.Complementing.{gaps_stored}
-use Rattle.range_sets.proofs.Filling.{filling_begins, clone_same, next_gap_fits, filled_more, all_copied, others_held}
+use Rattle.range_sets.proofs.Filling.{all_equal, filling_begins, clone_same, next_gap_fits, filled_more, all_copied, others_held}
 use Rattle.range_sets.proofs.set.RangeSet.append_gaps.Goals as goal
 
 pub append-requires : goal.append-requires
@@ -20,7 +21,7 @@ append-requires g c =
           c.in_ok-range.ensures in
           let form =
           gaps_stored order lawful (λ _ _. true)
-          (items c.args.self.now) c.gaps-gaps.result c.in_form.ensures c.gaps-gaps.ensures.gaps in
+          (items c.args.self.now) c.gaps-gaps.result c.in_form.ensures.stored c.gaps-gaps.ensures.gaps in
           next_gap_fits order lawful c.gaps-gaps.result c.loop-gap.gaps c.next.new.self
           (items c.loop-gap.others)
           (g.C.Storage.room c.loop-gap.others) gap range form c.loop-gap.invariant
@@ -42,7 +43,7 @@ loop-gap-preserved g c =
     let same = clone_same order lawful g.T.Clone.is_clone equal gap range c.in_ok-range.ensures in
     let form =
     gaps_stored order lawful (λ _ _. true)
-    (items c.args.self.now) c.gaps-gaps.result c.in_form.ensures c.gaps-gaps.ensures.gaps in
+    (items c.args.self.now) c.gaps-gaps.result c.in_form.ensures.stored c.gaps-gaps.ensures.gaps in
     filled_more order lawful c.gaps-gaps.result c.loop-gap.gaps c.next.new.self
     (items c.loop-gap.others) (items c.append.new.map) (room c.loop-gap.others)
     (room c.append.new.map) gap range form c.loop-gap.invariant c.in-Some.ensures.steps
@@ -62,8 +63,7 @@ returns g c =
           (items c.loop-gap.others) c.gaps-gaps.result zip c.gaps-gaps.ensures.once;
       gaps =
           search rules;
-      form =
-          search rules;
+      canonical = stored_canonical g.met.T.PartialEnum.lawful all_equal _ c.loop-gap.invariant.form;
     }
 
 pub loop-gap-init : goal.loop-gap-init

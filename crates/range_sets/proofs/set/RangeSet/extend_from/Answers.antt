@@ -23,6 +23,6 @@ returns g c =
           (λ front. HoldsEither order first front now) others
           (λ front. either order lawful (λ _ _. true) (λ _ _. refl) first front now))
           c.extend_from.ensures.refused);
-      form =
+      canonical =
           search rules;
     }

@@ -22,7 +22,7 @@ returns g c =
       succeeds =
           λ never enough.
           c.insert.ensures.succeeds never (λ _. tt) (rw (← c.self.view_is) at enough);
-      form =
+      canonical =
           search rules;
       frame =
           rw (← c.self.view_is) c.insert.ensures.frame;

@@ -21,7 +21,7 @@ returns g c =
       succeeds =
           λ never enough.
           c.insert_counted.ensures.succeeds never (λ _. tt) (rw (← c.self.view_is) at enough);
-      form =
+      canonical =
           search rules;
       frame =
           rw (← c.self.view_is) c.insert_counted.ensures.frame;

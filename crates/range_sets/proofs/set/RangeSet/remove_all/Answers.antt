@@ -23,6 +23,6 @@ returns g c =
           (λ front. HoldsFirstAlone order first front now) others
           (λ front. first_alone order lawful (λ _ _. true) (λ _ _. refl) first front now))
           c.remove_all.ensures.refused);
-      form =
+      canonical =
           search rules;
     }

@@ -12,7 +12,7 @@ returns g c =
           (removed g.T.MaybeBounded.order g.met.T.PartialEnum.lawful (λ _ _. true) (λ _ _. refl)
           (items c.self.inside.map) (items c.remove_counted.new.self)
           (g.R.AsRange.range c.args.range)) c.remove_counted.ensures.unbound);
-      form =
+      canonical =
           search rules;
       apart =
           search rules;

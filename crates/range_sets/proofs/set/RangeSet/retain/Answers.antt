@@ -16,7 +16,7 @@ pub returns : goal.returns
 returns g c =
     let items = g.C.Storage.items in
     record {
-      form = c.retain.ensures.form;
+      canonical = c.retain.ensures.canonical;
       few = rw (← c.self.view_is) c.retain.ensures.few;
       space = rw (← c.self.view_is) c.retain.ensures.space;
       filtered =

@@ -23,6 +23,6 @@ returns g c =
           (HoldsWithoutAll order first now) others
           (without_all order lawful (λ _ _. true) (λ _ _. refl) first now))
           c.retain_all.ensures.refused);
-      form =
+      canonical =
           search rules;
     }

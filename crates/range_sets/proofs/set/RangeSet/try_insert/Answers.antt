@@ -11,7 +11,7 @@ returns g c =
     record {
       occupied = search rules;
       given = search rules;
-      form = search rules;
+      canonical = search rules;
       frame = search rules;
       refused = search rules;
       succeeds = λ enough unmet. grind (arith, false≢true);

@@ -32,7 +32,7 @@ loop-range-init g c =
           rw (c.requires.empty, c.start_bound.ensures tt, c.end_bound.ensures tt)
           (united_first lawful _ _ (option_copied left.result) (option_copied right.result)
           left.new.self right.new.self c.in-Some.first.now c.in-Some.field-0-1 none none_other
-          c.iter-items.ensures.form c.iter-others.ensures.form
+          c.iter-items.ensures.canonical.stored c.iter-others.ensures.canonical.stored
           (stepped _ _ _ left.ensures.steps ∙ c.iter-items.ensures.ranges)
           (stepped _ _ _ right.ensures.steps ∙ c.iter-others.ensures.ranges) c.in-Some.ensures);
       first = none;

@@ -10,7 +10,7 @@ returns-clause-same g c = λ complete others stored alike.
     let items = g.C.Storage.items c.args.self.now in
     let equal =
     (stored_equal g.met.K.PartialEnum.lawful g.met.V.Eq.laws complete items others
-    c.in_form.ensures stored).1 alike in
+    c.in_form.ensures.stored stored).1 alike in
     let fed =
     lists_fed g.K.MaybeBounded.order g.V.PartialEq.eq g.K.Hash.hash_input g.V.Hash.hash_input
     (λ a b f. g.met.K.Hash.respects_eq a b
