@@ -5,6 +5,7 @@ use Rattle.serde_json.specs.Data.{Data}
 use Rattle.serde_json.specs.Read.{read}
 use Rattle.serde_json.specs.Written.{compact_text, has_float}
 use Rattle.btree_range_map.specs.AnyRange.{AnyRange}
+use Rattle.btree_range_map.specs.Canonical.{IsCanonical}
 use Rattle.btree_range_map.specs.Item.{Item}
 use Rattle.btree_range_map.specs.JsonError.{JsonError}
 use Rattle.btree_range_map.specs.JsonError.TheVariants.{Memory, NotArray, NotPair, NotRange, NotBound, Key, Value, Meets, Version}
@@ -12,7 +13,6 @@ use Rattle.btree_range_map.specs.Keys.{signed_of, signed_shape}
 use Rattle.btree_range_map.specs.MapFaults.{IsMapRead, IsMapFault}
 use Rattle.btree_range_map.specs.Order.{KeyOrder}
 use Rattle.btree_range_map.specs.Shapes.{map_shape}
-use Rattle.btree_range_map.specs.Stored.{IsStored}
 use Rattle.rangerun.specs.declared.saving.LoadError.{LoadError}
 use Rattle.rangerun.specs.declared.saving.LoadError.TheVariants.{NotJson, Faulty}
 
@@ -63,7 +63,7 @@ module _ {K : Type 0} (order : KeyOrder K) (reads : Data → Bool) (is_read : Da
   IsLoaded json items = (d : Data) × (read json ≡ Some d)
       × IsMapRead order reads (λ v. is_some (signed_of 9223372036854775807 v)) is_read IsValueRead
       int_eq d items
-      × IsStored order int_eq items
+      × IsCanonical order int_eq items
 
   -- the text has no JSON value, or this is the first fault of its value, or there is no memory
   abbrev pub IsCause : List ℕ → LoadError → Type 0
