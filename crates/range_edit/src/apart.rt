@@ -1,5 +1,5 @@
 //! Binding a range that neither meets nor touches a stored one.
-ghost use Rattle.std.specs.Prelude.{◌≡◌, ◌↔◌, length, IsErrAnd, IfErr, OnOk, OnErr};
+ghost use Rattle.std.specs.Prelude.{◌≡◌, ◌↔◌, ◌≤◌, length, IsErrAnd, IfErr, OnOk, OnErr, IsOk};
 ghost use Rattle.range_store.specs.ListPlaces.{place_before};
 ghost use Rattle.range_algebra.specs.Range.{IsEmptyRange};
 ghost use Rattle.range_runs.specs.Stored.{IsStored};
@@ -66,6 +66,8 @@ pub fn bind_apart<K: PartialEnum, V: Eq + Drop, C: Storage<Item<AnyRange<K>, V>>
     ensures ok { OnOk result
         (IsInserted K.order V.eq (C.items stored.old) (C.items stored.new) range value) }
     ensures refused { OnErr result (C.items stored.new ≡ C.items stored.old) }
+    ensures succeeds { 1 ≤ C.room stored.old
+        → ¬ IsConnectedToSome K.order (C.items stored.old) range → IsOk result }
 {
     inner::known(&range);
     let gap = find_gap::<K, V, C>(stored, &range);

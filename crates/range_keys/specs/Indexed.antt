@@ -40,9 +40,6 @@ module _ {K : Type 0} {index : K → ℕ} {key_at : ℕ → K} {size : ℕ}
   same_index : (a b : K) → index a ≡ index b → a ≡ b
   same_index a b e = sym (indexed.key_at_index a) ∙ ap key_at e ∙ indexed.key_at_index b
 
-  some_is : {a b : K} → Some a ≡ Some b → a ≡ b
-  some_is e = cc
-
   index_is : (n : ℕ) (b : K) → n < size → key_at n ≡ b → index b ≡ n
   index_is n b h e = ap index (sym e) ∙ indexed.index_key_at n h
 

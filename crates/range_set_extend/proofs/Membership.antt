@@ -9,7 +9,7 @@ use Rattle.range_runs.specs.Bindings.{IsBound, BindsTo, IsBoundAfter, IsUnboundA
 use Rattle.range_map.specs.Retaining.{BindOnlyAsBefore}
 use Rattle.range_map.specs.Together.{BindKeysOf}
 use Rattle.range_runs.proofs.Overlaps.{binds_bound}
-use Rattle.range_set_extend.specs.KeySets.{HoldsKey, SomeHolds, HoldsAlso, HoldsWithout, HoldsAllAlso, HoldsAllOf}
+use Rattle.range_set_extend.specs.KeySets.{HoldsKey, SomeHolds, HoldsAlso, HoldsWithout, HoldsAllAlso}
 
 module _ {K : Type 0} (order : KeyOrder K) where
   abbrev Items : Type 0
@@ -120,12 +120,4 @@ module _ {K : Type 0} (order : KeyOrder K) where
         | inr last ↦ elim last [ inl held ↦ (g k key).1 (inr held) | inr none ↦ absurd none ]
       ]
     ],
-  )
-
-  -- what was added to nothing is all that is held
-  pub all_of : (items : Items) (ranges : List (AnyRange K)) → HoldsAllAlso order [] items ranges
-      → HoldsAllOf order items ranges
-  all_of items ranges h k key = (
-    λ b. elim ((h k key).0 b) [ inl none ↦ absurd none | inr some ↦ some ],
-    λ b. (h k key).1 (inr b),
   )

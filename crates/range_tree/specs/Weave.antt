@@ -44,15 +44,6 @@ module _ {X : Type 0} where
       ap (λ zs. k ++ zs) (rest_of-append xs (y ∷ ys) ks (l ∷ ls) same)
       ∙ sym (append_assoc k (rest_of xs ks) (y ∷ weave ys (l ∷ ls)))
 
-  pub front_of-append : (xs ys : List X) (ks ls : List (List X)) → length xs ≡ length ks
-      → front_of (xs ++ ys) (ks ++ ls) ≡ front_of xs ks ++ front_of ys ls
-  front_of-append [] ys [] ls same = refl
-  front_of-append [] ys (k ∷ ks) ls same = absurd (omega arith)
-  front_of-append (x ∷ xs) ys [] ls same = absurd (omega arith)
-  front_of-append (x ∷ xs) ys (k ∷ ks) ls same =
-      ap (λ zs. (k ++ x ∷ []) ++ zs) (front_of-append xs ys ks ls (omega arith))
-      ∙ sym (append_assoc (k ++ x ∷ []) (front_of xs ks) (front_of ys ls))
-
   pub weave_at : (xs : List X) (ks : List (List X)) (i : ℕ) → i ≤ length xs
       → length ks ≡ length xs + 1
       → weave xs ks ≡ before xs ks i ++ (get_or ks i [] ++ after xs ks i)

@@ -49,6 +49,8 @@ impl<K: Measure, V: Eq + Drop, C: Storage<Item<AnyRange<K>, V>>> RangeMap<K, V, 
         ensures canonical { IsCanonical K.order V.eq (C.items self.new) }
         ensures few { length (C.items self.new) ≤ length (C.items self.old) + 1 }
         ensures refused { OnErr result (C.items self.new ≡ C.items self.old) }
+        ensures succeeds { 1 ≤ C.room self.old
+            → ¬ IsConnectedToSome K.order (C.items self.old) (R.range range) → IsOk result }
         ensures empty { IsEmptyRange K.order (R.range range) → IsOk result }
         ensures empty_unchanged { IsEmptyRange K.order (R.range range)
             → C.items self.new ≡ C.items self.old }

@@ -30,6 +30,10 @@ returns g c =
     record {
       connected = grind (arith, common_steps);
       given = grind (arith, common_steps);
+      succeeds =
+          λ enough apart.
+          c.bind_apart.ensures.succeeds (rw (← c.self.view_is) at enough)
+          (rw (← c.self.view_is, ← c.into_range-range.ensures) at apart);
       put = grind (arith, common_steps);
       bound =
           rw (← c.self.view_is) (on_ok (IsInserted order same items new range c.args.value)
