@@ -96,12 +96,13 @@ def sample(name, path, is_proved):
     return status
 
 
+def end(number, _):
+    """Ends by a signal, once what was begun is taken back."""
+    sys.exit(128 + number)
+
+
 def ending_with_it(words):
     """Runs this module on the words, in a group of processes that ends with this one, also by a signal."""
-
-    def end(number, _):
-        sys.exit(128 + number)
-
     for it in (signal.SIGTERM, signal.SIGHUP, signal.SIGINT):
         signal.signal(it, end)
     worker = subprocess.Popen([sys.executable, "-m", "tools.samples", *words], cwd=TOP, preexec_fn=os.setpgrp)
@@ -137,5 +138,10 @@ def main(words):
 
 
 if __name__ == "__main__":
+    signal.signal(signal.SIGTERM, end)
     how, name, *path = sys.argv[1:]
-    sys.exit(sample(name, pathlib.Path(path[0]) if path else None, how == "proved"))
+    try:
+        sys.exit(sample(name, pathlib.Path(path[0]) if path else None, how == "proved"))
+    except BrokenPipeError:
+        # Whoever reads has enough.
+        os.dup2(os.open(os.devnull, os.O_WRONLY), sys.stdout.fileno())
