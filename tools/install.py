@@ -6,11 +6,12 @@
     PREFIX/share/btree_range_map/tokens           files of rules
 """
 
+import concurrent.futures
 import os
 import shutil
 
 from tools import programs
-from tools.repository import CRATES, TOP, Counts, tell
+from tools.repository import CRATES, PROCESSORS, TOP, Counts, tell
 
 PROGRAMS = ("cidr", "tokens", "rangerun", "rangecalc")
 SHARE = "share/btree_range_map"
@@ -26,18 +27,23 @@ def put(source, target):
         os.replace(f"{target}.new", target)
 
 
+def program(name, is_proved):
+    """Returns the path of the program of this name, once it is built."""
+    if is_proved:
+        return programs.proved(name, lambda: tell(f"{name}: proving what no gate has proved here yet: up to an hour"))
+    return programs.built(name, "-O3", lambda: tell(f"{name}: building it without a proof: a minute or two"))
+
+
 def install(prefix, is_proved):
-    """Puts all there. Returns how many programs were."""
+    """Puts all there. Returns how many programs were. They are built side by side, and proved one after the other."""
     prefix = prefix.resolve()
-    for name in PROGRAMS:
-        if is_proved:
-            program = programs.proved(name, lambda: tell(f"{name}: proving what no gate has proved here yet: up to an hour"))
-        else:
-            program = programs.built(name, "-O3", lambda: tell(f"{name}: building it without a proof: about a minute"))
-        put(program, prefix / "bin" / name)
-        put(CRATES / name / f"{name}.1", prefix / "share/man/man1" / f"{name}.1")
-        put(CRATES / name / f"{name}.bash", prefix / "share/bash-completion/completions" / name)
-        tell(f"{prefix}/bin/{name}")
+    with concurrent.futures.ThreadPoolExecutor(PROCESSORS) as pool:
+        every = map if is_proved else pool.map
+        for name, made in zip(PROGRAMS, every(lambda it: program(it, is_proved), PROGRAMS)):
+            put(made, prefix / "bin" / name)
+            put(CRATES / name / f"{name}.1", prefix / "share/man/man1" / f"{name}.1")
+            put(CRATES / name / f"{name}.bash", prefix / "share/bash-completion/completions" / name)
+            tell(f"{prefix}/bin/{name}")
     for rules in sorted((CRATES / "tokens/data").iterdir()):
         if not rules.suffix:
             put(rules, prefix / SHARE / "tokens" / rules.name)
