@@ -24,6 +24,8 @@ from tools.repository import CRATES, PROCESSORS, TOP, Counts, Ended, run, told, 
 
 # The crate that makes the calls, and the programs whose conversations are played.
 CRATE = "refusals"
+# What the calls answer with enough memory, after their names.
+STDOUT = TOP / "tests" / CRATE / "stdout"
 # The calls that allocate nothing, each with the reason. Every other call has to meet a refusal.
 FREE = {"map: split_off after all ranges": "no range moves", "set: range_from_json": "keys are numbers"}
 
@@ -72,13 +74,18 @@ def refuse_trial(program, trial):
     return refused, []
 
 
+def trials_of(wanted):
+    """Returns the names of all trials, and the numbers of those that have one of the words in their names, or of all."""
+    names = [line.partition(" ")[2] for line in STDOUT.read_text().splitlines()]
+    return names, [it for it, name in enumerate(names) if not wanted or any(word in name for word in wanted)]
+
+
 def refuse_calls(program, wanted):
     """Refuses the allocations of the calls that have one of the words in their names, or of all."""
     began, plain = time.monotonic(), refusing(program, 0)[0].out
-    if plain != (TOP / "tests" / CRATE / "stdout").read_bytes():
+    if plain != STDOUT.read_bytes():
         return told("refused memory", Counts(0, 1), began, f"with enough memory:\n{plain.decode()}")
-    names = [line.partition(" ")[2] for line in plain.decode().splitlines()]
-    trials = [it for it, name in enumerate(names) if not wanted or any(word in name for word in wanted)]
+    names, trials = trials_of(wanted)
     with concurrent.futures.ThreadPoolExecutor(PROCESSORS) as pool:
         found = [*pool.map(lambda trial: refuse_trial(program, trial), trials)]
     refused, wrong = collections.Counter(), []
@@ -162,6 +169,8 @@ def refuse(wanted=(), players=tuple(PLAYERS)):
     The programs are built without a proof."""
     if not shutil.which("cc"):
         return [told("refused memory", Counts(0, 0, 1), time.monotonic(), "")]
+    if not trials_of(wanted)[1]:
+        return [told("refused memory", Counts(0, 1), time.monotonic(), f"no call has in its name: {' '.join(wanted)}")]
     names = [CRATE] if wanted else [CRATE, *players]
     with workspace() as crates, tempfile.TemporaryDirectory() as room:
         with concurrent.futures.ThreadPoolExecutor() as pool:
