@@ -2,7 +2,7 @@
  * in the archive's share folder, says what a caller owes.
  *
  * Each call answers by a status; one that fails has changed nothing, and has written nothing behind its pointers,
- * but for what an insert_many has done and told before memory ran out. No pointer is NULL, but for that of brm_destroy, and
+ * but for what an insert_many or an update has done and told before memory ran out. No pointer is NULL, but for that of brm_destroy, and
  * neither is an array, a buffer or a text that is empty. */
 #ifndef BTREE_RANGE_MAP_H
 #define BTREE_RANGE_MAP_H
@@ -10,6 +10,7 @@
 #include <stdbool.h>
 #include <stddef.h>
 #include <stdint.h>
+#include <string.h>
 
 #define BRM_VERSION_MAJOR 0
 #define BRM_VERSION_MINOR 6
@@ -426,6 +427,92 @@ static inline brm_status brm_set_i64_complement(const brm_handle *set, brm_handl
     brm_status status = brm_sets_put_together(brm_set_i64_contains(set, 0), set, set, made);
     return status == BRM_DONE ? brm_raw_set_complement(set, made) : status;
 }
+
+/* A function of the caller's: what the keys of a part are bound to afterwards, of what they are bound to, in one map or in two. The
+ * last word is the caller's own. It changes no map. */
+typedef brm_binding (*brm_change)(brm_binding bound, void *with);
+typedef brm_binding (*brm_merge)(brm_binding bound, brm_binding other, void *with);
+
+/* Bind the keys of each part of the range, bound or free, as the function says. It is asked of one part after the other, in ascending
+ * order. Of BRM_NO_MEMORY the range becomes that part for which there was none, with all behind it: what lies before has changed. */
+static inline brm_status brm_map_u64_update(brm_handle *map, brm_range_u64 *range, brm_change change, void *with);
+static inline brm_status brm_map_i64_update(brm_handle *map, brm_range_i64 *range, brm_change change, void *with);
+
+/* Open the closed handle `made` on a map that binds the keys of each part as the function says of what two maps of one kind bind
+ * them to. It is not asked of keys that neither binds. */
+static inline brm_status brm_map_u64_merge_with(const brm_handle *map, const brm_handle *other, brm_handle *made, brm_merge merge, void *with);
+static inline brm_status brm_map_i64_merge_with(const brm_handle *map, const brm_handle *other, brm_handle *made, brm_merge merge, void *with);
+
+#define BRM_CHANGES_OF(KIND)                                                                                              \
+    /* Makes the range what lies past a part of it, and tells whether something does. */                                  \
+    static inline bool brm_go_past_##KIND(brm_range_##KIND *range, const brm_range_##KIND *part) {                        \
+        uint32_t start_flag = part->flags & BRM_END_EXCLUDED ? 0 : BRM_START_EXCLUDED;                                    \
+        range->start = part->end;                                                                                         \
+        range->flags = (range->flags & (BRM_END_EXCLUDED | BRM_END_UNBOUNDED)) | start_flag;                              \
+        return !(part->flags & BRM_END_UNBOUNDED);                                                                        \
+    }                                                                                                                     \
+                                                                                                                          \
+    static inline brm_status brm_bind_##KIND(brm_handle *map, const brm_range_##KIND *range, brm_binding bound) {         \
+        return bound.is_bound ? brm_map_##KIND##_insert(map, range, bound.value) : brm_map_##KIND##_remove(map, range);   \
+    }                                                                                                                     \
+                                                                                                                          \
+    static inline brm_status brm_map_##KIND##_update(brm_handle *map, brm_range_##KIND *range, brm_change change, void *with) { \
+        brm_piece_##KIND parts[16];                                                                                       \
+        brm_range_##KIND rest = *range;                                                                                   \
+        size_t count = 16;                                                                                                \
+        for (bool is_more = true; is_more && count == 16;) {                                                              \
+            brm_status status = brm_map_##KIND##_pieces(map, &rest, parts, 16, &count);                                   \
+            for (size_t i = 0; status == BRM_DONE && i < count; i++) {                                                    \
+                status = brm_bind_##KIND(map, &parts[i].range, change(parts[i].binding, with));                           \
+                if (status == BRM_DONE) is_more = brm_go_past_##KIND(&rest, &parts[i].range);                             \
+            }                                                                                                             \
+            if (status == BRM_NO_MEMORY) *range = rest;                                                                   \
+            if (status != BRM_DONE) return status;                                                                        \
+        }                                                                                                                 \
+        return BRM_DONE;                                                                                                  \
+    }                                                                                                                     \
+                                                                                                                          \
+    /* Binds in the map that is made the keys of one part of the first, which are bound so there. */                      \
+    static inline brm_status brm_merge_part_##KIND(const brm_piece_##KIND *part, const brm_handle *other, brm_handle *made, brm_merge merge, void *with) { \
+        brm_piece_##KIND parts[16];                                                                                       \
+        brm_range_##KIND rest = part->range;                                                                              \
+        size_t count = 16;                                                                                                \
+        for (bool is_more = true; is_more && count == 16;) {                                                              \
+            brm_status status = brm_map_##KIND##_pieces(other, &rest, parts, 16, &count);                                 \
+            for (size_t i = 0; status == BRM_DONE && i < count; i++) {                                                    \
+                brm_binding bound = parts[i].binding;                                                                     \
+                if (part->binding.is_bound || bound.is_bound) bound = merge(part->binding, bound, with);                  \
+                if (bound.is_bound) status = brm_map_##KIND##_insert(made, &parts[i].range, bound.value);                 \
+                is_more = brm_go_past_##KIND(&rest, &parts[i].range);                                                     \
+            }                                                                                                             \
+            if (status != BRM_DONE) return status;                                                                        \
+        }                                                                                                                 \
+        return BRM_DONE;                                                                                                  \
+    }                                                                                                                     \
+                                                                                                                          \
+    static inline brm_status brm_map_##KIND##_merge_with(const brm_handle *map, const brm_handle *other, brm_handle *made, brm_merge merge, void *with) { \
+        brm_piece_##KIND parts[16];                                                                                       \
+        brm_range_##KIND rest;                                                                                            \
+        size_t count = 16;                                                                                                \
+        if (made->is_open) return BRM_OPEN;                                                                               \
+        if (made == map || made == other) return BRM_CLOSED;                                                              \
+        memset(&rest, 0, sizeof rest);                                                                                    \
+        rest.flags = BRM_START_UNBOUNDED | BRM_END_UNBOUNDED;                                                             \
+        brm_status status = brm_map_##KIND##_create(made);                                                                \
+        for (bool is_more = true; status == BRM_DONE && is_more && count == 16;) {                                        \
+            status = brm_map_##KIND##_pieces(map, &rest, parts, 16, &count);                                              \
+            for (size_t i = 0; status == BRM_DONE && i < count; i++) {                                                    \
+                status = brm_merge_part_##KIND(&parts[i], other, made, merge, with);                                      \
+                is_more = brm_go_past_##KIND(&rest, &parts[i].range);                                                     \
+            }                                                                                                             \
+        }                                                                                                                 \
+        if (status != BRM_DONE) brm_destroy(made);                                                                        \
+        return status;                                                                                                    \
+    }
+
+BRM_CHANGES_OF(u64)
+BRM_CHANGES_OF(i64)
+#undef BRM_CHANGES_OF
 
 /* Keys of 32 bits, as addresses of version 4 of the internet protocol, are kept in maps and sets of uint64_t keys. This is a range
  * of them as those take it: the least or the greatest such key stands in the place of no end. */

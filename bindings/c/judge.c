@@ -31,6 +31,22 @@ static int below(int bound) {
     return (int)(state % (uint64_t)bound);
 }
 
+/* The place of what is bound among the values, 0 of nothing; the other way round. 0 is a value too, in the place of 2. */
+static int place_of(brm_binding bound) { return !bound.is_bound ? 0 : bound.value == 1 ? 1 : bound.value == 0 ? 2 : 3; }
+
+static brm_binding bound_at(int place) {
+    brm_binding bound = {VALUES[place], place > 0};
+    return bound;
+}
+
+/* What a table says of the place of what is bound, or of the places of two. */
+static brm_binding changed(brm_binding bound, void *table) { return bound_at(((const int *)table)[place_of(bound)]); }
+
+static brm_binding merged(brm_binding bound, brm_binding other, void *table) {
+    EXPECT(bound.is_bound || other.is_bound);
+    return bound_at(((const int(*)[4])table)[place_of(bound)][place_of(other)]);
+}
+
 typedef uint64_t number_u64;
 typedef int64_t number_i64;
 

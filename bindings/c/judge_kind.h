@@ -179,7 +179,7 @@ static void NAME(judge_map)(long calls) {
             if (from < upto && i >= 0 && i < NAME(count) && bound[i]) is_apart = false;
         ENTRY entry = {{1, 2, 3}, 4}, entries[PARTS];
         size_t found = 0;
-        switch (below(16)) {
+        switch (below(18)) {
         case 0: case 1: case 2: case 3:
             EXPECT(MAP(insert)(&map, &range, VALUES[value]) == BRM_DONE);
             for (int i = from; i < upto; i++) bound[i] = value;
@@ -280,6 +280,22 @@ static void NAME(judge_map)(long calls) {
             EXPECT(MAP(get_many)(&map, keys, bindings, (size_t)NAME(count)) == BRM_DONE);
             for (int i = 0; i < NAME(count); i++)
                 EXPECT(bindings[i].is_bound == (bound[i] > 0) && bindings[i].value == (bound[i] ? VALUES[bound[i]] : 0));
+            break;
+        }
+        case 14: {
+            int table[] = {below(4), below(4), below(4), below(4)};
+            EXPECT(MAP(update)(&map, &range, changed, table) == BRM_DONE);
+            for (int i = from; i < upto; i++) bound[i] = table[bound[i]];
+            break;
+        }
+        case 15: {
+            brm_handle other = NAME(drawn)(true, over), made = BRM_HANDLE_CLOSED;
+            int table[4][4], wanted[PARTS] = {0};
+            for (int i = 0; i < 16; i++) table[i / 4][i % 4] = i ? below(4) : 0;
+            for (int i = 0; i < NAME(count); i++) wanted[i] = table[bound[i]][over[i]];
+            EXPECT(MAP(merge_with)(&map, &other, &made, merged, table) == BRM_DONE && NAME(holds)(&made, wanted));
+            EXPECT(MAP(merge_with)(&map, &other, &made, merged, table) == BRM_OPEN);
+            brm_destroy(&made), brm_destroy(&other);
             break;
         }
         default: {

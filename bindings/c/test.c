@@ -1011,6 +1011,62 @@ static void maps_of_two(void) {
     EXPECT(brm_overlay(&map, &map, &made) == BRM_CLOSED && brm_without(&map, &map, &made) == BRM_CLOSED);
 }
 
+/* Adds what `with` leads to, and leaves what comes to 0 free. */
+static brm_binding added(brm_binding bound, void *with) {
+    brm_binding sum = {bound.value + *(const uint64_t *)with, true};
+    sum.is_bound = sum.value != 0;
+    return sum;
+}
+
+static brm_binding summed(brm_binding bound, brm_binding other, void *with) {
+    ++*(int *)with;
+    return added(bound, &other.value);
+}
+
+/* Counters over ranges: what a function makes of a range of one map, and of two maps. */
+static void changed_by_functions(void) {
+    enum { RANGES = 40 };
+    brm_handle map = BRM_HANDLE_CLOSED, other = BRM_HANDLE_CLOSED, made = BRM_HANDLE_CLOSED;
+    brm_range_u64 range = upto(0, 100), all = {0, 0, BRM_START_UNBOUNDED | BRM_END_UNBOUNDED};
+    brm_entry_u64 e = {{0, 0, 0}, 0};
+    brm_status status = BRM_NO_MEMORY;
+    uint64_t one = 1, less = UINT64_MAX;
+    int asked = 0;
+    EXPECT(brm_map_u64_update(&map, &range, added, &one) == BRM_CLOSED && brm_map_u64_merge_with(&map, &map, &made, summed, &asked) == BRM_CLOSED);
+    EXPECT(brm_map_u64_create(&map) == BRM_DONE && brm_map_i64_create(&other) == BRM_DONE);
+    EXPECT(brm_map_u64_merge_with(&map, &other, &made, summed, &asked) == BRM_OTHER_KIND && !made.is_open && asked == 0);
+    for (uint64_t i = 0; i < RANGES; i++) {
+        range = upto(10 * i, 10 * i + 5);
+        EXPECT(brm_map_u64_update(&map, &range, added, &i) == BRM_DONE);
+    }
+    EXPECT(brm_count(&map) == RANGES - 1);
+    range = upto(7, 393);
+    for (uint64_t before = 0, start = 7; status == BRM_NO_MEMORY; before = start, start = range.start) {
+        /* what is before the rest of the range is changed, and nothing else */
+        EXPECT(brm_map_u64_get(&map, 10, &e) == BRM_DONE && e.value == (range.start > 10 ? 2 : 1));
+        granted = before == start ? -1 : 0;
+        status = brm_map_u64_update(&map, &range, added, &one);
+        granted = -1;
+    }
+    EXPECT(status == BRM_DONE && brm_map_u64_get(&map, 9, &e) == BRM_DONE && is_entry(e, (brm_range_u64){7, 10, BRM_END_EXCLUDED}, 1));
+    EXPECT(brm_map_u64_get(&map, 392, &e) == BRM_DONE && e.value == 40 && brm_map_u64_get(&map, 394, &e) == BRM_DONE && e.value == 39);
+    EXPECT(brm_map_u64_get(&map, 6, &e) == BRM_NONE);
+    status = BRM_NO_MEMORY;
+    for (long allowed = 0; status == BRM_NO_MEMORY; allowed++) {
+        granted = allowed, asked = 0;
+        status = brm_map_u64_merge_with(&map, &map, &made, summed, &asked);
+        granted = -1;
+        EXPECT(status == BRM_DONE || !made.is_open);
+    }
+    EXPECT(status == BRM_DONE && brm_count(&made) == brm_count(&map) && asked == (int)brm_count(&map));
+    EXPECT(brm_map_u64_get(&made, 392, &e) == BRM_DONE && e.value == 80);
+    EXPECT(brm_map_u64_update(&map, &all, added, &less) == BRM_DONE && brm_map_u64_get(&map, 9, &e) == BRM_NONE);
+    EXPECT(brm_map_u64_last(&map, &e) == BRM_DONE && e.value == UINT64_MAX && e.range.start == 395 && e.range.flags == BRM_END_UNBOUNDED);
+    brm_destroy(&map);
+    brm_destroy(&other);
+    brm_destroy(&made);
+}
+
 int main(void) {
     maps();
     many();
@@ -1038,6 +1094,7 @@ int main(void) {
     maps_of_two();
     status_texts();
     texts();
+    changed_by_functions();
     printf("C: %s\n", failures ? "FAILED" : "passed");
     return failures != 0;
 }

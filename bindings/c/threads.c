@@ -215,11 +215,20 @@ static void put_beside(const brm_handle *map, const brm_handle *own, job *it) {
     brm_destroy(&copy);
 }
 
+static brm_binding first(brm_binding bound, brm_binding other, void *with) {
+    (void)other, (void)with;
+    return bound;
+}
+
 static void *work(void *given) {
     job *it = given;
     brm_handle copy = BRM_HANDLE_CLOSED;
     read_all(it->shared, it);
     read_signed(it->shared_signed, it);
+    it->wrong += brm_map_i64_merge_with(it->shared_signed, it->shared_signed, &copy, first, NULL) != BRM_DONE || brm_count(&copy) != RANGES;
+    brm_destroy(&copy);
+    it->wrong += brm_map_u64_merge_with(it->shared, it->shared, &copy, first, NULL) != BRM_DONE || brm_count(&copy) != RANGES;
+    brm_destroy(&copy);
     read_keys(it->shared_keys, it);
     read_signed_keys(it->shared_signed_keys, it);
     put_together(it->shared_keys, &UNSIGNED, RANGES, it);
