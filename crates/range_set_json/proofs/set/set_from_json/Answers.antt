@@ -1,12 +1,25 @@
-use Rattle.std.proofs.Common.{refl, ap, ◌∙◌, ◌∷◌, [], map, arith}
+use Rattle.std.proofs.Common.{refl, ap, ◌∙◌, List, ◌∷◌, [], map, inl, inr, arith}
 use Rattle.std.proofs.lemmas.List.{map-append}
 use Rattle.serde_json.specs.View.{view}
 use Rattle.range_map.proofs.StoredLists.{stored_canonical}
 use Rattle.range_sets.proofs.Filling.{all_equal}
-use Rattle.range_sets.proofs.Membership.{all_of, none_added, one_more}
+use Rattle.range_keys.specs.Order.{KeyOrder}
+use Rattle.range_algebra.specs.declared.any.AnyRange.{AnyRange}
+use Rattle.range_store.specs.declared.storage.Item.{Item}
+use Rattle.range_sets.specs.KeySets.{HoldsAllAlso, HoldsAllOf}
+use Rattle.range_sets.proofs.Membership.{none_added, one_more}
 use Rattle.range_map_json.proofs.ElementLoop.{one_fails, one_read, reading_begun, reading_ended}
 use Rattle.range_set_json.specs.Faults.{array_fault, range_fault}
 use Rattle.range_set_json.proofs.set.set_from_json.Goals as goal
+
+-- what was added to nothing is all that is held
+all_of : {K : Type 0} (order : KeyOrder K) (items : List (Item (AnyRange K) (Unit {0})))
+    (ranges : List (AnyRange K)) → HoldsAllAlso order [] items ranges
+    → HoldsAllOf order items ranges
+all_of order items ranges h k key = (
+  λ b. elim ((h k key).0 b) [ inl none ↦ absurd none | inr some ↦ some ],
+  λ b. (h k key).1 (inr b),
+)
 
 pub loop-index-init : goal.loop-index-init
 loop-index-init g c =
