@@ -6,6 +6,7 @@ import array
 import contextlib
 import copy as _copy
 import ctypes
+import ipaddress
 import json
 import operator
 import os
@@ -21,8 +22,8 @@ from ._ranges import Range, bounds_of, made
 K = TypeVar("K")
 C = TypeVar("C", bound="Collection[Any]")
 
-#: what says a range: a slice, a `range`, a `Range` or a key alone
-Keyed = Union[K, slice, range, Range[K]]
+#: what says a range: a slice, a `range`, a `Range`, a network of addresses or a key alone
+Keyed = Union[K, slice, range, Range[K], ipaddress.IPv4Network]
 
 _UNBOUNDED = _c.START_UNBOUNDED | _c.END_UNBOUNDED
 

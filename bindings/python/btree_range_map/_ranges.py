@@ -2,6 +2,7 @@
 
 from __future__ import annotations
 
+import ipaddress
 import operator
 from typing import Any, Generic, Iterator, NamedTuple, TypeVar
 
@@ -187,13 +188,15 @@ _new = object.__new__
 
 
 def bounds_of(keys: Any) -> Bounds:
-    """What a slice, a `range`, a `Range` or a key alone says."""
+    """What a slice, a `range`, a `Range`, a network or a key alone says."""
     if isinstance(keys, Range):
         return keys.bounds
     if isinstance(keys, (slice, range)):
         if keys.step not in (None, 1) or isinstance(keys, slice) and keys.step is not None:
             raise ValueError("a range has no step")
         return Bounds(keys.start, keys.stop, keys.start is not None, False)
+    if isinstance(keys, ipaddress.IPv4Network):
+        return Bounds(keys.network_address, keys.broadcast_address, True, True)
     if keys is None:
         raise TypeError("None is no key and no range")
     return Bounds(keys, keys, True, True)

@@ -4,6 +4,7 @@ import array
 import copy
 import doctest
 import gc
+import ipaddress
 import json
 import os
 import pickle
@@ -187,6 +188,19 @@ class Maps(unittest.TestCase):
         read.load_json(kinds.to_json())
         self.assertEqual(read, kinds)
         self.assertEqual(read.to_json(), kinds.to_json())
+
+    def test_networks_are_ranges(self):
+        address, network = ipaddress.ip_address, ipaddress.ip_network
+        owners = RangeMap([(network("10.0.0.0/8"), "ours"), (address("10.1.2.3"), "this")], keys="ipv4")
+        owners[network("10.2.0.0/16")] = "site"
+        self.assertEqual((owners[address("10.2.255.255")], owners[address("10.3.0.0")], owners.get(address("11.0.0.0"))), ("site", "ours", None))
+        held = RangeSet([network("10.0.0.0/8"), network("0.0.0.0/5"), network("255.255.255.255/32")], keys="ipv4")
+        self.assertEqual((held.key_count(), held.first().stop, held.last().stop), (2**24 + 2**27 + 1, address("8.0.0.0"), None))
+        held.discard(network("0.0.0.0/0"))
+        self.assertEqual(len(held), 0)
+        for other in (network("::/96"), "10.0.0.0/8"):
+            self.assertRaises(TypeError, held.add, other)
+        self.assertRaises(TypeError, RangeSet().add, network("10.0.0.0/8"))
 
     def test_refusals_change_nothing(self):
         keys = RangeMap([(slice(0, 10), 1)])
