@@ -1,2 +1,2 @@
 # Completion of tokens for bash.
-complete -o default -W "--json --count" tokens
+complete -o default -W "--raw --json --count --help --version" tokens

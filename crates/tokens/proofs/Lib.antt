@@ -1,4 +1,5 @@
 pub mod CountLines
+pub mod Escapes
 pub mod FaultLines
 pub mod Counting
 pub mod Lists

@@ -1,4 +1,5 @@
 pub mod Counts
+pub mod Escaping
 pub mod Faults
 pub mod Lines
 pub mod Places

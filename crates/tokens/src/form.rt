@@ -2,17 +2,22 @@
 ghost use Rattle.std.specs.Prelude.{◌≡◌, IfOk, OnOk, string_bytes};
 ghost use Rattle.std.specs.Io.KnownBytes.{Appends};
 ghost use Rattle.tokens.specs.Lines.{json_string, token_line};
-ghost use Rattle.tokens.specs.declared.form.Form.TheVariants.{Plain, Json};
+ghost use Rattle.tokens.specs.declared.form.Form.TheVariants.{Plain, Raw, Json};
 
+use crate::escaping::write_escaped;
 use crate::place::Place;
 use serde_json::Value;
 use std::alloc::{AllocError, Global};
 use std::io::{self, Write};
 
-/// How a token is written: as a line of text, as a line of JSON, or not at all.
+/// How a token is written: as a line of text, as its text stands there, as a line of JSON, or not at
+/// all.
 #[derive(Clone, Copy, PartialEq, Eq, Drop)]
 pub enum Form {
+    /// The ends of lines and the backslashes of the text are escaped, so a line is a token.
     Plain,
+    /// As `Plain`, but nothing is escaped.
+    Raw,
     Json,
     Silent,
 }
@@ -20,6 +25,16 @@ pub enum Form {
 fn write_plain<W: Write>(place: Place, name: &str, piece: &str, out: &mut W) -> io::Result<()>
     ensures { OnOk result (Appends (W.contents out.old) (W.contents out.new)
         (token_line Plain place name.now piece.now)) }
+{
+    let Place { line, column } = place;
+    write!(out, "{line}:{column} {name} ")?;
+    write_escaped(piece, out)?;
+    out.write_all(b"\n")
+}
+
+fn write_raw<W: Write>(place: Place, name: &str, piece: &str, out: &mut W) -> io::Result<()>
+    ensures { OnOk result (Appends (W.contents out.old) (W.contents out.new)
+        (token_line Raw place name.now piece.now)) }
 {
     let Place { line, column } = place;
     writeln!(out, "{line}:{column} {name} {piece}")
@@ -73,6 +88,7 @@ pub(crate) fn write_token<W: Write>(
 {
     match form {
         Form::Plain => write_plain(place, name, piece, out),
+        Form::Raw => write_raw(place, name, piece, out),
         Form::Json => write_json(alloc, place, name, piece, out),
         Form::Silent => Ok(()),
     }

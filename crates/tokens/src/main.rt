@@ -1,9 +1,10 @@
 //! Cuts files into tokens by a file of rules, and prints them.
 //!
-//! `tokens RULES FILE..` prints a line `line:column NAME text` for each token; with `--json` first,
-//! a JSON object a line; with `--count` first, how many tokens each rule has. Lines and columns
-//! count from 1, columns in characters. The status is 1 where a rule or a file is bad, 2 where the
-//! words are.
+//! `tokens RULES [FILE..]` prints a line `line:column NAME text` for each token, with the ends of
+//! lines and the backslashes of the text escaped; with `--raw` first, without that; with `--json`, a
+//! JSON object a line; with `--count`, how many tokens each rule has. With no file, or for `-`, it
+//! reads standard input. Lines and columns count from 1, columns in characters. The status is 1
+//! where a rule or a file is bad, 2 where the words are.
 //!
 //! A line of the rules is `NAME PATTERN`, or `skip PATTERN` for what is left out. Blank lines and
 //! lines that begin with `#` say nothing. Spaces around a pattern are none of it: one there is
@@ -14,8 +15,9 @@
 //!
 //! - what is printed, by rules: `src/{serve,printing}.rt`, `specs/Printing.antt`,
 //!   `proofs/{Steps,Written}.antt`
-//! - how a token is written, and its place: `src/{form,place}.rt`, `specs/{Lines,Places}.antt`,
-//!   `proofs/Places.antt`
+//! - how a token is written, and its place: `src/{form,escaping,place}.rt`,
+//!   `specs/{Lines,Escaping,Places}.antt`, `proofs/Places.antt`
+//! - the words of a command line: `src/arguments.rt`
 //! - files of rules: `src/rules.rt`, `proofs/Machines.antt`; faults shown: `src/fault.rt`; counts:
 //!   `src/count.rt`
 #![tactic(auto)]
@@ -24,12 +26,14 @@ ghost use Rattle.std.specs.Prelude.{◌≡◌};
 ghost use Rattle.lexing.specs.MachineSteps.{lexer_of};
 
 use lexing::Machine;
-use std::fs::File;
-use std::io::{self, BufWriter, ErrorKind, Write};
+use line_program::streams::words;
+use std::fs::{self, File};
+use std::io::{self, BufWriter, ErrorKind, Read, Write};
 use std::process::ExitCode;
-use std::{env, fs};
 
+mod arguments;
 mod count;
+mod escaping;
 mod fault;
 mod form;
 mod pieces;
@@ -38,6 +42,7 @@ mod printing;
 mod rules;
 mod serve;
 
+use arguments::{HELP, Request, USAGE, VERSION, request_of};
 use count::serve_counts;
 use form::Form;
 use printing::Printer;
@@ -45,56 +50,48 @@ use serve::Stop;
 
 const BUFFER_BYTES: usize = 65536;
 
-/// The program's name and its arguments. One that isn't text is no word that the program knows, so
-/// then there are none.
-fn words(rt: &HostRuntime) -> io::Result<Vec<String>> {
-    match env::args(rt) {
-        Ok(arguments) => Ok(arguments.collect(rt.alloc())?),
-        Err(error) if error.kind() == ErrorKind::OutOfMemory => Err(error),
-        Err(_) => Ok(Vec::new(rt.alloc())),
-    }
-}
-
-/// How tokens are written, and the words behind the one that says so.
-fn chosen_form(words: &[String]) -> (Form, &[String]) {
-    if let [first, rest @ ..] = words {
-        match first.as_str() {
-            "--json" => return (Form::Json, rest),
-            "--count" => return (Form::Silent, rest),
-            _ => {}
-        }
-    }
-    (Form::Plain, words)
-}
-
-/// Prints the tokens of a file, or their numbers; whether it could be read and cut to its end.
-fn print_file<W: Write, E: Write>(
-    rt: &HostRuntime,
+/// Prints the tokens of an input, or their numbers; whether it could be read and cut to its end.
+fn print_input<R: Read + Drop, W: Write, E: Write>(
     printer: &Printer<Machine>,
-    path: &str,
+    name: &str,
+    input: io::Result<R>,
     out: &mut W,
     err: &mut E,
 ) -> io::Result<bool>
     requires { printer.now.lexer.now ≡ lexer_of printer.now.scanner.now }
 {
-    let done = match File::open(rt, path) {
+    let done = match input {
         Err(error) => Err(Stop::Unreadable(error)),
-        Ok(file) => match printer.form {
-            Form::Silent => serve_counts(printer, path, file, out, err),
-            _ => serve::serve(printer, path, file, out, err),
+        Ok(input) => match printer.form {
+            Form::Silent => serve_counts(printer, name, input, out, err),
+            _ => serve::serve(printer, name, input, out, err),
         },
     };
     match done {
         Ok(is_whole) => Ok(is_whole),
         Err(Stop::Unwritable(error)) => Err(error),
         Err(Stop::Unreadable(error)) => {
-            writeln!(err, "{path}: {error}")?;
+            writeln!(err, "{name}: {error}")?;
             Ok(false)
         }
     }
 }
 
-/// Prints the tokens of each file; whether each could be read and cut to its end.
+/// Prints the tokens of standard input, or their numbers; whether it could be read and cut to its
+/// end.
+fn print_standard<W: Write, E: Write>(
+    rt: &HostRuntime,
+    printer: &Printer<Machine>,
+    out: &mut W,
+    err: &mut E,
+) -> io::Result<bool>
+    requires { printer.now.lexer.now ≡ lexer_of printer.now.scanner.now }
+{
+    print_input(printer, "standard input", Ok(rt.reader()), out, err)
+}
+
+/// Prints the tokens of each file, of standard input where there is none; whether each could be read
+/// and cut to its end.
 fn print_files<W: Write, E: Write>(
     rt: &HostRuntime,
     printer: &Printer<Machine>,
@@ -104,13 +101,19 @@ fn print_files<W: Write, E: Write>(
 ) -> io::Result<bool>
     requires { printer.now.lexer.now ≡ lexer_of printer.now.scanner.now }
 {
+    if paths.is_empty() {
+        return print_standard(rt, printer, out, err);
+    }
     let mut is_whole = true;
     for path in paths {
-        if !print_file(rt, printer, path.as_str(), out, err)? {
-            is_whole = false;
-        }
+        let path = path.as_str();
+        let is_done = if path == "-" {
+            print_standard(rt, printer, out, err)?
+        } else {
+            print_input(printer, path, File::open(rt, path), out, err)?
+        };
+        is_whole = is_whole && is_done;
     }
-    out.flush()?;
     Ok(is_whole)
 }
 
@@ -125,19 +128,10 @@ fn machine_of<E: Write>(rt: &HostRuntime, path: &str, err: &mut E) -> io::Result
     }
 }
 
-fn run(rt: &HostRuntime) -> io::Result<u8> {
-    let words = words(rt)?;
-    let words = match words.as_slice() {
-        [_, words @ ..] => words,
-        [] => &[],
-    };
-    let (form, words) = chosen_form(words);
+/// Cuts the files into tokens by the rules, and prints them.
+fn cut(rt: &HostRuntime, form: Form, rules: &str, paths: &[String]) -> io::Result<u8> {
     let mut err = rt.stderr();
-    let [rules, paths @ ..] = words else {
-        err.write_all(b"usage: tokens [--json|--count] RULES FILE..\n")?;
-        return Ok(2);
-    };
-    let Some(machine) = machine_of(rt, rules.as_str(), &mut err)? else {
+    let Some(machine) = machine_of(rt, rules, &mut err)? else {
         return Ok(1);
     };
     let printer = Printer {
@@ -147,17 +141,42 @@ fn run(rt: &HostRuntime) -> io::Result<u8> {
         scanner: &machine,
     };
     let mut out = BufWriter::with_capacity(rt.alloc(), BUFFER_BYTES, rt.stdout())?;
-    match print_files(rt, &printer, paths, &mut out, &mut err)? {
-        true => Ok(0),
-        false => Ok(1),
+    let is_whole = print_files(rt, &printer, paths, &mut out, &mut err)?;
+    out.flush()?;
+    Ok(if is_whole { 0 } else { 1 })
+}
+
+fn run(rt: &HostRuntime) -> io::Result<u8> {
+    let words = words(rt)?;
+    let words = match words.as_slice() {
+        [_, words @ ..] => words,
+        [] => &[],
+    };
+    match request_of(words) {
+        Request::Help => {
+            rt.stdout().write_all(HELP.as_bytes())?;
+            Ok(0)
+        }
+        Request::Version => {
+            rt.stdout().write_all(VERSION.as_bytes())?;
+            Ok(0)
+        }
+        Request::Wrong => {
+            rt.stderr().write_all(USAGE.as_bytes())?;
+            Ok(2)
+        }
+        Request::Cut { form, rules, paths } => cut(rt, form, rules, paths),
     }
 }
 
+/// A reader that goes away ends the program without a word.
 fn main(rt: HostRuntime) -> ExitCode {
     match run(&rt) {
         Ok(status) => ExitCode::from(status),
         Err(error) => {
-            let _ = writeln!(rt.stderr(), "tokens: {error}");
+            if error.kind() != ErrorKind::BrokenPipe {
+                let _ = writeln!(rt.stderr(), "tokens: {error}");
+            }
             ExitCode::FAILURE
         }
     }
