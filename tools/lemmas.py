@@ -44,6 +44,12 @@ class File:
                 inside, name = indent if re.search(r"\bwhere$", block, re.M) else -1, head[2] if head else ""
             self.blocks[name] += f"{block}\n"
 
+    def look_up(self, homes):
+        """Has what a crate's Lib passes on, by `pub use Rattle.CRATE.proofs.NAME`, stand for the file itself."""
+        self.whole = {homes.get(it, it) for it in self.whole}
+        for name, ways in self.places.items():
+            self.places[name] = {(*homes.get((crate, path), (crate, path)), other) for crate, path, other in ways}
+
 
 def files_of(top):
     """Returns the files of all proved crates of a copy by their crates and paths, those of code under `src`."""
@@ -53,7 +59,17 @@ def files_of(top):
         for part, suffix in (("specs", ".antt"), ("proofs", ".antt"), ("src", ".rt")):
             for path in sorted((folder / part).rglob(f"*{suffix}")):
                 found[name, str(path.relative_to(folder).with_suffix(""))] = path.read_text()
-    return {key: File(text) for key, text in found.items()}
+    files = {key: File(text) for key, text in found.items()}
+    homes = {
+        (crate, f"{part}/{pathlib.PurePath(way[1]).name}"): way
+        for (crate, path), file in files.items()
+        for part in ("specs", "proofs")
+        if path == f"{part}/Lib"
+        for way in file.whole & files.keys()
+    }
+    for file in files.values():
+        file.look_up(homes)
+    return files
 
 
 def words_of(text):
