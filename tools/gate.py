@@ -136,10 +136,13 @@ def bindings():
 
 
 def fresh_mutants():
-    """Returns a failure for each crate that changed since its mutants were tried."""
-    changed, never = mutants.stale()
+    """Returns a failure for each crate that changed since its mutants were tried, but for those whose record says that they wait."""
+    changed, waiting, never = mutants.stale()
     for name in never:
         tell(f"{name}: its mutants were not tried yet")
+    for name, again in waiting.items():
+        tell(f"{name}: {len(again)} of its mutants wait to be tried again: ./check mutants {name}")
+    changed = {name: left for name, again in changed.items() if (left := [it for it in again if it not in waiting.get(name, [])])}
     for name, again in changed.items():
         shown = ", ".join(str(it.function) for it in again[:4]) + (", .." if len(again) > 4 else "")
         tell(f"{name}: {len(again)} of its mutants rest on what changed ({shown}): ./check mutants {name}")
@@ -164,7 +167,7 @@ def several(names):
     chosen = [it for it in every.values() if below(every, it.name) & names]
     proved = [it.name for it in chosen if it.is_proved]
     results = [proofs(proved)] if proved else []
-    stale, _ = mutants.stale()
+    stale, _, _ = mutants.stale()
     results += mutants.try_all([name for name in proved if name in stale])
     unproved = [it for it in chosen if not it.is_proved or it.has_conversations]
     unproved += [it for it in chosen if it.name == examples.CRATE_ABOVE]

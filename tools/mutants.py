@@ -25,7 +25,9 @@ from tools.source import Function, functions, heading
 GOAL = re.compile(r"(?:note: |\./)*(src|proofs)/(\S+?)\.(?:rt|antt):(\d+):\d+: (?:error: `([^`]+)`|.*\(`([^`]+)`\))")
 GONE = re.compile(r"has no field|has no `|is not in scope|was not admitted")
 HEAD = "# Where ./check mutants saw each mutant refused, after a sum of what that rests on."
-ENTRY = re.compile(r"  ([0-9a-f]{12}|-) (.+?)(?: \(\d+\))?: (.*)")
+ENTRY = re.compile(r"  ([0-9a-f]{12}|-|\?) (.+?)(?: \(\d+\))?: (.*)")
+# Stands in a record for the sum of a mutant that waits: what it rests on changed, and it is to be tried again.
+WAITS = "?"
 UNREAD = re.compile(r"\berror\[[\w-]+\]|^(\./)?src/\S+: error: [^`]", re.M)
 
 
@@ -214,16 +216,19 @@ def recorded(crate):
 
 
 def stale():
-    """Returns the mutants of each crate that are to be tried again, by its name, and the crates of which none was tried."""
-    sources, found, never = records.Sources(TOP), {}, []
+    """Returns the mutants of each crate that are to be tried again, by its name; those of them that the record says wait for that;
+    and the crates of which none was tried."""
+    sources, found, waiting, never = records.Sources(TOP), {}, {}, []
     for crate in sorted(it.parent for it in CRATES.glob("*/mutants") if any(it.glob("*.edit"))):
         known = recorded(crate)
         if known:
             again = [it for it in mutants_of(crate, sources) if known.get(it.key, "")[:1] != (it.sum,)]
+            wait = [it for it in again if known.get(it.key, "")[:1] == (WAITS,)]
             found |= {crate.name: again} if again else {}
+            waiting |= {crate.name: wait} if wait else {}
         else:
             never.append(crate.name)
-    return found, never
+    return found, waiting, never
 
 
 def write_record(crate, entries):
