@@ -1,8 +1,9 @@
 //! The prefixes of a set, in ascending order, as few as can be.
 
-ghost use Rattle.std.specs.Prelude.{◌≡◌, ◌++◌, [], None, IfSome};
+ghost use Rattle.std.specs.Prelude.{◌≡◌, ◌++◌, List, [], None, IfSome};
 ghost use Rattle.std.specs.Iterator.{YieldsFirst, item_count};
 ghost use Rattle.std.specs.List.{AllByRecursion};
+ghost use Rattle.btree_range_map.specs.AnyRange.{AnyRange};
 ghost use Rattle.btree_range_map.specs.FreeRanges.{item_ranges};
 ghost use Rattle.btree_range_map.specs.Holding.{box_items};
 ghost use Rattle.address_prefixes.specs.Prefixes.{AreAscending, AreFewest, HaveJust, IsPrefix};
@@ -73,6 +74,9 @@ impl<'a, A: Address + 'a> Iterator for Prefixes<'a, A> {
 
 /// What a set of addresses is as prefixes.
 pub trait PrefixSet<A: Address> {
+    /// The ranges that hold the addresses of the set.
+    ghost ranges: { Self → List (AnyRange A) };
+
     /// The prefixes that have just the addresses of the set, in ascending order and as few as can
     /// be. Allocates nothing.
     ///
@@ -80,10 +84,16 @@ pub trait PrefixSet<A: Address> {
     /// // of a set of the addresses 10.0.0.0 to 10.0.0.5
     /// assert!(rt; set.prefixes().count() == 2); // 10.0.0.0/30 and 10.0.0.4/31
     /// ```
-    fn prefixes(&self) -> Prefixes<'_, A>;
+    fn prefixes(&self) -> Prefixes<'_, A>
+        ensures exact { HaveJust A.number A.order result (ranges self.now) }
+        ensures whole { AllByRecursion (IsPrefix A.number A.WIDTH) result }
+        ensures ascending { AreAscending A.number result }
+        ensures fewest { AreFewest A.number A.order A.WIDTH result (ranges self.now) };
 }
 
 impl<A: Address> PrefixSet<A> for RangeSet<A> {
+    ghost ranges = { λ set. item_ranges (box_items set) };
+
     fn prefixes(&self) -> Prefixes<'_, A>
         ensures exact { HaveJust A.number A.order result (item_ranges (box_items self.now)) }
         ensures whole { AllByRecursion (IsPrefix A.number A.WIDTH) result }
