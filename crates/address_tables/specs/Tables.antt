@@ -44,16 +44,16 @@ module _ {A : Type 0} (number : A → ℕ) where
     abbrev pub AreAscending : List (Entry A V) → Type 0
     AreAscending t = EachNext (λ d e. number d.prefix.last < number e.prefix.network) t
 
-module _ {A V : Type 0} (order : KeyOrder A) (same_value : V → V → Bool) (otherwise : Option V)
-    (items : List (Item (AnyRange A) V)) where
+module _ {A V : Type 0} (order : KeyOrder A) (same_value : V → V → Bool) where
   -- the two are equal values, or none
   abbrev pub AreSame : Option V → Option V → Type 0
   AreSame None None = Unit {0}
-  AreSame None (Some v) = ⊥
+  AreSame None (Some w) = ⊥
   AreSame (Some v) x = IsSomeOf order same_value v x
 
   -- this is the value of the address, or, where it has none, the other one
-  pub record IsValueOf (a : A) (x : Option V) : Type 0 where
+  pub record IsValueOf (otherwise : Option V) (items : List (Item (AnyRange A) V)) (a : A)
+      (x : Option V) : Type 0 where
     pub bound : IsBound order items a → Binds order same_value items a x
     pub free : ¬ IsBound order items a → AreSame otherwise x
 

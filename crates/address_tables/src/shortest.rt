@@ -61,9 +61,9 @@ fn shortest_or<'a, A: Address, V: Eq + Drop>(
     ensures prefixes { IfOk result
         (λ entries. ArePrefixes A.number A.WIDTH (map shown entries.items)) }
     ensures routes { IfOk result (λ entries. IsTableOf A.order A.number V.eq
-        (option_copied otherwise) (box_items table.now) (map shown entries.items)) }
+        (option_copied otherwise.entry) (box_items table.now) (map shown entries.items)) }
     ensures shortest { IfOk result (λ entries. IsShortest A.order A.number A.WIDTH V.eq
-        (option_copied otherwise) (box_items table.now) (map shown entries.items)) }
+        (option_copied otherwise.entry) (box_items table.now) (map shown entries.items)) }
 {
     let values = values_of(alloc, table, otherwise)?;
     let Ok(count) = u32::try_from(values.len()) else {

@@ -19,7 +19,7 @@ pub(crate) fn spans_of<A: Address, V: Eq + Drop>(
 ) -> Result<Vec<Span<u32>>, AllocError>
     requires { length values.now < 2 ^ 32 }
     ensures { IfOk result (λ spans. spans.items
-        ≡ map (numbered A.number A.WIDTH V.eq (map (λ v. v.now) values.now))
+        ≡ map (numbered V.eq A.number A.WIDTH (map (λ v. v.now) values.now))
         (box_items table.now)) }
 {
     let mut spans = Vec::new(alloc);

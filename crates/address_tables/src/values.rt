@@ -1,6 +1,7 @@
 //! Values by numbers: by the place of the first that equals them.
 
 ghost use Rattle.std.specs.Prelude.{◌≡◌, map, IfOk, OnOk};
+ghost use Rattle.std.specs.Option.{option_copied};
 ghost use Rattle.btree_range_map.specs.Holding.{box_items};
 ghost use Rattle.address_tables.specs.Numbers.{AreAmong, IsAmong, place};
 
@@ -38,8 +39,8 @@ pub(crate) fn values_of<'a, A: Address, V: Eq + Drop>(
     table: &'a AddressTable<A, V>,
     otherwise: Option<&'a V>,
 ) -> Result<Vec<&'a V>, AllocError>
-    ensures { IfOk result (λ values. AreAmong V.eq (map (λ v. v.now) values.items) otherwise
-        (box_items table.now)) }
+    ensures { IfOk result (λ values. AreAmong V.eq (map (λ v. v.now) values.items)
+        (option_copied otherwise.entry) (box_items table.now)) }
 {
     let mut values = Vec::new(alloc);
     if let Some(value) = otherwise {
