@@ -84,6 +84,16 @@ module _ {A V : Type 0} {order : KeyOrder A} {number : A → ℕ} {at : ℕ → 
       (next_by w e a mid after key bound same (holds number e.prefix a) refl
       (over x (last_of number length t a)) (is a key x binds))
 
+  -- one entry after others
+  pub more_over : (length : ℕ) (t : List (Entry A V)) (e : Entry A V)
+      (before mid after : List (Item (AnyRange A) V)) → IsOver length t before mid
+      → IsOver length (e ∷ []) mid after → IsOver length (t ++ e ∷ []) before after
+  more_over length t e before mid after is next =
+      λ a key x binds.
+      rw (of_append number length t (e ∷ []) a,
+      ← over_assoc x (last_of number length t a) (last_of number length (e ∷ []) a))
+      (next a key (over x (last_of number length t a)) (is a key x binds))
+
   -- the table binds the addresses of the prefixes shorter than that
   abbrev pub IsBoundBelow : ℕ → List (Entry A V) → List (Item (AnyRange A) V) → Type 0
   IsBoundBelow length t items = (a : A) → order.is_key a

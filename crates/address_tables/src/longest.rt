@@ -1,6 +1,6 @@
 //! Tables made of prefixes: each address has the value of the longest prefix that holds it.
 
-ghost use Rattle.std.specs.Prelude.{◌≤◌, IfOk, OnOk, None, [], ◌≡◌};
+ghost use Rattle.std.specs.Prelude.{◌≤◌, ◌∷◌, [], IfOk, OnOk, None};
 ghost use Rattle.std.specs.List.{AllByRecursion};
 ghost use Rattle.btree_range_map.specs.Holding.{box_items};
 ghost use Rattle.btree_range_map.specs.Range.{ClonesAreEqual};
@@ -11,10 +11,10 @@ use crate::AddressTable;
 use crate::entries::Entry;
 use address_keys::Address;
 use btree_range_map::MapError;
-use std::alloc::{Global};
+use std::alloc::Global;
 
 /// The length of the longest of the prefixes, or 0.
-fn greatest_length<A: Drop, V: Drop>(entries: &[Entry<A, V>]) -> u8
+fn greatest_length<A, V>(entries: &[Entry<A, V>]) -> u8
     ensures { AllByRecursion (λ e. e.prefix.length ≤ result) entries.now }
 {
     let mut greatest = 0;
@@ -22,6 +22,24 @@ fn greatest_length<A: Drop, V: Drop>(entries: &[Entry<A, V>]) -> u8
         greatest = greatest.max(entry.prefix.length);
     }
     greatest
+}
+
+/// Binds the addresses of a prefix to its value, if it has this length.
+fn bind_if_of_length<A: Address, V: Eq + Clone + Drop>(
+    table: &mut AddressTable<A, V>,
+    entry: &Entry<A, V>,
+    length: u8,
+) -> Result<(), MapError>
+    requires keys { ClonesAreEqual A.is_clone A.eq }
+    requires values { ClonesAreEqual V.is_clone V.eq }
+    ensures { OnOk result (IsBoundOver A.order A.number V.eq length (entry.now ∷ [])
+        (box_items table.old) (box_items table.new)) }
+{
+    if entry.prefix.length != length {
+        return Ok(());
+    }
+    table.insert(entry.prefix, entry.value.clone()?)?;
+    Ok(())
 }
 
 /// Binds the addresses of each prefix of this length to its value.
@@ -36,9 +54,7 @@ fn bind_of_length<A: Address, V: Eq + Clone + Drop>(
         (box_items table.old) (box_items table.new)) }
 {
     for entry in entries {
-        if entry.prefix.length == length {
-            table.insert(entry.prefix, entry.value.clone()?)?;
-        }
+        bind_if_of_length(table, entry, length)?;
     }
     Ok(())
 }

@@ -74,8 +74,9 @@ fn shortest_or<'a, A: Address, V: Eq + Drop>(
         Some(value) => Some(place_of(values.as_slice(), value) as u32),
         None => None,
     };
-    let entries = shortest_table(alloc, spans.as_slice(), otherwise, count, A::WIDTH)?;
-    entries_of(alloc, entries.as_slice(), values.as_slice())
+    let numbered = shortest_table(alloc, spans.as_slice(), otherwise, count, A::WIDTH)?;
+    let entries = entries_of(alloc, numbered.as_slice(), values.as_slice())?;
+    Ok(entries)
 }
 
 /// The shortest table of prefixes that routes each address to its value, and an address that has

@@ -1,6 +1,6 @@
 //! Values by numbers: by the place of the first that equals them.
 
-ghost use Rattle.std.specs.Prelude.{◌≡◌, map, IfOk, OnOk};
+ghost use Rattle.std.specs.Prelude.{◌≡◌, map, IfOk, IfSome, OnOk};
 ghost use Rattle.std.specs.Option.{option_copied};
 ghost use Rattle.btree_range_map.specs.Holding.{box_items};
 ghost use Rattle.address_tables.specs.Numbers.{AreAmong, IsAmong, place};
@@ -33,6 +33,22 @@ fn add<'a, V: Eq>(values: &mut Vec<&'a V>, value: &'a V) -> Result<(), AllocErro
     Ok(())
 }
 
+/// The one value, where there is one.
+fn other_alone<'a, V: Eq>(
+    alloc: Global,
+    otherwise: Option<&'a V>,
+) -> Result<Vec<&'a V>, AllocError>
+    ensures { IfOk result (λ values. IfSome (option_copied otherwise.entry)
+        (IsAmong V.eq (map (λ v. v.now) values.items))) }
+{
+    let Some(value) = otherwise else {
+        return Ok(Vec::new(alloc));
+    };
+    let mut values = Vec::new(alloc);
+    add(&mut values, value)?;
+    Ok(values)
+}
+
 /// The values of a table, and one more, where there is one.
 pub(crate) fn values_of<'a, A: Address, V: Eq + Drop>(
     alloc: Global,
@@ -42,10 +58,7 @@ pub(crate) fn values_of<'a, A: Address, V: Eq + Drop>(
     ensures { IfOk result (λ values. AreAmong V.eq (map (λ v. v.now) values.items)
         (option_copied otherwise.entry) (box_items table.now)) }
 {
-    let mut values = Vec::new(alloc);
-    if let Some(value) = otherwise {
-        values.push(value)?;
-    }
+    let mut values = other_alone(alloc, otherwise)?;
     let mut items = table.iter();
     while let Some((_, value)) = items.next() {
         add(&mut values, value)?;
