@@ -136,16 +136,31 @@ impl<K: Measure + Clone, V: Eq + Clone, C: Storage<Item<AnyRange<K>, V>>> RangeM
         other: &RangeMap<K, W, D>,
     ) -> bool {
         let mut left = self.range_count() / 5;
-        for gap in other.gaps().take(other.range_count() / 4 + 2) {
+        let mut gaps = other.gaps();
+        for _ in 0..other.range_count() / 4 + 2 {
+            let Some(gap) = gaps.next() else {
+                return false;
+            };
             let Ok(gap) = gap.cloned() else {
                 return false;
             };
-            left -= self.met_by(&gap).take(left).count();
+            left = self.less_met(left, &gap);
             if left == 0 {
                 return true;
             }
         }
         false
+    }
+
+    // What is left of so many, less the stored ranges that the range meets.
+    fn less_met(&self, many: usize, range: &AnyRange<K>) -> usize {
+        let mut items = self.met_by(range);
+        for met in 0..many {
+            if items.next().is_none() {
+                return many - met;
+            }
+        }
+        0
     }
 }
 
