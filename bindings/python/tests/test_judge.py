@@ -10,6 +10,7 @@ import os
 import pickle
 import random
 import unittest
+import uuid
 
 from btree_range_map import UNBOUND, Connected, Range, RangeMap, RangeSet
 from btree_range_map._keys import KEYS
@@ -23,6 +24,9 @@ BETWEEN = {
     "datetime": datetime.datetime(1999, 12, 31, 23, 59, 59, 999999),
     "utc": datetime.datetime(2000, 1, 1, tzinfo=datetime.timezone.utc),
     "ipv4": ipaddress.IPv4Address("127.255.255.255"),
+    "ipv6": ipaddress.IPv6Address("::1:0:0:0:0"),
+    "uuid": uuid.UUID(int=2**127),
+    "u128": 2**64,
     "float": 0.0,
 }
 
@@ -32,6 +36,8 @@ AFTER = {
     "datetime": lambda key: key + datetime.timedelta(microseconds=1),
     "utc": lambda key: key + datetime.timedelta(microseconds=1),
     "ipv4": lambda key: key + 1,
+    "ipv6": lambda key: key + 1,
+    "uuid": lambda key: uuid.UUID(int=key.int + 1),
     "float": lambda key: math.nextafter(key, math.inf),
     "char": lambda key: "\ue000" if key == "\ud7ff" else chr(ord(key) + 1),
 }
@@ -42,6 +48,8 @@ ENDS = {
     "datetime": (datetime.datetime.min, datetime.datetime.max),
     "utc": tuple(it.replace(tzinfo=datetime.timezone.utc) for it in (datetime.datetime.min, datetime.datetime.max)),
     "ipv4": (ipaddress.IPv4Address("0.0.0.0"), ipaddress.IPv4Address("255.255.255.255")),
+    "ipv6": (ipaddress.IPv6Address("::"), ipaddress.IPv6Address("ffff:ffff:ffff:ffff:ffff:ffff:ffff:ffff")),
+    "uuid": (uuid.UUID("00000000-0000-0000-0000-000000000000"), uuid.UUID("ffffffff-ffff-ffff-ffff-ffffffffffff")),
     "float": (-math.inf, math.inf),
 }
 
