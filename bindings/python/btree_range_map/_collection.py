@@ -459,30 +459,43 @@ class Collection(Generic[K]):
         if self._kind.is_wide:
             return self._wide_spans_packed(list(starts), list(stops))
         firsts, lasts = self._buffer(starts), self._buffer(stops)
-        if firsts is None or lasts is None:
+        is_read = firsts is not None and lasts is not None
+        if not is_read:
             number = operator.index if kind.is_plain else kind.number
-            firsts, lasts = array.array(code, map(number, starts)), array.array(code, map(number, stops))
+            firsts, lasts = array.array(code, map(number, starts)), list(map(number, stops))
         size = len(firsts)
         if len(lasts) != size:
             raise ValueError(f"{size} starts and {len(lasts)} stops")
-        if size and not kind.is_native:
-            for number in (min(firsts), min(lasts), max(firsts), max(lasts) - 1):
+        flags = array.array("Q", [_c.END_EXCLUDED]) * size
+        # numbers of a buffer are keys of a kind that the library has, and those of other objects have been looked at
+        if size and kind.is_plain and not (is_read and kind.is_native):
+            if max(lasts) == kind.greatest + 1:
+                flags = array.array("Q", [_c.END_EXCLUDED if it <= kind.greatest else 0 for it in lasts])
+                lasts = [min(it, kind.greatest) for it in lasts]
+            for number in (min(firsts), min(lasts), max(firsts), max(lasts)):
                 kind.number(number)
         width = self._kind.width
         words = array.array("Q", bytes(8 * width * size))
         words[0::width] = array.array("Q", firsts.tobytes())
-        words[1::width] = array.array("Q", lasts.tobytes())
-        words[2::width] = array.array("Q", [_c.END_EXCLUDED]) * size
+        words[1::width] = array.array("Q", array.array(code, lasts).tobytes())
+        words[2::width] = flags
         return size, words
 
     def _wide_spans_packed(self, starts: list[Any], stops: list[Any]) -> tuple[int, Any]:
         """The same of keys of 128 bits."""
         if len(stops) != len(starts):
             raise ValueError(f"{len(starts)} starts and {len(stops)} stops")
-        pack, number = self._kind.form.pack, self._keys.number
-        rest = [_c.END_EXCLUDED] + [0] * (self._kind.width - self._kind.flags_at - 1)
-        packed = b"".join([pack(number(start), number(stop), *rest) for start, stop in zip(starts, stops)])
+        pack, number, ends = self._kind.form.pack, self._keys.number, map(self._end_and_flags, stops)
+        rest = [0] * (self._kind.width - self._kind.flags_at - 1)
+        packed = b"".join([pack(number(start), *end, *rest) for start, end in zip(starts, ends)])
         return len(starts), array.array("Q", packed)
+
+    def _end_and_flags(self, stop: Any) -> tuple[int, int]:
+        """How a range ends that goes up to the key, or to the number past the last key, which is none."""
+        kind = self._keys
+        if kind.is_plain and stop == kind.greatest + 1:
+            return kind.greatest, 0
+        return kind.number(stop), _c.END_EXCLUDED
 
     def __reduce__(self) -> Any:
         return _opened_anew, (type(self), self._keys.name), (self._items(), self._attributes())

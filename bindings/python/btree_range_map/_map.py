@@ -590,7 +590,7 @@ class RangeMap(Collection[K], Generic[K, V]):
         for read, values in self._batches():
             yield from zip(map(self._first_and_last, *read[:3]), values)
 
-    @reprlib.recursive_repr("RangeMap({...})")
+    @reprlib.recursive_repr()
     def __repr__(self) -> str:
         is_open = self._handle.is_open
         return self._shown(", ".join(f"{written(keys)}: {value!r}" for keys, value in self.items()) if is_open else None)

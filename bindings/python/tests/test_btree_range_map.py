@@ -360,7 +360,7 @@ class Maps(unittest.TestCase):
         with self.assertRaises(TypeError):
             keys | [1]
         keys[5] = keys
-        self.assertEqual(repr(keys), "RangeMap({5: RangeMap({...})})")
+        self.assertEqual(repr(keys), "RangeMap({5: ...})")
         for made in (copy.deepcopy(keys), pickle.loads(pickle.dumps(keys))):
             self.assertIs(made[5], made)
 
