@@ -53,9 +53,11 @@ def offer(folder, names):
 
     Returns the names of those that are there then. One that a check built there is left."""
     rt, found = toolchain(), []
+    # before another folder is the one to work in
+    folder = pathlib.Path(folder).resolve()
     with taken(rt) as (crates, lacking):
         for name in names:
-            out = pathlib.Path(folder).resolve() / "crates" / name / "out" / "rlib"
+            out = folder / "crates" / name / "out" / "rlib"
             stamp = crates[name].stamp()
             is_there = (out / "stamp").exists() and (out / "stamp").read_text() == stamp
             if not is_there and name not in lacking and os.path.isdir(crates[name].rlib):
