@@ -66,10 +66,7 @@ pub fn intersects<K: Key, V: Eq + Drop>(stored: &RangeMap<K, V>, range: AnyRange
 }
 
 /// Writes how many keys are bound.
-pub fn len<K: Counted + Bounded, V: Eq + Drop>(
-    stored: &RangeMap<K, V>,
-    length: &mut Length,
-) -> u32
+pub fn len<K: Counted + Bounded, V: Eq + Drop>(stored: &RangeMap<K, V>, length: &mut Length) -> u32
     ensures counted { IsNumberOfKeys K.order (IsBound K.order (box_items stored.now))
         (number_of length.new) }
     ensures done { result ≡ DONE }
