@@ -8,8 +8,9 @@ const ABOUT: &str =
     "Puts lists of IP addresses together, and prints what comes of it in as few prefixes as can be.";
 
 const EXAMPLES: &str = "\
-A line is an address, a prefix such as 10.0.0.0/8 or a range such as 10.0.0.0-10.0.0.5, and what
-follows # is a comment. A list that begins with { is JSON, as --json prints it.
+A line is an address, a prefix such as 10.0.0.0/8 or 10.0.0.0/255.0.0.0, or a range such as
+10.0.0.0-10.0.0.5, and what follows # is a comment. A list that begins with { is JSON, as --json
+prints it.
 
 Examples:
   cidr merge blocked.txt more.txt
