@@ -7,9 +7,10 @@ _cidr() {
   fi
   case ${COMP_WORDS[1]} in
     merge | common | invert | diff) options="$options --v4 --v6 --ranges --single --json" ;;
-    except) options="$options --v4 --v6 --ranges --single --json --from" ;;
+    except) options="$options --v4 --v6 --ranges --single --json --without" ;;
     split) options="$options --v4 --v6 --at" ;;
     count) options="$options --v4 --v6" ;;
+    has) options="$options --quiet" ;;
   esac
   case $word in
     -*) COMPREPLY=($(compgen -W "$options" -- "$word")) ;;
