@@ -32,6 +32,16 @@ fn run_of(list: &Addresses, address: IpAddr) -> Option<(u128, u128)>
     }
 }
 
+/// Whether a list has an address. Allocates nothing. Costs a search.
+pub fn has(list: &Addresses, address: IpAddr) -> bool
+    ensures { IsTrue result ↔ HasIp list.now address }
+{
+    match address {
+        IpAddr::V4(address) => list.v4.contains(Ipv4(address.to_bits())),
+        IpAddr::V6(address) => list.v6.contains(Ipv6(address.to_bits())),
+    }
+}
+
 fn write_run<W: Write>(address: IpAddr, run: Option<(u128, u128)>, out: &mut W) -> io::Result<()>
     requires { MatchOption run (Unit {0}) (λ ends. (ends.0 < 2 ^ width (ip_family address))
         × (ends.1 < 2 ^ width (ip_family address))) }

@@ -19,4 +19,4 @@ pub mod write;
 pub use excerpt::{Excerpt, excerpt_at};
 pub use family::Family;
 pub use fault::{Expected, Fault};
-pub use line::{Line, line_of};
+pub use line::{Line, content_of, line_of};

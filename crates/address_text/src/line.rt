@@ -33,8 +33,8 @@ fn before_comment(line: &[u8]) -> &[u8]
     }
 }
 
-/// The text of a line up to a comment, without the white space around it.
-pub(crate) fn content_of(line: &[u8]) -> &[u8]
+/// The text of a line up to a comment, without the white space around it. Allocates nothing.
+pub fn content_of(line: &[u8]) -> &[u8]
     ensures { result.now ≡ content line.now }
 {
     before_comment(line).trim_ascii()

@@ -7,27 +7,28 @@
 //! - the commands over any readers and writer, and what they print: `src/serve.rt`,
 //!   `specs/{Commands,Shown}.antt`, `proofs/{Commands,Kept}.antt`; of `compare`,
 //!   `src/compare.rt`, `specs/Relations.antt`, `proofs/Compared.antt`; of `has`, `src/lookup.rt`,
-//!   `proofs/LookedUp.antt`, and of the addresses in lines `src/sought.rt`
+//!   `proofs/LookedUp.antt`; of `has` over lines and of `grep`, `src/lines.rt`, `specs/Lines.antt`
 //! - what is written, and why that failed: `src/output.rt`
 #![tactic(auto)]
 
 mod compare;
 mod inputs;
+mod lines;
 mod lookup;
 mod output;
 mod progress;
 mod serve;
-mod sought;
 
 use crate::compare::compare;
 use crate::inputs::{Input, ToldInput};
+use crate::lines::{look_up_lines, search};
 use crate::lookup::look_up;
 use crate::output::Noted;
-use crate::serve::{Reading, Source, Stop, serve};
-use crate::sought::look_up_lines;
-use address_lists::BadLines;
+use crate::serve::{Reading, Source, Stop, read_source, serve};
+use address_lines::{Search, Showing};
+use address_lists::{Addresses, BadLines};
 use anyhow::{Context, bail};
-use cidr_arguments::{Command, Output, Request, Sought, Task, read_request};
+use cidr_arguments::{Command, Output, Request, Sought, Task, Wanted, read_request};
 use clap::error::ErrorKind;
 use std::env;
 use std::io::{self, BufReader, BufWriter, ErrorKind as Failure, Write};
@@ -115,8 +116,65 @@ fn look_up_in_file<W: Write>(
     })
 }
 
-/// Does what the arguments ask, and returns whether the list has all addresses that are looked up.
-/// Adds how many bad lines are left out of each list.
+/// Which lines are sought, and what is written of them.
+fn search_of(wanted: Wanted) -> Search {
+    Search {
+        is_inverted: wanted.is_inverted,
+        showing: match wanted {
+            Wanted { is_count: true, .. } => Showing::Count,
+            Wanted { is_numbered: true, .. } => Showing::Numbered,
+            _ => Showing::Lines,
+        },
+    }
+}
+
+/// Writes what is sought of the texts of these names. Where there are several, each line has the
+/// name of its text before it. Returns whether anything is found.
+fn search_texts<W: Write>(
+    rt: &HostRuntime,
+    list: &Addresses,
+    names: &[&str],
+    wanted: Wanted,
+    out: &mut W,
+) -> anyhow::Result<Result<bool, Stop>> {
+    let alloc = rt.alloc();
+    let mut found_any = false;
+    for name in names {
+        let before = match names {
+            [_] => String::new(alloc),
+            _ => format!(in alloc; "{name}:")?,
+        };
+        let text = source(rt, name)?;
+        match search(alloc, list, search_of(wanted), before.as_str(), text, out) {
+            Ok(found) => found_any |= found,
+            Err(stop) => return Ok(Err(stop)),
+        }
+    }
+    Ok(Ok(found_any))
+}
+
+fn search_files<W: Write>(
+    rt: &HostRuntime,
+    file: &str,
+    texts: &[&str],
+    wanted: Wanted,
+    reading: Reading,
+    left_out: &mut Vec<u64>,
+    out: &mut W,
+) -> anyhow::Result<Result<bool, Stop>> {
+    let list = match read_source(rt.alloc(), source(rt, file)?, reading, left_out) {
+        Ok(list) => list,
+        Err(stop) => return Ok(Err(stop)),
+    };
+    let found = search_texts(rt, &list, texts, wanted, out)?;
+    match out.flush() {
+        Ok(()) => Ok(found),
+        Err(_) => Ok(Err(Stop::Unwritable)),
+    }
+}
+
+/// Does what the arguments ask, and returns whether the list has all addresses that are looked up,
+/// or whether a line is found. Adds how many bad lines are left out of each list.
 fn answer<W: Write>(
     rt: &HostRuntime,
     request: &Request<'_>,
@@ -138,6 +196,9 @@ fn answer<W: Write>(
         }
         Task::Compare(first, second) => compare_files(rt, first, second, reading, left_out, out),
         Task::LookUp(file, sought) => look_up_in_file(rt, file, sought, reading, left_out, out),
+        Task::Search(file, texts, wanted) => {
+            search_files(rt, file, texts.as_slice(), *wanted, reading, left_out, out)
+        }
     }
 }
 

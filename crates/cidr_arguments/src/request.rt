@@ -62,6 +62,19 @@ pub enum Task<'a> {
     Compare(&'a str, &'a str),
     /// The addresses are looked up in it.
     LookUp(&'a str, Sought),
+    /// The lines of texts are searched for its addresses.
+    Search(&'a str, Vec<&'a str>, Wanted),
+}
+
+/// What is printed of the lines of texts.
+#[derive(Clone, Copy)]
+pub struct Wanted {
+    /// Those that hold no address of the list.
+    pub is_inverted: bool,
+    /// How many there are.
+    pub is_count: bool,
+    /// Each with its number before it.
+    pub is_numbered: bool,
 }
 
 /// The addresses that are looked up.
@@ -78,7 +91,7 @@ impl<'a> Task<'a> {
         match self {
             Task::Combine(_, files, _) => files.as_slice().get(place).copied(),
             Task::Compare(first, second) => [*first, *second].get(place).copied(),
-            Task::LookUp(file, _) => [*file].get(place).copied(),
+            Task::LookUp(file, _) | Task::Search(file, _, _) => [*file].get(place).copied(),
         }
     }
 }
@@ -184,6 +197,26 @@ fn sought_of(alloc: Global, words: &[&str]) -> Result<Sought, clap::Error> {
     }
 }
 
+/// The names of the texts: where there is none, standard input.
+fn texts_of<'a>(alloc: Global, found: &ArgMatches<'a>) -> Result<Vec<&'a str>, AllocError> {
+    let mut names = Vec::new(alloc);
+    names.extend_from_slice(found.get_strs("TEXT").unwrap_or(&["-"]))?;
+    Ok(names)
+}
+
+fn search_of<'a>(
+    alloc: Global,
+    list: &'a str,
+    found: &ArgMatches<'a>,
+) -> Result<Task<'a>, AllocError> {
+    let wanted = Wanted {
+        is_inverted: found.get_flag("invert-match"),
+        is_count: found.get_flag("count"),
+        is_numbered: found.get_flag("line-number"),
+    };
+    Ok(Task::Search(list, texts_of(alloc, found)?, wanted))
+}
+
 fn task_of<'a>(alloc: Global, name: &str, found: &ArgMatches<'a>) -> Result<Task<'a>, clap::Error> {
     let first = found.get_str("FILE").unwrap_or("-");
     match name {
@@ -192,12 +225,27 @@ fn task_of<'a>(alloc: Global, name: &str, found: &ArgMatches<'a>) -> Result<Task
             let words = found.get_strs("ADDRESS").unwrap_or(&[]);
             Ok(Task::LookUp(first, sought_of(alloc, words)?))
         }
+        "grep" => Ok(search_of(alloc, first, found)?),
         _ => Ok(combined(alloc, name, found)?),
     }
 }
 
 fn matches_of<'a>(alloc: Global, words: &'a [String]) -> Result<ArgMatches<'a>, clap::Error> {
     program(alloc)?.try_get_matches_from(words)
+}
+
+/// The names of what is read beside lists.
+fn others_of<'a>(
+    alloc: Global,
+    name: &str,
+    found: &ArgMatches<'a>,
+) -> Result<Vec<&'a str>, AllocError> {
+    if name == "grep" {
+        return texts_of(alloc, found);
+    }
+    let mut names = Vec::new(alloc);
+    names.extend_from_slice(found.get_strs("ADDRESS").unwrap_or(&[]))?;
+    Ok(names)
 }
 
 /// What is wrong with the lists that are named, if anything.
@@ -207,9 +255,9 @@ fn fault_of_names<'a>(
     found: &ArgMatches<'a>,
 ) -> Result<Option<&'static str>, AllocError> {
     let names = names_of(alloc, found)?;
-    let words = found.get_strs("ADDRESS").unwrap_or(&[]);
     let files = found.get_strs("FILE").unwrap_or(&[]);
-    let read = standard_inputs(names.as_slice()).saturating_add(standard_inputs(words));
+    let others = others_of(alloc, name, found)?;
+    let read = standard_inputs(names.as_slice()).saturating_add(standard_inputs(others.as_slice()));
     Ok(match (found.contains_id("from"), found.contains_id("without")) {
         _ if read > 1 => Some("standard input can be named once"),
         (false, false) if name == "except" => Some("what is left out is named after '--without'"),

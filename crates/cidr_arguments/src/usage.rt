@@ -20,7 +20,8 @@ Examples:
   cidr invert allowed.txt
   cidr split --at 24 --v4 blocked.txt
   cidr has blocked.txt 10.1.2.3 2001:db8::1
-  cidr has blocked.txt - < addresses.txt";
+  cidr has blocked.txt - < addresses.txt
+  cidr grep blocked.txt access.log";
 
 /// What a command takes.
 #[derive(Clone, Copy)]
@@ -29,6 +30,8 @@ enum Kind {
     Words(usize, usize),
     /// A flag. Of those of a group at most one may be given.
     Flag(&'static [&'static str]),
+    /// A flag that has a letter too. Of those of a group at most one may be given.
+    Letter(char, &'static [&'static str]),
     /// One word more, the name of a list.
     SecondList,
     /// An option with the name of a list, which may be given again where so many are taken.
@@ -115,6 +118,45 @@ const ADDRESSES: Taken = (
     "An address that is looked up; - alone: each line of standard input",
 );
 
+const INVERT_MATCH: Taken = (
+    "invert-match",
+    Kind::Letter('v', &[]),
+    "Print the lines that hold no address of the list",
+);
+
+const COUNT: Taken = (
+    "count",
+    Kind::Letter('c', &["form"]),
+    "Print how many lines there are, in place of them",
+);
+
+const LINE_NUMBER: Taken = (
+    "line-number",
+    Kind::Letter('n', &["form"]),
+    "Print the number of each line before it",
+);
+
+const TEXTS: Taken = (
+    "TEXT",
+    Kind::Words(0, usize::MAX),
+    "A text whose lines are searched; - is standard input, and so is none",
+);
+
+const GREP: Usage = Usage {
+    name: "grep",
+    about: "Print the lines of texts that hold an address of a list, or exit with 1 where none does",
+    takes: &[
+        ONE_LIST,
+        STRICT,
+        SKIP_BAD,
+        INVERT_MATCH,
+        COUNT,
+        LINE_NUMBER,
+        QUIET,
+        TEXTS,
+    ],
+};
+
 const HAS: Usage = Usage {
     name: "has",
     about: "Print each address, and the range around it in the list, or - and exit with 1",
@@ -129,7 +171,7 @@ const EXCEPT: Usage = Usage {
     ],
 };
 
-static COMMANDS: [Usage; 9] = [
+static COMMANDS: [Usage; 10] = [
     Usage {
         name: "merge",
         about: "Print the addresses that are in any list",
@@ -169,6 +211,7 @@ static COMMANDS: [Usage; 9] = [
         takes: &[ONE_LIST, SECOND_LIST, STRICT, SKIP_BAD],
     },
     HAS,
+    GREP,
 ];
 
 fn flag<'a>(arg: Arg<'a>, groups: &'a [&'a str]) -> Result<Arg<'a>, AllocError> {
@@ -183,8 +226,9 @@ fn length<'a>(arg: Arg<'a>) -> Arg<'a> {
 fn argument<'a>((name, kind, help): Taken, alloc: Global) -> Result<Arg<'a>, AllocError> {
     let arg = Arg::new(alloc, name).help(help);
     match kind {
-        Kind::Words(least, most) => Ok(arg.required(true).num_args(least..=most)),
+        Kind::Words(least, most) => Ok(arg.required(least > 0).num_args(least..=most)),
         Kind::Flag(groups) => flag(arg.long(name), groups),
+        Kind::Letter(letter, groups) => flag(arg.long(name).short(letter), groups),
         Kind::SecondList => Ok(arg.required(true).value_name("FILE")),
         Kind::List(action) => Ok(arg.long(name).action(action).value_name("FILE")),
         Kind::Length => Ok(length(arg.long(name).required(true))),
