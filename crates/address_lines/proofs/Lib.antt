@@ -1,3 +1,3 @@
 mod Found
 mod Pieces
-mod Sought
+mod Told

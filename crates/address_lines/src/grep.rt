@@ -1,6 +1,7 @@
 //! The lines of a text that hold an address of a list.
 
 ghost use Rattle.std.specs.Prelude.{◌≡◌, ◌⊎◌, ◌↔◌, ℕ, List, [], if◌then◌else◌, IfErr, IfOk, IfSome, IsTrue, OnOk, length};
+ghost use Rattle.std.specs.Io.BufRead.{strip_last};
 ghost use Rattle.std.specs.Io.KnownBytes.{Appends};
 ghost use Rattle.address_lists.specs.declared.read.ListError.TheVariants.{Unread};
 ghost use Rattle.address_lines.specs.Found.{AreAllFound, AreFound, AreFoundSoFar, IsSought, count_text, ended, line_text, lines_text};
@@ -36,14 +37,25 @@ pub struct Search {
 fn is_sought(list: &Addresses, line: &[u8], is_inverted: bool) -> bool
     ensures { IsTrue result ↔ IsSought list.now is_inverted line.now }
 {
-    holds_address(list, line) != is_inverted
+    if is_inverted {
+        !holds_address(list, line)
+    } else {
+        holds_address(list, line)
+    }
+}
+
+/// A line without its end.
+fn without_end(line: &[u8]) -> &[u8]
+    ensures { result.now ≡ strip_last 10 line.now }
+{
+    line.strip_suffix(b"\n").unwrap_or(line)
 }
 
 /// Writes a line with an end, also where it has none.
 fn write_ended<W: Write>(line: &[u8], out: &mut W) -> io::Result<()>
     ensures { OnOk result (Appends (W.contents out.old) (W.contents out.new) (ended line.now)) }
 {
-    out.write_all(line.strip_suffix(b"\n").unwrap_or(line))?;
+    out.write_all(without_end(line))?;
     out.write_all(b"\n")
 }
 

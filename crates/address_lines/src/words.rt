@@ -1,6 +1,6 @@
 //! Whether a line of any text holds an address of a list.
 
-ghost use Rattle.std.specs.Prelude.{◌≡◌, ◌↔◌, IsTrue, MatchOption};
+ghost use Rattle.std.specs.Prelude.{◌≡◌, ◌↔◌, IsTrue, MatchOption, position};
 ghost use Rattle.std.specs.Io.BufRead.{strip_last};
 ghost use Rattle.std.specs.List.{after_first, before_first};
 ghost use Rattle.address_text.specs.Lines.{HasByte};
@@ -16,14 +16,30 @@ fn is_word(byte: u8) -> bool
     byte.is_ascii_alphanumeric() || byte == b'.' || byte == b':'
 }
 
+/// Where the first byte stands that is in no word.
+fn word_end(text: &[u8]) -> Option<usize>
+    ensures { result ≡ position ends_word text.now }
+{
+    text.iter().position(|byte| !is_word(*byte))
+}
+
+/// Where the first colon stands.
+fn colon_in(text: &[u8]) -> Option<usize>
+    ensures { result ≡ position is_colon text.now }
+{
+    text.iter().position(|byte| *byte == b':')
+}
+
 /// What stands before the end of the first word, and what stands behind the byte there.
 fn cut_word(text: &[u8]) -> Option<(&[u8], &[u8])>
     ensures { MatchOption result (¬ HasByte ends_word text.now)
         (λ cut. HasByte ends_word text.now × (cut.0.now ≡ before_first ends_word text.now)
         × (cut.1.now ≡ after_first ends_word text.now)) }
 {
-    let at = text.iter().position(|byte| !is_word(*byte))?;
-    Some((&text[..at], &text[at + 1..]))
+    match word_end(text) {
+        Some(at) => Some((&text[..at], &text[at + 1..])),
+        None => None,
+    }
 }
 
 /// What stands before the first colon, and behind it.
@@ -32,8 +48,10 @@ fn cut_part(text: &[u8]) -> Option<(&[u8], &[u8])>
         (λ cut. HasByte is_colon text.now × (cut.0.now ≡ before_first is_colon text.now)
         × (cut.1.now ≡ after_first is_colon text.now)) }
 {
-    let at = text.iter().position(|byte| *byte == b':')?;
-    Some((&text[..at], &text[at + 1..]))
+    match colon_in(text) {
+        Some(at) => Some((&text[..at], &text[at + 1..])),
+        None => None,
+    }
 }
 
 /// A text without a dot at its end.
@@ -76,7 +94,7 @@ fn has_part(list: &Addresses, word: &[u8]) -> bool
     ensures { IsTrue result ↔ HasPart list.now word.now }
 {
     let mut rest = word;
-    while let Some((part, more)) = cut_part(rest) {
+    'parts: while let Some((part, more)) = cut_part(rest) {
         if is_ipv4(list, without_dot(part)) {
             return true;
         }
@@ -89,10 +107,13 @@ fn has_part(list: &Addresses, word: &[u8]) -> bool
 fn counts(list: &Addresses, word: &[u8]) -> bool
     ensures { IsTrue result ↔ Counts list.now word.now }
 {
-    if cut_part(word).is_none() {
-        return has_part(list, word);
+    if has_part(list, word) {
+        return true;
     }
-    is_ipv6(list, word) || is_ipv6(list, without_mark(word)) || has_part(list, word)
+    match colon_in(word) {
+        Some(_) => is_ipv6(list, word) || is_ipv6(list, without_mark(word)),
+        None => false,
+    }
 }
 
 /// Whether a line holds an address of the list.
@@ -106,7 +127,7 @@ pub fn holds_address(list: &Addresses, line: &[u8]) -> bool
     ensures { IsTrue result ↔ HoldsAddress list.now line.now }
 {
     let mut rest = line;
-    while let Some((word, more)) = cut_word(rest) {
+    'words: while let Some((word, more)) = cut_word(rest) {
         if counts(list, word) {
             return true;
         }

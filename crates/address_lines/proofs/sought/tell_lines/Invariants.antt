@@ -1,5 +1,5 @@
 use Rattle.std.specs.Prelude.{IfSome}
-use Rattle.address_lines.proofs.Sought.{IsToldTo}
+use Rattle.address_lines.proofs.Told.{IsToldTo}
 use Rattle.address_lines.proofs.sought.tell_lines.Given as goal
 
 abbrev pub invariant-loop-number : goal.invariant-loop-number
