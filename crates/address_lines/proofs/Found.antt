@@ -1,5 +1,5 @@
 -- How far a text is searched.
-use Rattle.std.proofs.Common.{◌≡◌, ◌≢◌, ℕ, ◌+◌, ◌↔◌, Bool, true, false, List, [], ◌∷◌, ◌++◌, length, Option, None, Some, IfSome, append_assoc, ap, refl, subst, sym, ◌∙◌, length-append, arith}
+use Rattle.std.proofs.Common.{◌≡◌, ◌≢◌, ℕ, ◌+◌, ◌≤◌, ◌↔◌, Bool, true, false, List, [], ◌∷◌, ◌++◌, length, Option, None, Some, IfSome, append_assoc, ap, refl, subst, sym, ◌∙◌, length-append, arith}
 use Rattle.std.proofs.lemmas.Bool.{false≢true}
 use Rattle.std.proofs.lemmas.List.{append-nil}
 use Rattle.std.specs.Prelude.{IsTrue, if◌then◌else◌}
@@ -19,6 +19,11 @@ lines_more showing start (first ∷ found) one =
     ap (λ text. line_text showing start first ++ text) (lines_more showing start found one)
     ∙ sym (append_assoc (line_text showing start first) (lines_text showing start found)
     (line_text showing start one))
+
+-- one line more is found at most
+pub one_at_most : (is_found : Bool) → from_bool is_found ≤ 1
+one_at_most true = omega arith
+one_at_most false = omega arith
 
 module _ (IsSuch : List ℕ → Type 0) (showing : Showing) (start : List ℕ) where
   -- the lines of the input before the one of this number are searched
@@ -93,19 +98,20 @@ module _ (IsSuch : List ℕ → Type 0) (showing : Showing) (start : List ℕ) w
             searched.appended appended);
       }
 
-  pub line_searched : (input left later before now next : Option (List ℕ)) (number count : ℕ)
-      (line : List ℕ) (is_found : Bool)
+  pub line_searched : (input left later before now next : Option (List ℕ))
+      (number count added : ℕ) (line : List ℕ) (is_found : Bool) → added ≡ from_bool is_found
       → IfSome input (λ bytes. IsSearchedTo bytes left before now number count)
       → IsLineRead left later line → IsTrue is_found ↔ IsSuch line
       → Appends now next (if is_found then line_text showing start (number, line) else [])
       → IfSome input
-      (λ bytes. IsSearchedTo bytes later before next (number + 1) (count + from_bool is_found))
-  line_searched None left later before now next number count line is_found searched read told
-      appended = tt
-  line_searched (Some bytes) left later before now next number count line is_found searched read
-      told appended =
-      one_searched bytes left later before now next number count line is_found searched
-      (subst (λ o. IsLineRead o later line) searched.left_is read) told appended
+      (λ bytes. IsSearchedTo bytes later before next (number + 1) (count + added))
+  line_searched None left later before now next number count added line is_found more searched
+      read told appended = tt
+  line_searched (Some bytes) left later before now next number count added line is_found more
+      searched read told appended =
+      subst (λ n. IsSearchedTo bytes later before next (number + 1) (count + n)) (sym more)
+      (one_searched bytes left later before now next number count line is_found searched
+      (subst (λ o. IsLineRead o later line) searched.left_is read) told appended)
 
   -- where no line is left, the whole text is searched
   pub all_searched : (input left before now : Option (List ℕ)) (number count : ℕ)

@@ -1,6 +1,6 @@
 -- The pieces of a text, one after the other.
-use Rattle.std.proofs.Common.{◌≡◌, ℕ, ◌⊎◌, ◌↔◌, Bool, List, Option, None, Some, inl, inr, ◌≤◌, length, subst, sym, arith}
-use Rattle.std.proofs.lemmas.Bool.{cases_lt}
+use Rattle.std.proofs.Common.{◌≡◌, ℕ, ◌⊎◌, ◌↔◌, Bool, List, Option, None, Some, inl, inr, ◌≤◌, length, ◌∙◌, false, subst, sym, arith}
+use Rattle.std.proofs.lemmas.Bool.{cases_lt, false≢true}
 use Rattle.std.proofs.lemmas.Grind.{common_steps}
 use Rattle.std.proofs.lemmas.List.{take_all}
 use Rattle.std.specs.Prelude.{IsTrue}
@@ -18,11 +18,27 @@ pub stands_nowhere : (test : ℕ → Bool) (text : List ℕ) → None ≡ positi
     → ¬ HasByte test text
 stands_nowhere test text none = λ has. grind (arith, common_steps)
 
+-- a test that fails is of what is not so
+pub not_told : {P : Type 0} (told : Bool) → told ≡ false → IsTrue told ↔ P → ¬ P
+not_told told none tells = λ is. false≢true (sym none ∙ tells.1 is)
+
+-- the last of the ways in which a word may count is asked
+pub last_way : {H V W P : Type 0} (told : Bool) → H → ¬ V → ¬ P → IsTrue told ↔ W
+    → IsTrue told ↔ ((H × (V ⊎ W)) ⊎ P)
+last_way told has one other tells = (
+  λ holds. inl (has, inr (tells.0 holds)),
+  λ either. elim either [
+    | inl (has_it, inl v) ↦ absurd (one v)
+    | inl (has_it, inr w) ↦ tells.1 w
+    | inr p ↦ absurd (other p)
+  ],
+)
+
 module _ (cuts : ℕ → Bool) (P : List ℕ → Type 0) where
   first_or_later : (text piece : List ℕ) → HasPiece cuts text piece → P piece
       → P (before_first cuts text) ⊎ (HasByte cuts text × HasSuch cuts P (after_first cuts text))
-  first_or_later text piece (First text) is = inl is
-  first_or_later text piece (Later text piece has later) is = inr (has, piece, later, is)
+  first_or_later text piece (First _) is = inl is
+  first_or_later text piece (Later _ _ has later) is = inr (has, piece, later, is)
 
   none_below : (text : List ℕ) → ¬ HasByte cuts text → length text ≤ position_or_len cuts text
   none_below text none = elim (cases_lt (position_or_len cuts text) (length text)) [

@@ -100,7 +100,7 @@ module _ (list : Addresses) where
       → Appends now next []
       → IsToldTo input later before next (number + 1) (has_all && has)
   blank_told input left later before now next number has_all has line told
-      (some, later_is, is_line) blank yes appended = record {
+      (some, later_is, is_line) blank has_it appended = record {
         remaining = drop_through 10 told.remaining;
         left_is = later_is;
         addresses = told.addresses;
@@ -109,7 +109,7 @@ module _ (list : Addresses) where
             (Blank number told.remaining more last rest some (subst IsBlank is_line blank) all);
         all =
             subst (λ b. IsTrue (has_all && b) ↔ AllByRecursion (HasIp list) told.addresses)
-            (sym yes) (and_true told.addresses has_all told.all);
+            (sym has_it) (and_true told.addresses has_all told.all);
         text = told.text;
         spelled = told.spelled;
         appended =
@@ -148,9 +148,9 @@ module _ (list : Addresses) where
       → IfSome input (λ bytes. IsToldTo bytes later before next (number + 1) (has_all && has))
   line_told None left later before now next number has_all has line told read written = tt
   line_told (Some bytes) left later before now next number has_all has line told read
-      (text, inl (blank, yes, none), appended) =
+      (text, inl (blank, has_it, none), appended) =
       blank_told bytes left later before now next number has_all has line told
-      (subst (λ o. IsLineRead o later line) told.left_is read) blank yes
+      (subst (λ o. IsLineRead o later line) told.left_is read) blank has_it
       (subst (Appends now next) none appended)
   line_told (Some bytes) left later before now next number has_all has line told read
       (text, inr (address, is, has_it, says), appended) =
