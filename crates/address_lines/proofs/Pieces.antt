@@ -38,7 +38,7 @@ module _ (cuts : ℕ → Bool) (P : List ℕ → Type 0) where
   first_or_later : (text piece : List ℕ) → HasPiece cuts text piece → P piece
       → P (before_first cuts text) ⊎ (HasByte cuts text × HasSuch cuts P (after_first cuts text))
   first_or_later text piece (First _) is = inl is
-  first_or_later text piece (Later _ _ has later) is = inr (has, piece, later, is)
+  first_or_later text piece (Later _ _ has later) is = inr (has, (piece, later, is))
 
   none_below : (text : List ℕ) → ¬ HasByte cuts text → length text ≤ position_or_len cuts text
   none_below text none = elim (cases_lt (position_or_len cuts text) (length text)) [
