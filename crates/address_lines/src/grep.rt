@@ -83,12 +83,7 @@ fn write_line<W: Write>(
     }
 }
 
-fn write_count<W: Write>(
-    showing: Showing,
-    before: &str,
-    count: u64,
-    out: &mut W,
-) -> io::Result<()>
+fn write_count<W: Write>(showing: Showing, before: &str, count: u64, out: &mut W) -> io::Result<()>
     ensures { OnOk result (Appends (W.contents out.old) (W.contents out.new)
         (count_text showing before.now count)) }
 {

@@ -122,7 +122,10 @@ fn search_of(wanted: Wanted) -> Search {
         is_inverted: wanted.is_inverted,
         showing: match wanted {
             Wanted { is_count: true, .. } => Showing::Count,
-            Wanted { is_numbered: true, .. } => Showing::Numbered,
+            Wanted {
+                is_numbered: true,
+                ..
+            } => Showing::Numbered,
             _ => Showing::Lines,
         },
     }

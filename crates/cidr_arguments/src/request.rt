@@ -258,13 +258,17 @@ fn fault_of_names<'a>(
     let files = found.get_strs("FILE").unwrap_or(&[]);
     let others = others_of(alloc, name, found)?;
     let read = standard_inputs(names.as_slice()).saturating_add(standard_inputs(others.as_slice()));
-    Ok(match (found.contains_id("from"), found.contains_id("without")) {
-        _ if read > 1 => Some("standard input can be named once"),
-        (false, false) if name == "except" => Some("what is left out is named after '--without'"),
-        (true, true) => Some("the argument '--without' cannot be used with '--from'"),
-        (false, true) if files.len() > 1 => Some("one list is named before '--without'"),
-        _ => None,
-    })
+    Ok(
+        match (found.contains_id("from"), found.contains_id("without")) {
+            _ if read > 1 => Some("standard input can be named once"),
+            (false, false) if name == "except" => Some(
+                "what is left out is named after '--without'",
+            ),
+            (true, true) => Some("the argument '--without' cannot be used with '--from'"),
+            (false, true) if files.len() > 1 => Some("one list is named before '--without'"),
+            _ => None,
+        },
+    )
 }
 
 /// What the words ask for, which begin with the program's name. An error has the text and the exit

@@ -104,7 +104,11 @@ const FROM: Taken = (
     "The old way: the list from which all others are taken",
 );
 
-const QUIET: Taken = ("quiet", Kind::Flag(&[]), "Print nothing: the exit status alone tells");
+const QUIET: Taken = (
+    "quiet",
+    Kind::Flag(&[]),
+    "Print nothing: the exit status alone tells",
+);
 
 const AT: Taken = (
     "at",
@@ -192,7 +196,15 @@ static COMMANDS: [Usage; 10] = [
         name: "diff",
         about: "Print those that are in just one of two lists",
         takes: &[
-            ONE_LIST, SECOND_LIST, STRICT, SKIP_BAD, V4, V6, RANGES, SINGLE, JSON,
+            ONE_LIST,
+            SECOND_LIST,
+            STRICT,
+            SKIP_BAD,
+            V4,
+            V6,
+            RANGES,
+            SINGLE,
+            JSON,
         ],
     },
     Usage {
