@@ -2,14 +2,16 @@
 _cidr() {
   local word=${COMP_WORDS[COMP_CWORD]} options="--strict --skip-bad --help"
   if [ "$COMP_CWORD" = 1 ]; then
-    COMPREPLY=($(compgen -W "merge common invert except diff count split compare has help --help" -- "$word"))
+    COMPREPLY=($(compgen -W "merge common invert except diff count split compare has grep help --help" -- "$word"))
     return
   fi
   case ${COMP_WORDS[1]} in
     merge | common | invert | diff) options="$options --v4 --v6 --ranges --single --json" ;;
-    except) options="$options --v4 --v6 --ranges --single --json --from" ;;
+    except) options="$options --v4 --v6 --ranges --single --json --without" ;;
     split) options="$options --v4 --v6 --at" ;;
     count) options="$options --v4 --v6" ;;
+    has) options="$options --quiet" ;;
+    grep) options="$options --quiet --invert-match --count --line-number" ;;
   esac
   case $word in
     -*) COMPREPLY=($(compgen -W "$options" -- "$word")) ;;

@@ -59,7 +59,7 @@ v6_unread d set e is (inr (fault, same, found)) = grind arith
 -- why the value of a text is not read
 pub value_unread : (bytes : List ℕ) (d : Data) (e : ListError) → read bytes ≡ Some d
     → IsValueReason d e → IsJsonReason bytes e
-value_unread bytes d (BadLine line column expected) is why = absurd why
+value_unread bytes d (BadLine line column expected found) is why = absurd why
 value_unread bytes d Unread is why = tt
 value_unread bytes d Memory is why = tt
 value_unread bytes d (Json (Text line column)) is why = absurd why

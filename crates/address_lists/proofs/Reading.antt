@@ -1,5 +1,5 @@
 -- How far a list is read.
-use Rattle.std.proofs.Common.{◌≡◌, ℕ, suc, ◌+◌, ◌<◌, ◌≤◌, ◌^◌, ◌↔◌, ◌⊎◌, Bool, List, [], ◌∷◌, ◌++◌, length, Option, None, Some, IfSome, inl, inr, refl, sym, subst, append_assoc, length-append, arith}
+use Rattle.std.proofs.Common.{◌≡◌, ◌≢◌, ℕ, suc, ◌+◌, ◌<◌, ◌≤◌, ◌^◌, ◌↔◌, ◌⊎◌, Bool, List, [], ◌∷◌, ◌++◌, length, Option, None, Some, IfSome, inl, inr, ap, refl, sym, subst, ◌∙◌, append_assoc, length-append, arith}
 use Rattle.std.proofs.lemmas.List.{append-nil}
 use Rattle.std.specs.Io.BufRead.{drop_through, take_through}
 use Rattle.address_text.specs.Lines.{Says, SaysAddress}
@@ -11,7 +11,7 @@ use Rattle.address_text.specs.declared.line.Line.{Line}
 use Rattle.address_lists.proofs.Lines.{any_append}
 use Rattle.address_lists.specs.Lists.{AreGood, AreSaid, Has, HasJust, IsListed, SaysNothingKnown}
 use Rattle.address_lists.specs.Lists.AreGood.{Ended, Other, Said}
-use Rattle.address_lists.specs.Reading.{HasFault, IsBad, IsNext}
+use Rattle.address_lists.specs.Reading.{HasFault, IsBad, IsFoundAt, IsNext}
 use Rattle.address_lists.specs.declared.addresses.Addresses.{Addresses}
 use Rattle.address_lists.specs.declared.read.BadLines.{BadLines}
 use Rattle.address_lists.specs.declared.read.BadLines.TheVariants.{Refused, Skipped}
@@ -36,6 +36,11 @@ read_more : (old : Addresses) (Before After : Family → ℕ → Type 0) (lines 
     (line : Line) → AreRead old Before lines → IsTaken Before After line
     → AreRead old After (lines ++ line ∷ [])
 read_more old Before After lines line read taken family n h = grind (arith, any_append)
+
+-- bytes that begin with a line of some bytes
+not_empty : (bytes : List ℕ) → 0 < length (take_through 10 bytes) → bytes ≢ []
+not_empty [] some = grind arith
+not_empty (b ∷ bytes) some = λ none. cc
 
 module _ (strict : Bool) where
   -- the lines of the input before the one of this number are read
@@ -161,17 +166,39 @@ module _ (strict : Bool) where
         subst (λ k. IsBad strict read.remaining k error) place bad,
       )
 
+  bad_line : (line bytes text seen again found : List ℕ) (number column : ℕ)
+      (expected : Expected) → text ≡ line → line ≡ take_through 10 bytes → 0 < length text
+      → seen ≡ text → again ≡ text → SaysNothingKnown strict seen → 1 ≤ column
+      → column ≤ length again + 1 → IsFault again column expected → IsFoundAt again column found
+      → IsBad strict bytes number (BadLine number column expected found)
+  bad_line line bytes text seen again found number column expected is read some one other
+      nothing first last wrong stands =
+      let last_line : again ≡ take_through 10 bytes = other ∙ is ∙ read in
+      let seen_line : seen ≡ take_through 10 bytes = one ∙ is ∙ read in
+      let long : length text ≡ length (take_through 10 bytes) = ap length (is ∙ read) in (
+        refl,
+        first,
+        subst (λ l. column ≤ length l + 1) last_line last,
+        subst (λ l. IsFault l column expected) last_line wrong,
+        subst (λ l. IsFoundAt l column found) last_line stands,
+        not_empty bytes (omega (arith, long, some)),
+        subst (SaysNothingKnown strict) seen_line nothing,
+      )
+
   -- the line that is read says nothing that is known
-  pub bad_found : (left : Option (List ℕ)) (start text seen again : List ℕ) (number column : ℕ)
-      (expected : Expected) → start ≡ [] → 0 < length text → seen ≡ text → again ≡ text
+  pub bad_found : (left : Option (List ℕ)) (start text seen again found : List ℕ)
+      (number column : ℕ) (expected : Expected) → start ≡ [] → 0 < length text → seen ≡ text → again ≡ text
       → IfSome left (λ bytes. text ≡ start ++ take_through 10 bytes)
       → SaysNothingKnown strict seen → 1 ≤ column → column ≤ length again + 1
-      → IsFault again column expected
-      → IfSome left (λ bytes. IsBad strict bytes number (BadLine number column expected))
-  bad_found None start text seen again number column expected none some one other read nothing first last wrong =
-      grind arith
-  bad_found (Some bytes) start text seen again number column expected none some one other read nothing first last wrong =
-      grind arith
+      → IsFault again column expected → IsFoundAt again column found
+      → IfSome left (λ bytes. IsBad strict bytes number (BadLine number column expected found))
+  bad_found None start text seen again found number column expected none some one other
+      read nothing first last wrong stands = tt
+  bad_found (Some bytes) start text seen again found number column expected none some one other
+      read nothing first last wrong stands =
+      bad_line (take_through 10 bytes) bytes text seen again found number column expected
+      (read ∙ ap (λ before. before ++ take_through 10 bytes) none) refl some one other nothing
+      first last wrong stands
 
   -- all lines before a bad one were good
   pub fault_read : (input left : Option (List ℕ)) (number others : ℕ) (old : Addresses)

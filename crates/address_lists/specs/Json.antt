@@ -62,7 +62,7 @@ IsSetReason family reads d error = (error ≡ Memory)
 
 -- why a value is not read
 abbrev pub IsValueReason : Data → ListError → Type 0
-IsValueReason d (BadLine line column expected) = ⊥
+IsValueReason d (BadLine line column expected found) = ⊥
 IsValueReason d Unread = ⊥
 IsValueReason d Memory = Unit {0}
 IsValueReason d (Json fault) = HasFault d fault
@@ -80,7 +80,7 @@ HasJsonFault bytes (Set family fault) =
 
 -- why a text is not read
 abbrev pub IsJsonReason : List ℕ → ListError → Type 0
-IsJsonReason bytes (BadLine line column expected) = ⊥
+IsJsonReason bytes (BadLine line column expected found) = ⊥
 IsJsonReason bytes Unread = Unit {0}
 IsJsonReason bytes Memory = Unit {0}
 IsJsonReason bytes (Json fault) = HasJsonFault bytes fault

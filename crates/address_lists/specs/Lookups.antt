@@ -41,3 +41,14 @@ run_line address (Some ends) =
 abbrev pub IsLookup : Addresses → IpAddr → List ℕ → Type 0
 IsLookup list address line =
     (run : Option (ℕ × ℕ)) × IsRunOf list address run × (line ≡ run_line address run)
+
+-- `address in first-last`, or `address out` where there is none
+abbrev pub told_line : IpAddr → Option (ℕ × ℕ) → List ℕ
+told_line address None = ip_text address ++ codes " out" ++ 10 ∷ []
+told_line address (Some ends) =
+    (ip_text address ++ codes " in ") ++ span_line (ip_family address) ends.0 ends.1
+
+-- the line that tells whether the list has the address
+abbrev pub IsTold : Addresses → IpAddr → List ℕ → Type 0
+IsTold list address line =
+    (run : Option (ℕ × ℕ)) × IsRunOf list address run × (line ≡ told_line address run)

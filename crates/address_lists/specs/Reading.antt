@@ -1,14 +1,18 @@
 -- What is read next, and why a list is not read.
-use Rattle.std.specs.Prelude.{◌≡◌, ◌≢◌, ℕ, ◌+◌, ◌≤◌, Bool, List, [], length, Option, Some, IfSome}
+use Rattle.std.specs.Prelude.{◌≡◌, ◌≢◌, ℕ, ◌+◌, ◌-◌, ◌≤◌, Bool, List, [], length, drop, take, Option, Some, IfSome}
 use Rattle.std.specs.Io.BufRead.{drop_through, take_through}
 use Rattle.address_text.specs.Faults.{IsFault}
-use Rattle.address_text.specs.Lines.{AreAddresses, Says}
+use Rattle.address_text.specs.Lines.{AreAddresses, Says, content}
 use Rattle.address_text.specs.declared.line.Line.{Line}
 use Rattle.address_lists.specs.Lists.{AreSaid, SaysNothingKnown}
 use Rattle.address_lists.specs.declared.read.Found.{Found}
 use Rattle.address_lists.specs.declared.read.Found.TheVariants.{Good, Other, End}
 use Rattle.address_lists.specs.declared.read.ListError.{ListError}
 use Rattle.address_lists.specs.declared.read.ListError.TheVariants.{BadLine, Json, Memory, Unread}
+
+-- the bytes are the first ones that stand in a line from a column on, up to a comment
+abbrev pub IsFoundAt : List ℕ → ℕ → List ℕ → Type 0
+IsFoundAt line column found = found ≡ take 40 (content (drop (column - 1) line))
 
 module _ (strict : Bool) where
   -- a line is read of the input, which goes on behind it
@@ -24,11 +28,13 @@ module _ (strict : Bool) where
   IsFound left later End = IfSome left (λ bytes. bytes ≡ [])
 
   -- a bad line is the first of the bytes, it says nothing that is known, this is its number, and
-  -- this was expected in the column where the part begins that is wrong, or at the line's end
+  -- this was expected in the column where the part begins that is wrong, or at the line's end, and
+  -- that stands there
   abbrev pub IsBad : List ℕ → ℕ → ListError → Type 0
-  IsBad bytes number (BadLine line column expected) =
+  IsBad bytes number (BadLine line column expected found) =
       (line ≡ number) × (1 ≤ column) × (column ≤ length (take_through 10 bytes) + 1)
       × IsFault (take_through 10 bytes) column expected
+      × IsFoundAt (take_through 10 bytes) column found
       × (bytes ≢ []) × SaysNothingKnown strict (take_through 10 bytes)
   IsBad bytes number Unread = Unit {0}
   IsBad bytes number Memory = Unit {0}

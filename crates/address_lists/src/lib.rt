@@ -31,7 +31,7 @@ pub use addresses::{Addresses, empty_set};
 pub use count::write_counts;
 pub use file::read_addresses;
 pub use json::{JsonFault, list_from_json, list_to_json, list_to_text, read_json};
-pub use lookup::write_lookups;
+pub use lookup::{has, write_lookups, write_told};
 pub use print::write_prefixes;
 pub use ranges::{write_ranges, write_singles};
 pub use read::{BadLines, ListError, read_list};

@@ -4,7 +4,7 @@ ghost use Rattle.std.specs.Prelude.{◌≡◌, ◌↔◌, ◌<◌, ◌^◌, IfOk
 ghost use Rattle.std.specs.Io.KnownBytes.{Appends};
 ghost use Rattle.std.specs.List.{AllByRecursion};
 ghost use Rattle.address_text.specs.Texts.{width};
-ghost use Rattle.address_lists.specs.Lookups.{HasIp, IsLookup, IsRunOf, ip_family, run_line};
+ghost use Rattle.address_lists.specs.Lookups.{HasIp, IsLookup, IsRunOf, IsTold, ip_family, run_line, told_line};
 ghost use Rattle.line_program.specs.Listing.{SpellsEach, Writes};
 
 use crate::addresses::Addresses;
@@ -32,6 +32,16 @@ fn run_of(list: &Addresses, address: IpAddr) -> Option<(u128, u128)>
     }
 }
 
+/// Whether a list has an address. Allocates nothing. Costs a search.
+pub fn has(list: &Addresses, address: IpAddr) -> bool
+    ensures { IsTrue result ↔ HasIp list.now address }
+{
+    match address {
+        IpAddr::V4(address) => list.v4.contains(Ipv4(address.to_bits())),
+        IpAddr::V6(address) => list.v6.contains(Ipv6(address.to_bits())),
+    }
+}
+
 fn write_run<W: Write>(address: IpAddr, run: Option<(u128, u128)>, out: &mut W) -> io::Result<()>
     requires { MatchOption run (Unit {0}) (λ ends. (ends.0 < 2 ^ width (ip_family address))
         × (ends.1 < 2 ^ width (ip_family address))) }
@@ -54,6 +64,40 @@ fn write_lookup<W: Write>(list: &Addresses, address: IpAddr, out: &mut W) -> io:
 {
     let run = run_of(list, address);
     write_run(address, run, out)?;
+    Ok(run.is_some())
+}
+
+fn write_told_run<W: Write>(
+    address: IpAddr,
+    run: Option<(u128, u128)>,
+    out: &mut W,
+) -> io::Result<()>
+    requires { MatchOption run (Unit {0}) (λ ends. (ends.0 < 2 ^ width (ip_family address))
+        × (ends.1 < 2 ^ width (ip_family address))) }
+    ensures { OnOk result (Appends (W.contents out.old) (W.contents out.new)
+        (told_line address run)) }
+{
+    match run {
+        Some(ends) => {
+            write!(out, "{address} in ")?;
+            write_span_line(family_of(address), ends.0, ends.1, out)
+        }
+        None => writeln!(out, "{address} out"),
+    }
+}
+
+/// Writes whether a list has an address, a line, and returns it.
+///
+/// The line is `10.1.2.3 in 10.0.0.0-10.255.255.255`, with the first and the last of the addresses
+/// that follow each other around it in the list, or `10.1.2.3 out`. Allocates nothing. Costs a
+/// search.
+pub fn write_told<W: Write>(list: &Addresses, address: IpAddr, out: &mut W) -> io::Result<bool>
+    ensures told { IfOk result (λ has. IsTrue has ↔ HasIp list.now address) }
+    ensures written { OnOk result (Writes (W.contents out.old) (W.contents out.new)
+        (IsTold list.now address)) }
+{
+    let run = run_of(list, address);
+    write_told_run(address, run, out)?;
     Ok(run.is_some())
 }
 

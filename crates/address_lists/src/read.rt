@@ -16,7 +16,7 @@ use crate::addresses::Addresses;
 use crate::json::JsonFault;
 use crate::waiting::Waiting;
 use address_text::fault::fault_of;
-use address_text::{Expected, Line, line_of};
+use address_text::{Excerpt, Expected, Line, excerpt_at, line_of};
 use std::alloc::Global;
 use std::fmt;
 use std::io::BufRead;
@@ -32,6 +32,8 @@ pub enum ListError {
         column: usize,
         /// What was expected there.
         expected: Expected,
+        /// What stands there.
+        found: Excerpt,
     },
     /// The input cannot be read.
     Unread,
@@ -48,7 +50,11 @@ impl fmt::Display for ListError {
                 line,
                 column,
                 expected,
-            } => write!(f, "line {line}, column {column}: expected {expected}"),
+                found,
+            } => write!(
+                f,
+                "line {line}, column {column}: expected {expected}, found {found}"
+            ),
             ListError::Unread => write!(f, "read error"),
             ListError::Memory => write!(f, "out of memory"),
             ListError::Json(fault) => write!(f, "{fault}"),
@@ -99,11 +105,14 @@ fn read_line<R: BufRead>(
     }
     match bad_lines {
         BadLines::Refused => {
-            let fault = fault_of(buffer.as_slice());
+            let line = buffer.as_slice();
+            let fault = fault_of(line);
+            let found = excerpt_at(line, fault.column);
             Err(ListError::BadLine {
                 line: number,
                 column: fault.column,
                 expected: fault.expected,
+                found,
             })
         }
         BadLines::Skipped => Ok(Found::Other),

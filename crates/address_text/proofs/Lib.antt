@@ -1,4 +1,6 @@
 -- Lemmas.
 mod Blocks
+mod Excerpts
 mod Faults
+mod Masks
 mod Spans

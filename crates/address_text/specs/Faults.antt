@@ -1,14 +1,13 @@
 -- What is wrong with a line of an address list, by its content.
-use Rattle.std.specs.Prelude.{◌≡◌, ℕ, ◌+◌, ◌≤◌, ◌<◌, ◌⊎◌, List, length}
+use Rattle.std.specs.Prelude.{◌≡◌, ℕ, ◌+◌, ◌⊎◌, List, length}
 use Rattle.std.specs.Char.{is_ascii_whitespace}
 use Rattle.std.specs.List.{after_first, before_first, prefix_len}
-use Rattle.std.specs.Net.Grammar.{IsNumber}
 use Rattle.std.specs.Str.{IsUtf8}
-use Rattle.address_text.specs.Lines.{HasByte, content, is_dash, is_slash, trimmed}
+use Rattle.address_text.specs.Lines.{HasByte, IsLength, content, is_dash, is_slash, trimmed}
 use Rattle.address_text.specs.Texts.{IsAddressText, width}
 use Rattle.address_text.specs.declared.family.Family.{Family}
 use Rattle.address_text.specs.declared.fault.Expected.{Expected}
-use Rattle.address_text.specs.declared.fault.Expected.TheVariants.{Address, Last, Length, ZeroBits}
+use Rattle.address_text.specs.declared.fault.Expected.TheVariants.{Address, Last, Length, Mask, ZeroBits}
 
 -- the text writes an address of the family
 abbrev pub IsOf : Family → List ℕ → Type 0
@@ -17,15 +16,24 @@ IsOf family text = (n : ℕ) × IsAddressText family text n
 abbrev pub IsAddress : List ℕ → Type 0
 IsAddress text = (family : Family) × IsOf family text
 
--- an address before a slash, and no length after it that such addresses have, up to the most bits
-abbrev pub LacksLength : List ℕ → List ℕ → ℕ → Type 0
-LacksLength address digits most = (family : Family) × (most ≡ width family) × IsOf family address
-    × ((length : ℕ) → IsNumber 10 digits length → most < length)
+-- what was expected of a text that is no length of the family's addresses: another mask where it is
+-- an address, and else a length
+abbrev pub IsWrongLength : Family → List ℕ → Expected → Type 0
+IsWrongLength family digits Address = ⊥
+IsWrongLength family digits (Length most) = (most ≡ width family) × ¬ IsOf family digits
+IsWrongLength family digits Mask = IsOf family digits
+IsWrongLength family digits ZeroBits = ⊥
+IsWrongLength family digits Last = ⊥
+
+-- an address before a slash, and no length after it that such addresses have
+abbrev pub LacksLength : List ℕ → List ℕ → Expected → Type 0
+LacksLength address digits expected = (family : Family) × IsOf family address
+    × ((length : ℕ) → ¬ IsLength family digits length) × IsWrongLength family digits expected
 
 -- an address before a slash, and a length after it that such addresses have
 abbrev pub HasLength : List ℕ → List ℕ → Type 0
-HasLength address digits = (family : Family) × IsOf family address × (length : ℕ)
-    × IsNumber 10 digits length × (length ≤ width family)
+HasLength address digits =
+    (family : Family) × IsOf family address × (length : ℕ) × IsLength family digits length
 
 -- how many bytes of white space the text begins with
 abbrev pub blank_count : List ℕ → ℕ
@@ -36,7 +44,9 @@ blank_count text = prefix_len is_ascii_whitespace text
 abbrev pub IsWrongPrefix : List ℕ → List ℕ → Expected → ℕ → Type 0
 IsWrongPrefix address digits Address place = (place ≡ 0) × ¬ IsAddress address
 IsWrongPrefix address digits (Length most) place =
-    (place ≡ length address + 1) × LacksLength address digits most
+    (place ≡ length address + 1) × LacksLength address digits (Length most)
+IsWrongPrefix address digits Mask place =
+    (place ≡ length address + 1) × LacksLength address digits Mask
 IsWrongPrefix address digits ZeroBits place = (place ≡ 0) × HasLength address digits
 IsWrongPrefix address digits Last place = ⊥
 
@@ -44,6 +54,7 @@ IsWrongPrefix address digits Last place = ⊥
 abbrev pub IsWrongLast : List ℕ → Expected → Type 0
 IsWrongLast last Address = ¬ IsAddress last
 IsWrongLast last (Length most) = ⊥
+IsWrongLast last Mask = ⊥
 IsWrongLast last ZeroBits = ⊥
 IsWrongLast last Last = IsAddress last
 

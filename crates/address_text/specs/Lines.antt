@@ -36,14 +36,36 @@ trimmed text =
 abbrev pub content : List ℕ → List ℕ
 content line = trimmed (before_first is_hash line)
 
+-- so many bits of 1, and then bits of 0
+abbrev pub IsNetmask : ℕ → ℕ → ℕ → Type 0
+IsNetmask width length mask = mask + 2 ^ (width - length) ≡ 2 ^ width
+
+-- so many bits of 0, and then bits of 1: at least one of each
+abbrev pub IsWildcard : ℕ → ℕ → ℕ → Type 0
+IsWildcard width length mask =
+    (0 < length) × (length < width) × (mask + 1 ≡ 2 ^ (width - length))
+
+abbrev pub IsMask : ℕ → ℕ → ℕ → Type 0
+IsMask width length mask =
+    (length ≤ width) × (IsNetmask width length mask ⊎ IsWildcard width length mask)
+
+-- the text is a number that addresses of the family have as a length
+abbrev pub IsShort : Family → List ℕ → ℕ → Type 0
+IsShort family text length = IsNumber 10 text length × (length ≤ width family)
+
+-- a length by a number, or else by a mask
+abbrev pub IsLength : Family → List ℕ → ℕ → Type 0
+IsLength family text length = IsShort family text length
+    ⊎ (((n : ℕ) → ¬ IsShort family text n) × (mask : ℕ) × IsAddressText family text mask
+    × IsMask (width family) length mask)
+
 -- an address and a length: the addresses that begin with so many of its bits
 pub record IsPrefixSpan (strict : Bool) (family : Family) (text digits : List ℕ) (first last : ℕ)
     : Type 0 where
   pub address : ℕ
   pub length : ℕ
   pub written : IsAddressText family text address
-  pub number : IsNumber 10 digits length
-  pub short : length ≤ width family
+  pub told : IsLength family digits length
   pub first_is : first ≡ address - address % 2 ^ (width family - length)
   pub last_is : last + 1 ≡ first + 2 ^ (width family - length)
   pub has_no_more : strict ≡ true → first ≡ address

@@ -1,7 +1,7 @@
 //! What is wrong with a line that says nothing.
 
 ghost use Rattle.std.specs.Prelude.{◌≡◌, ◌≤◌, ◌+◌, MatchOption, length};
-ghost use Rattle.address_text.specs.Faults.{IsAddress, IsExpected, IsFault, IsOf, IsWrong, IsWrongLast, IsWrongPrefix, IsWrongRange, blank_count};
+ghost use Rattle.address_text.specs.Faults.{IsAddress, IsExpected, IsFault, IsOf, IsWrong, IsWrongLast, IsWrongLength, IsWrongPrefix, IsWrongRange, blank_count};
 
 use crate::family::Family;
 use crate::line::{content_of, length_of, trimmed_of};
@@ -14,6 +14,8 @@ pub enum Expected {
     Address,
     /// A length of a prefix, at most so many bits.
     Length(u8),
+    /// A mask: bits of 1 and then bits of 0, or the reverse.
+    Mask,
     /// Bits of 0 after the length of the prefix.
     ZeroBits,
     /// An address of the same family that is not before the first.
@@ -25,6 +27,7 @@ impl fmt::Display for Expected {
         match self {
             Expected::Address => write!(f, "an address"),
             Expected::Length(most) => write!(f, "a length of at most {most}"),
+            Expected::Mask => write!(f, "a mask of ones and then zeros, or the reverse"),
             Expected::ZeroBits => write!(f, "bits of 0 after the prefix"),
             Expected::Last => write!(f, "an address of the same family, not before the first"),
         }
@@ -58,6 +61,16 @@ fn blanks(text: &[u8]) -> usize
     text.len().saturating_sub(text.trim_ascii_start().len())
 }
 
+/// What was expected after the slash of a prefix whose length is wrong.
+fn expected_length(family: Family, digits: &str) -> Expected
+    ensures { IsWrongLength family digits.now result }
+{
+    match family.read(digits) {
+        Some(_) => Expected::Mask,
+        None => Expected::Length(family.width()),
+    }
+}
+
 fn fault_of_prefix(address: &str, digits: &str) -> Fault
     ensures last { result.column ≤ length address.now + 1 }
     ensures expected { IsWrongPrefix address.now digits.now result.expected result.column }
@@ -67,9 +80,9 @@ fn fault_of_prefix(address: &str, digits: &str) -> Fault
             column: 0,
             expected: Expected::Address,
         },
-        Some(family) if length_of(digits).is_none_or(|length| length > family.width()) => Fault {
+        Some(family) if length_of(family, digits).is_none() => Fault {
             column: address.len() + 1,
-            expected: Expected::Length(family.width()),
+            expected: expected_length(family, digits),
         },
         Some(_) => Fault {
             column: 0,

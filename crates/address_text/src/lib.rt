@@ -6,15 +6,17 @@
 //! Where to find what:
 //!
 //! - what a line of a list says: `src/line.rt`, `specs/Lines.antt`; what is wrong with one that
-//!   says nothing: `src/fault.rt`, `specs/Faults.antt`
+//!   says nothing: `src/fault.rt`, `specs/Faults.antt`; what stands there: `src/excerpt.rt`
 //! - an address, prefix or range as it is printed: `src/write.rt`, `specs/Texts.antt`
 #![tactic(auto)]
 
+pub mod excerpt;
 pub mod family;
 pub mod fault;
 pub mod line;
 pub mod write;
 
+pub use excerpt::{Excerpt, excerpt_at};
 pub use family::Family;
 pub use fault::{Expected, Fault};
-pub use line::{Line, line_of};
+pub use line::{Line, content_of, line_of};

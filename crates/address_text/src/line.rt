@@ -1,9 +1,9 @@
 //! What a line of an address list says.
 
-ghost use Rattle.std.specs.Prelude.{◌≡◌, ◌≢◌, ◌+◌, ◌-◌, ◌%◌, ◌≤◌, ◌<◌, ◌^◌, ℕ, IfSome, MatchOption, position};
+ghost use Rattle.std.specs.Prelude.{◌≡◌, ◌≢◌, ◌↔◌, ◌+◌, ◌-◌, ◌%◌, ◌≤◌, ◌<◌, ◌^◌, ℕ, IfSome, IsTrue, MatchOption, position};
 ghost use Rattle.std.specs.List.{before_first};
 ghost use Rattle.std.specs.Net.Grammar.{IsNumber};
-ghost use Rattle.address_text.specs.Lines.{AreAddresses, IsPrefixSpan, IsRangeSpan, IsSpan, Says, content, trimmed, is_hash};
+ghost use Rattle.address_text.specs.Lines.{AreAddresses, IsLength, IsMask, IsPrefixSpan, IsRangeSpan, IsShort, IsSpan, Says, content, trimmed, is_hash};
 ghost use Rattle.address_text.specs.Texts.{width};
 ghost use Rattle.address_text.specs.declared.line.Line.{Line};
 
@@ -33,8 +33,8 @@ fn before_comment(line: &[u8]) -> &[u8]
     }
 }
 
-/// The text of a line up to a comment, without the white space around it.
-pub(crate) fn content_of(line: &[u8]) -> &[u8]
+/// The text of a line up to a comment, without the white space around it. Allocates nothing.
+pub fn content_of(line: &[u8]) -> &[u8]
     ensures { result.now ≡ content line.now }
 {
     before_comment(line).trim_ascii()
@@ -48,7 +48,7 @@ pub(crate) fn trimmed_of(text: &str) -> &str
 }
 
 /// A number of decimal digits, up to 255.
-pub(crate) fn length_of(digits: &str) -> Option<u8>
+fn number_of(digits: &str) -> Option<u8>
     ensures { MatchOption result ((n : ℕ) → IsNumber 10 digits.now n → 256 ≤ n)
         (λ n. IsNumber 10 digits.now n) }
 {
@@ -56,6 +56,68 @@ pub(crate) fn length_of(digits: &str) -> Option<u8>
         return None;
     }
     digits.parse::<u8>().ok()
+}
+
+/// A number of decimal digits, up to the length of an address.
+fn short_of(family: Family, digits: &str) -> Option<u8>
+    ensures { MatchOption result ((n : ℕ) → ¬ IsShort family digits.now n)
+        (λ n. IsShort family digits.now n) }
+{
+    let length = number_of(digits)?;
+    if length > family.width() {
+        return None;
+    }
+    Some(length)
+}
+
+/// All numbers of so many bits are at most this one.
+fn greatest_of(bits: u8) -> u128
+    requires { bits ≤ 128 }
+    ensures { result + 1 ≡ 2 ^ bits }
+{
+    match 1u128.checked_shl(u32::from(bits)) {
+        Some(size) => size - 1,
+        None => u128::MAX,
+    }
+}
+
+/// Whether a number is the mask of this length.
+fn is_mask(width: u8, length: u8, mask: u128) -> bool
+    requires width { width ≤ 128 }
+    requires length { length ≤ width }
+    requires mask { mask < 2 ^ width }
+    ensures { IsTrue result ↔ IsMask width length mask }
+{
+    let rest = greatest_of(width - length);
+    greatest_of(width) - mask == rest || (length > 0 && length < width && mask == rest)
+}
+
+/// The length of which a number is the mask.
+fn mask_length(width: u8, mask: u128) -> Option<u8>
+    requires width { width ≤ 128 }
+    requires mask { mask < 2 ^ width }
+    ensures { MatchOption result ((length : ℕ) → ¬ IsMask width length mask)
+        (λ length. IsMask width length mask) }
+{
+    for length in 0..width + 1 {
+        if is_mask(width, length, mask) {
+            return Some(length);
+        }
+    }
+    None
+}
+
+/// The length that a text after a slash says: a number, or a mask such as `255.255.255.0` or
+/// `0.0.0.255`.
+pub(crate) fn length_of(family: Family, text: &str) -> Option<u8>
+    ensures cases { MatchOption result ((length : ℕ) → ¬ IsLength family text.now length)
+        (λ length. IsLength family text.now length) }
+    ensures fits { IfSome result (λ length. length ≤ width family) }
+{
+    match short_of(family, text) {
+        Some(length) => Some(length),
+        None => mask_length(family.width(), family.read(text)?),
+    }
 }
 
 /// The first and the last number that begin with the bits of a number, but for so many bits.
@@ -82,10 +144,7 @@ fn prefix_span(family: Family, address: &str, digits: &str, strict: bool) -> Opt
         (λ span. (span.0 < 2 ^ width family) × (span.1 < 2 ^ width family)) }
 {
     let number = family.read(address)?;
-    let length = length_of(digits)?;
-    if length > family.width() {
-        return None;
-    }
+    let length = length_of(family, digits)?;
     let (first, last) = block_of(number, family.width() - length);
     if strict && first != number {
         return None;
@@ -130,7 +189,8 @@ fn span_of(family: Family, text: &str, strict: bool) -> Option<(u128, u128)>
 /// What a line says, or `None` where it is no line of an address list.
 ///
 /// A line is blank, an address, a prefix `address/length` or a range `first-last`, each with a
-/// comment after `#` or without. Where `strict` is set, the bits of a prefix's address after its
+/// comment after `#` or without. A length is a number or a mask: bits of 1 and then bits of 0, as
+/// `255.0.0.0`, or the reverse, as `0.255.255.255`. Where `strict` is set, the bits of a prefix's address after its
 /// length have to be 0; else they are taken for 0. White space may stand around each, and at the
 /// dash. A comment may have any bytes. Allocates nothing.
 pub fn line_of(line: &[u8], strict: bool) -> Option<Line>

@@ -1,4 +1,5 @@
 -- What the commands make of lists.
 pub mod Commands
+pub mod Lines
 pub mod Relations
 pub mod Shown

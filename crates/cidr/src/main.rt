@@ -7,26 +7,31 @@
 //! - the commands over any readers and writer, and what they print: `src/serve.rt`,
 //!   `specs/{Commands,Shown}.antt`, `proofs/{Commands,Kept}.antt`; of `compare`,
 //!   `src/compare.rt`, `specs/Relations.antt`, `proofs/Compared.antt`; of `has`, `src/lookup.rt`,
-//!   `proofs/LookedUp.antt`
+//!   `proofs/LookedUp.antt`; of `has` over lines and of `grep`, `src/lines.rt`, `specs/Lines.antt`
+//! - what is written, and why that failed: `src/output.rt`
 #![tactic(auto)]
 
 mod compare;
 mod inputs;
+mod lines;
 mod lookup;
+mod output;
 mod progress;
 mod serve;
 
 use crate::compare::compare;
 use crate::inputs::{Input, ToldInput};
+use crate::lines::{look_up_lines, search};
 use crate::lookup::look_up;
-use crate::serve::{Reading, Source, Stop, serve};
-use address_lists::BadLines;
+use crate::output::Noted;
+use crate::serve::{Reading, Source, Stop, read_source, serve};
+use address_lines::{Search, Showing};
+use address_lists::{Addresses, BadLines};
 use anyhow::{Context, bail};
-use cidr_arguments::{Command, Output, Request, Task, read_request};
+use cidr_arguments::{Command, Output, Request, Sought, Task, Wanted, read_request};
 use clap::error::ErrorKind;
 use std::env;
-use std::io::{self, BufReader, BufWriter, Write};
-use std::net::IpAddr;
+use std::io::{self, BufReader, BufWriter, ErrorKind as Failure, Write};
 use std::process::ExitCode;
 
 const BUFFER_BYTES: usize = 65536;
@@ -96,17 +101,83 @@ fn compare_files<W: Write>(
 fn look_up_in_file<W: Write>(
     rt: &HostRuntime,
     file: &str,
-    addresses: &[IpAddr],
+    sought: &Sought,
     reading: Reading,
     left_out: &mut Vec<u64>,
     out: &mut W,
 ) -> anyhow::Result<Result<bool, Stop>> {
-    let source = source(rt, file)?;
-    Ok(look_up(rt.alloc(), source, reading, addresses, left_out, out))
+    let list = source(rt, file)?;
+    let alloc = rt.alloc();
+    Ok(match sought {
+        Sought::These(addresses) => {
+            look_up(alloc, list, reading, addresses.as_slice(), left_out, out)
+        }
+        Sought::Lines => look_up_lines(alloc, list, source(rt, "-")?, reading, left_out, out),
+    })
 }
 
-/// Does what the arguments ask, and returns whether the list has all addresses that are looked up.
-/// Adds how many bad lines are left out of each list.
+/// Which lines are sought, and what is written of them.
+fn search_of(wanted: Wanted) -> Search {
+    Search {
+        is_inverted: wanted.is_inverted,
+        showing: match wanted {
+            Wanted { is_count: true, .. } => Showing::Count,
+            Wanted {
+                is_numbered: true,
+                ..
+            } => Showing::Numbered,
+            _ => Showing::Lines,
+        },
+    }
+}
+
+/// Writes what is sought of the texts of these names. Where there are several, each line has the
+/// name of its text before it. Returns whether anything is found.
+fn search_texts<W: Write>(
+    rt: &HostRuntime,
+    list: &Addresses,
+    names: &[&str],
+    wanted: Wanted,
+    out: &mut W,
+) -> anyhow::Result<Result<bool, Stop>> {
+    let alloc = rt.alloc();
+    let mut found_any = false;
+    for name in names {
+        let before = match names {
+            [_] => String::new(alloc),
+            _ => format!(in alloc; "{name}:")?,
+        };
+        let text = source(rt, name)?;
+        match search(alloc, list, search_of(wanted), before.as_str(), text, out) {
+            Ok(found) => found_any |= found,
+            Err(stop) => return Ok(Err(stop)),
+        }
+    }
+    Ok(Ok(found_any))
+}
+
+fn search_files<W: Write>(
+    rt: &HostRuntime,
+    file: &str,
+    texts: &[&str],
+    wanted: Wanted,
+    reading: Reading,
+    left_out: &mut Vec<u64>,
+    out: &mut W,
+) -> anyhow::Result<Result<bool, Stop>> {
+    let list = match read_source(rt.alloc(), source(rt, file)?, reading, left_out) {
+        Ok(list) => list,
+        Err(stop) => return Ok(Err(stop)),
+    };
+    let found = search_texts(rt, &list, texts, wanted, out)?;
+    match out.flush() {
+        Ok(()) => Ok(found),
+        Err(_) => Ok(Err(Stop::Unwritable)),
+    }
+}
+
+/// Does what the arguments ask, and returns whether the list has all addresses that are looked up,
+/// or whether a line is found. Adds how many bad lines are left out of each list.
 fn answer<W: Write>(
     rt: &HostRuntime,
     request: &Request<'_>,
@@ -127,8 +198,9 @@ fn answer<W: Write>(
             )
         }
         Task::Compare(first, second) => compare_files(rt, first, second, reading, left_out, out),
-        Task::LookUp(file, addresses) => {
-            look_up_in_file(rt, file, addresses.as_slice(), reading, left_out, out)
+        Task::LookUp(file, sought) => look_up_in_file(rt, file, sought, reading, left_out, out),
+        Task::Search(file, texts, wanted) => {
+            search_files(rt, file, texts.as_slice(), *wanted, reading, left_out, out)
         }
     }
 }
@@ -144,26 +216,54 @@ fn tell_left_out(rt: &HostRuntime, task: &Task<'_>, left_out: &[u64]) -> io::Res
     Ok(())
 }
 
+/// Answers on standard output, or nowhere where that is asked. Why the answer could not be written
+/// stands beside.
+fn answered(
+    rt: &HostRuntime,
+    request: &Request<'_>,
+    left_out: &mut Vec<u64>,
+) -> anyhow::Result<(Result<bool, Stop>, Option<Failure>)> {
+    if request.is_quiet {
+        return Ok((answer(rt, request, left_out, &mut io::sink())?, None));
+    }
+    let out = Noted::new(rt.stdout());
+    let mut out = BufWriter::with_capacity(rt.alloc(), BUFFER_BYTES, out)?;
+    let done = answer(rt, request, left_out, &mut out)?;
+    Ok((done, out.get_ref().failure()))
+}
+
 /// Does what the arguments ask, and returns the exit status.
 fn run(rt: &HostRuntime, request: &Request<'_>) -> anyhow::Result<ExitCode> {
-    let alloc = rt.alloc();
-    let mut left_out = Vec::new(alloc);
-    let mut out = BufWriter::with_capacity(alloc, BUFFER_BYTES, rt.stdout())?;
-    let answered = answer(rt, request, &mut left_out, &mut out)?;
+    let mut left_out = Vec::new(rt.alloc());
+    let (done, failure) = answered(rt, request, &mut left_out)?;
     tell_left_out(rt, &request.task, left_out.as_slice())?;
-    match answered {
-        Ok(true) => Ok(ExitCode::SUCCESS),
-        Ok(false) | Err(Stop::Unwritable) => Ok(ExitCode::FAILURE),
-        Err(Stop::Memory) => bail!("out of memory"),
-        Err(Stop::Bad(name, error)) => bail!("{name}: {error}"),
+    match (done, failure) {
+        (Ok(true), _) => Ok(ExitCode::SUCCESS),
+        // Nobody reads any more.
+        (Ok(false), _) | (Err(Stop::Unwritable), None | Some(Failure::BrokenPipe)) => {
+            Ok(ExitCode::FAILURE)
+        }
+        (Err(Stop::Unwritable), Some(failure)) => bail!("standard output: {failure}"),
+        (Err(Stop::Memory), _) => bail!("out of memory"),
+        (Err(Stop::Bad(name, error)), _) => bail!("{name}: {error}"),
     }
+}
+
+/// Tells that a command is given as earlier versions had it.
+fn tell_old_form(rt: &HostRuntime) -> io::Result<()> {
+    eprintln!(rt; "cidr: '--from LIST' is going away: write 'cidr except LIST --without FILE'")
 }
 
 fn main(rt: HostRuntime) -> anyhow::Result<ExitCode> {
     let alloc = rt.alloc();
     let words: Vec<String> = env::args(&rt)?.collect(alloc)?;
     match read_request(alloc, words.as_slice()) {
-        Ok(request) => run(&rt, &request),
+        Ok(request) => {
+            if request.is_old_form {
+                tell_old_form(&rt)?;
+            }
+            run(&rt, &request)
+        }
         Err(error) if error.kind() == ErrorKind::OutOfMemory => bail!("out of memory"),
         Err(error) => {
             error.print(&rt)?;

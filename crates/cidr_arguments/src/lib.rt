@@ -8,4 +8,6 @@
 mod request;
 mod usage;
 
-pub use crate::request::{Command, Form, Lines, Output, Request, Task, read_request};
+pub use crate::request::{
+    Command, Form, Lines, Output, Request, Sought, Task, Wanted, read_request,
+};

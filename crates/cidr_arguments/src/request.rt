@@ -1,8 +1,9 @@
 //! What the arguments ask for.
 
-use crate::usage::{invalid_value, program};
+use crate::usage::{program, wrong};
 use address_text::Family;
 use clap::ArgMatches;
+use clap::error::ErrorKind;
 use std::alloc::{AllocError, Global};
 use std::net::IpAddr;
 
@@ -55,12 +56,33 @@ pub struct Output {
 /// What is to be done with the lists of these names.
 #[derive(Drop)]
 pub enum Task<'a> {
-    /// They are put together, that of `--from` first, and printed.
+    /// They are put together, that from which others are taken first, and printed.
     Combine(Command, Vec<&'a str>, Output),
     /// The first is compared with the second.
     Compare(&'a str, &'a str),
     /// The addresses are looked up in it.
-    LookUp(&'a str, Vec<IpAddr>),
+    LookUp(&'a str, Sought),
+    /// The lines of texts are searched for its addresses.
+    Search(&'a str, Vec<&'a str>, Wanted),
+}
+
+/// What is printed of the lines of texts.
+#[derive(Clone, Copy)]
+pub struct Wanted {
+    /// Those that hold no address of the list.
+    pub is_inverted: bool,
+    /// How many there are.
+    pub is_count: bool,
+    /// Each with its number before it.
+    pub is_numbered: bool,
+}
+
+/// The addresses that are looked up.
+#[derive(Drop)]
+pub enum Sought {
+    These(Vec<IpAddr>),
+    /// Those that are the lines of standard input.
+    Lines,
 }
 
 impl<'a> Task<'a> {
@@ -69,7 +91,7 @@ impl<'a> Task<'a> {
         match self {
             Task::Combine(_, files, _) => files.as_slice().get(place).copied(),
             Task::Compare(first, second) => [*first, *second].get(place).copied(),
-            Task::LookUp(file, _) => [*file].get(place).copied(),
+            Task::LookUp(file, _) | Task::Search(file, _, _) => [*file].get(place).copied(),
         }
     }
 }
@@ -82,15 +104,24 @@ pub struct Request<'a> {
     pub is_strict: bool,
     /// Whether bad lines are left out.
     pub skips_bad_lines: bool,
+    /// Whether the answer is the exit status alone.
+    pub is_quiet: bool,
+    /// Whether it is asked as earlier versions had it: `except` with `--from`.
+    pub is_old_form: bool,
 }
 
-/// The names of the lists, that of `--from` first.
+/// The names of the lists, that from which others are taken first.
 fn names_of<'a>(alloc: Global, found: &ArgMatches<'a>) -> Result<Vec<&'a str>, AllocError> {
     let mut names = Vec::new(alloc);
-    for id in ["from", "FILE"] {
+    for id in ["from", "FILE", "OTHER", "without"] {
         names.extend_from_slice(found.get_strs(id).unwrap_or(&[]))?;
     }
     Ok(names)
+}
+
+/// How often standard input is named.
+fn standard_inputs(names: &[&str]) -> usize {
+    names.iter().filter(|name| **name == "-").count()
 }
 
 fn family_of(found: &ArgMatches<'_>) -> Option<Family> {
@@ -130,7 +161,7 @@ fn no_address(alloc: Global, word: &str) -> Result<clap::Error, AllocError> {
     let message = format!(in alloc;
         "invalid value '{word}' for '<ADDRESS>...': expected an address"
     )?;
-    invalid_value(alloc, message.as_str())
+    wrong(alloc, "has", ErrorKind::ValueValidation, message.as_str())
 }
 
 fn address_of(alloc: Global, word: &str) -> Result<IpAddr, clap::Error> {
@@ -159,19 +190,42 @@ fn combined<'a>(alloc: Global, name: &str, found: &ArgMatches<'a>) -> Result<Tas
     Ok(Task::Combine(command_of(name), files, output))
 }
 
-fn looked_up<'a>(
+fn sought_of(alloc: Global, words: &[&str]) -> Result<Sought, clap::Error> {
+    match words {
+        ["-"] => Ok(Sought::Lines),
+        _ => Ok(Sought::These(addresses_of(alloc, words)?)),
+    }
+}
+
+/// The names of the texts: where there is none, standard input.
+fn texts_of<'a>(alloc: Global, found: &ArgMatches<'a>) -> Result<Vec<&'a str>, AllocError> {
+    let mut names = Vec::new(alloc);
+    names.extend_from_slice(found.get_strs("TEXT").unwrap_or(&["-"]))?;
+    Ok(names)
+}
+
+fn search_of<'a>(
     alloc: Global,
     list: &'a str,
     found: &ArgMatches<'a>,
-) -> Result<Task<'a>, clap::Error> {
-    let words = found.get_strs("ADDRESS").unwrap_or(&[]);
-    Ok(Task::LookUp(list, addresses_of(alloc, words)?))
+) -> Result<Task<'a>, AllocError> {
+    let wanted = Wanted {
+        is_inverted: found.get_flag("invert-match"),
+        is_count: found.get_flag("count"),
+        is_numbered: found.get_flag("line-number"),
+    };
+    Ok(Task::Search(list, texts_of(alloc, found)?, wanted))
 }
 
 fn task_of<'a>(alloc: Global, name: &str, found: &ArgMatches<'a>) -> Result<Task<'a>, clap::Error> {
-    match (name, found.get_strs("FILE").unwrap_or(&[])) {
-        ("compare", [first, second]) => Ok(Task::Compare(*first, *second)),
-        ("has", [list]) => looked_up(alloc, *list, found),
+    let first = found.get_str("FILE").unwrap_or("-");
+    match name {
+        "compare" => Ok(Task::Compare(first, found.get_str("OTHER").unwrap_or("-"))),
+        "has" => {
+            let words = found.get_strs("ADDRESS").unwrap_or(&[]);
+            Ok(Task::LookUp(first, sought_of(alloc, words)?))
+        }
+        "grep" => Ok(search_of(alloc, first, found)?),
         _ => Ok(combined(alloc, name, found)?),
     }
 }
@@ -180,15 +234,57 @@ fn matches_of<'a>(alloc: Global, words: &'a [String]) -> Result<ArgMatches<'a>, 
     program(alloc)?.try_get_matches_from(words)
 }
 
+/// The names of what is read beside lists.
+fn others_of<'a>(
+    alloc: Global,
+    name: &str,
+    found: &ArgMatches<'a>,
+) -> Result<Vec<&'a str>, AllocError> {
+    if name == "grep" {
+        return texts_of(alloc, found);
+    }
+    let mut names = Vec::new(alloc);
+    names.extend_from_slice(found.get_strs("ADDRESS").unwrap_or(&[]))?;
+    Ok(names)
+}
+
+/// What is wrong with the lists that are named, if anything.
+fn fault_of_names<'a>(
+    alloc: Global,
+    name: &str,
+    found: &ArgMatches<'a>,
+) -> Result<Option<&'static str>, AllocError> {
+    let names = names_of(alloc, found)?;
+    let files = found.get_strs("FILE").unwrap_or(&[]);
+    let others = others_of(alloc, name, found)?;
+    let read = standard_inputs(names.as_slice()).saturating_add(standard_inputs(others.as_slice()));
+    Ok(
+        match (found.contains_id("from"), found.contains_id("without")) {
+            _ if read > 1 => Some("standard input can be named once"),
+            (false, false) if name == "except" => Some(
+                "what is left out is named after '--without'",
+            ),
+            (true, true) => Some("the argument '--without' cannot be used with '--from'"),
+            (false, true) if files.len() > 1 => Some("one list is named before '--without'"),
+            _ => None,
+        },
+    )
+}
+
 /// What the words ask for, which begin with the program's name. An error has the text and the exit
 /// status of a wrong command line, or of one that asks for help.
 pub fn read_request<'a>(alloc: Global, words: &'a [String]) -> Result<Request<'a>, clap::Error> {
     let matches = matches_of(alloc, words)?;
     // There is a command, since one is required.
     let (name, found) = matches.subcommand().unwrap_or(("merge", &matches));
+    if let Some(fault) = fault_of_names(alloc, name, found)? {
+        return Err(wrong(alloc, name, ErrorKind::ArgumentConflict, fault)?);
+    }
     Ok(Request {
         task: task_of(alloc, name, found)?,
         is_strict: found.get_flag("strict"),
         skips_bad_lines: found.get_flag("skip-bad"),
+        is_quiet: found.get_flag("quiet"),
+        is_old_form: found.contains_id("from"),
     })
 }

@@ -7,16 +7,21 @@ use std::alloc::{AllocError, Global};
 const ABOUT: &str =
     "Puts lists of IP addresses together, and prints what comes of it in as few prefixes as can be.";
 
+const VERSION: &str = "0.6.0";
+
 const EXAMPLES: &str = "\
-A line is an address, a prefix such as 10.0.0.0/8 or a range such as 10.0.0.0-10.0.0.5, and what
-follows # is a comment. A list that begins with { is JSON, as --json prints it.
+A line is an address, a prefix such as 10.0.0.0/8 or 10.0.0.0/255.0.0.0, or a range such as
+10.0.0.0-10.0.0.5, and what follows # is a comment. A list that begins with { is JSON, as --json
+prints it.
 
 Examples:
   cidr merge blocked.txt more.txt
-  cidr except exceptions.txt --from blocked.txt
+  cidr except blocked.txt --without exceptions.txt
   cidr invert allowed.txt
   cidr split --at 24 --v4 blocked.txt
-  cidr has blocked.txt 10.1.2.3 2001:db8::1";
+  cidr has blocked.txt 10.1.2.3 2001:db8::1
+  cidr has blocked.txt - < addresses.txt
+  cidr grep blocked.txt access.log";
 
 /// What a command takes.
 #[derive(Clone, Copy)]
@@ -25,8 +30,12 @@ enum Kind {
     Words(usize, usize),
     /// A flag. Of those of a group at most one may be given.
     Flag(&'static [&'static str]),
-    /// An option that must be given, with the name of a list.
-    List,
+    /// A flag that has a letter too. Of those of a group at most one may be given.
+    Letter(char, &'static [&'static str]),
+    /// One word more, the name of a list.
+    SecondList,
+    /// An option with the name of a list, which may be given again where so many are taken.
+    List(ArgAction),
     /// An option that must be given, with the length of a prefix.
     Length,
 }
@@ -43,7 +52,7 @@ struct Usage {
 
 const ONE_LIST: Taken = ("FILE", Kind::Words(1, 1), LIST_HELP);
 
-const TWO_LISTS: Taken = ("FILE", Kind::Words(2, 2), LIST_HELP);
+const SECOND_LIST: Taken = ("OTHER", Kind::SecondList, LIST_HELP);
 
 const LISTS: Taken = ("FILE", Kind::Words(1, usize::MAX), LIST_HELP);
 
@@ -83,10 +92,22 @@ const JSON: Taken = (
     "Print a JSON object: the set of each family, as an array of ranges",
 );
 
+const WITHOUT: Taken = (
+    "without",
+    Kind::List(ArgAction::Append),
+    "A list whose addresses are left out; may be given again",
+);
+
 const FROM: Taken = (
     "from",
-    Kind::List,
-    "The list from which the others are taken",
+    Kind::List(ArgAction::Set),
+    "The old way: the list from which all others are taken",
+);
+
+const QUIET: Taken = (
+    "quiet",
+    Kind::Flag(&[]),
+    "Print nothing: the exit status alone tells",
 );
 
 const AT: Taken = (
@@ -98,16 +119,63 @@ const AT: Taken = (
 const ADDRESSES: Taken = (
     "ADDRESS",
     Kind::Words(1, usize::MAX),
-    "An address that is looked up",
+    "An address that is looked up; - alone: each line of standard input",
 );
+
+const INVERT_MATCH: Taken = (
+    "invert-match",
+    Kind::Letter('v', &[]),
+    "Print the lines that hold no address of the list",
+);
+
+const COUNT: Taken = (
+    "count",
+    Kind::Letter('c', &["form"]),
+    "Print how many lines there are, in place of them",
+);
+
+const LINE_NUMBER: Taken = (
+    "line-number",
+    Kind::Letter('n', &["form"]),
+    "Print the number of each line before it",
+);
+
+const TEXTS: Taken = (
+    "TEXT",
+    Kind::Words(0, usize::MAX),
+    "A text whose lines are searched; - is standard input, and so is none",
+);
+
+const GREP: Usage = Usage {
+    name: "grep",
+    about: "Print the lines of texts that hold an address of a list, or exit with 1 where none does",
+    takes: &[
+        ONE_LIST,
+        STRICT,
+        SKIP_BAD,
+        INVERT_MATCH,
+        COUNT,
+        LINE_NUMBER,
+        QUIET,
+        TEXTS,
+    ],
+};
 
 const HAS: Usage = Usage {
     name: "has",
     about: "Print each address, and the range around it in the list, or - and exit with 1",
-    takes: &[ONE_LIST, STRICT, SKIP_BAD, ADDRESSES],
+    takes: &[ONE_LIST, STRICT, SKIP_BAD, QUIET, ADDRESSES],
 };
 
-static COMMANDS: [Usage; 9] = [
+const EXCEPT: Usage = Usage {
+    name: "except",
+    about: "Print those of a list that are in none of the lists after --without",
+    takes: &[
+        LISTS, STRICT, SKIP_BAD, V4, V6, RANGES, SINGLE, JSON, WITHOUT, FROM,
+    ],
+};
+
+static COMMANDS: [Usage; 10] = [
     Usage {
         name: "merge",
         about: "Print the addresses that are in any list",
@@ -123,15 +191,21 @@ static COMMANDS: [Usage; 9] = [
         about: "Print those of both families that are in no list",
         takes: &[LISTS, STRICT, SKIP_BAD, V4, V6, RANGES, SINGLE, JSON],
     },
-    Usage {
-        name: "except",
-        about: "Print those of the list after --from that are in no other list",
-        takes: &[LISTS, STRICT, SKIP_BAD, V4, V6, RANGES, SINGLE, JSON, FROM],
-    },
+    EXCEPT,
     Usage {
         name: "diff",
         about: "Print those that are in just one of two lists",
-        takes: &[TWO_LISTS, STRICT, SKIP_BAD, V4, V6, RANGES, SINGLE, JSON],
+        takes: &[
+            ONE_LIST,
+            SECOND_LIST,
+            STRICT,
+            SKIP_BAD,
+            V4,
+            V6,
+            RANGES,
+            SINGLE,
+            JSON,
+        ],
     },
     Usage {
         name: "count",
@@ -146,9 +220,10 @@ static COMMANDS: [Usage; 9] = [
     Usage {
         name: "compare",
         about: "Print how the first of two lists lies to the second, and how many addresses each has",
-        takes: &[TWO_LISTS, STRICT, SKIP_BAD],
+        takes: &[ONE_LIST, SECOND_LIST, STRICT, SKIP_BAD],
     },
     HAS,
+    GREP,
 ];
 
 fn flag<'a>(arg: Arg<'a>, groups: &'a [&'a str]) -> Result<Arg<'a>, AllocError> {
@@ -163,9 +238,11 @@ fn length<'a>(arg: Arg<'a>) -> Arg<'a> {
 fn argument<'a>((name, kind, help): Taken, alloc: Global) -> Result<Arg<'a>, AllocError> {
     let arg = Arg::new(alloc, name).help(help);
     match kind {
-        Kind::Words(least, most) => Ok(arg.required(true).num_args(least..=most)),
+        Kind::Words(least, most) => Ok(arg.required(least > 0).num_args(least..=most)),
         Kind::Flag(groups) => flag(arg.long(name), groups),
-        Kind::List => Ok(arg.long(name).required(true).value_name("FILE")),
+        Kind::Letter(letter, groups) => flag(arg.long(name).short(letter), groups),
+        Kind::SecondList => Ok(arg.required(true).value_name("FILE")),
+        Kind::List(action) => Ok(arg.long(name).action(action).value_name("FILE")),
         Kind::Length => Ok(length(arg.long(name).required(true))),
     }
 }
@@ -215,6 +292,7 @@ fn commands<'a>(usages: &[Usage], alloc: Global) -> Result<Vec<clap::Command<'a>
 fn cidr<'a>(alloc: Global) -> clap::Command<'a> {
     clap::Command::new(alloc, "cidr")
         .about(ABOUT)
+        .version(VERSION)
         .after_help(EXAMPLES)
         .subcommand_required(true)
 }
@@ -225,13 +303,25 @@ pub fn program<'a>(alloc: Global) -> Result<clap::Command<'a>, AllocError> {
     cidr(alloc).subcommands(commands)
 }
 
-/// The command `has` as its usage names it.
-fn has_command<'a>(alloc: Global) -> Result<clap::Command<'a>, AllocError> {
-    command(&HAS, alloc)?.bin_name("cidr has")
+/// The usage of a command; of none, that of `merge`.
+fn usage_of(name: &str) -> &'static Usage {
+    for usage in &COMMANDS {
+        if usage.name == name {
+            return usage;
+        }
+    }
+    &COMMANDS[0]
 }
 
-/// The error that a value of `has` is not valid, with its usage.
-pub fn invalid_value(alloc: Global, message: &str) -> Result<clap::Error, AllocError> {
-    let mut has = has_command(alloc)?;
-    has.error(ErrorKind::ValueValidation, message)
+/// An error in what the command of this name is given, with its usage.
+pub fn wrong<'a>(
+    alloc: Global,
+    name: &str,
+    kind: ErrorKind,
+    message: &str,
+) -> Result<clap::Error, AllocError> {
+    let usage = usage_of(name);
+    let called = format!(in alloc; "cidr {}", usage.name)?;
+    let mut command = command(usage, alloc)?.bin_name(called.as_str())?;
+    command.error(kind, message)
 }

@@ -1,0 +1,55 @@
+use Rattle.std.proofs.Common.{ap, Ok, subst, sym, arith}
+use Rattle.std.specs.Prelude.{IfSome}
+use Rattle.address_lines.specs.Sought.{AreToldUntil}
+use Rattle.address_lines.proofs.Told.{IsLineRead, all_told, bad_told, line_told, unread_told}
+use Rattle.address_lines.proofs.sought.tell_lines.Goals as goal
+
+pub loop-number-preserved : goal.loop-number-preserved
+loop-number-preserved g c =
+    let left = g.R.Read.remaining c.loop-number.input in
+    let later = g.R.Read.remaining c.next_line.new.input in
+    line_told c.args.list.now (g.R.Read.remaining c.args.input.now) left later
+    (g.W.Write.contents c.args.out.now) (g.W.Write.contents c.loop-number.out)
+    (g.W.Write.contents c.tell_line.new.out) c.loop-number.number c.loop-number.has_all c.in-Ok.has
+    c.as_slice.result.now c.loop-number.invariant
+    (subst (IsLineRead c.args.list.now left later) (sym c.as_slice.ensures.value)
+    (c.in-Ok-true.ensures.read (ap Ok c.in-Ok-true.field-0-test)))
+    c.in-Ok.ensures.told
+
+pub returns-in-Ok-false-clause-told : goal.returns-in-Ok-false-clause-told
+returns-in-Ok-false-clause-told g c =
+    all_told c.args.list.now (g.R.Read.remaining c.args.input.now)
+    (g.R.Read.remaining c.loop-number.input) (g.W.Write.contents c.args.out.now)
+    (g.W.Write.contents c.loop-number.out) c.loop-number.number c.loop-number.has_all
+    c.loop-number.invariant (c.in-Ok-false.ensures.ended (ap Ok c.in-Ok-false.field-0-test))
+
+pub returns-in-Err-clause-bad : goal.returns-in-Err-clause-bad
+returns-in-Err-clause-bad g c = λ error same.
+    let unread = c.in-Err.ensures.unread in
+    unread_told c.args.list.now (g.R.Read.remaining c.args.input.now)
+    (g.R.Read.remaining c.loop-number.input) (g.W.Write.contents c.args.out.now)
+    (g.W.Write.contents c.loop-number.out) c.loop-number.number c.loop-number.has_all error
+    c.loop-number.invariant (grind arith)
+
+pub returns-in-Err-tell_line-clause-bad : goal.returns-in-Err-tell_line-clause-bad
+returns-in-Err-tell_line-clause-bad g c = λ error same.
+    let left = g.R.Read.remaining c.loop-number.input in
+    let later = g.R.Read.remaining c.next_line.new.input in
+    let bad = c.in-Err-tell_line.ensures.bad error same in
+    subst (λ out. IfSome (g.R.Read.remaining c.args.input.now) (λ bytes. AreToldUntil
+    c.args.list.now bytes (g.W.Write.contents c.args.out.now) (g.W.Write.contents out) error))
+    (sym bad.1)
+    (bad_told c.args.list.now (g.R.Read.remaining c.args.input.now) left later
+    (g.W.Write.contents c.args.out.now) (g.W.Write.contents c.loop-number.out)
+    c.loop-number.number c.loop-number.has_all c.as_slice.result.now error
+    c.loop-number.invariant
+    (subst (IsLineRead c.args.list.now left later) (sym c.as_slice.ensures.value)
+    (c.in-Ok-true.ensures.read (ap Ok c.in-Ok-true.field-0-test)))
+    bad.0)
+
+pub returns-clause-bad : goal.returns-clause-bad
+returns-clause-bad g c = λ error same.
+    unread_told c.args.list.now (g.R.Read.remaining c.args.input.now)
+    (g.R.Read.remaining c.loop-number.input) (g.W.Write.contents c.args.out.now)
+    (g.W.Write.contents c.loop-number.out) c.loop-number.number c.loop-number.has_all error
+    c.loop-number.invariant (grind arith)
