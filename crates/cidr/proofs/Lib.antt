@@ -1,5 +1,6 @@
 -- Lemmas.
 mod Commands
 mod Compared
+mod Halted
 mod Kept
 mod LookedUp

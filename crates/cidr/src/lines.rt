@@ -1,6 +1,6 @@
 //! Lines of a text looked up in a list, and searched for its addresses.
 
-ghost use Rattle.std.specs.Prelude.{◌≡◌, ◌≢◌, ◌⊎◌, ◌++◌, ◌∷◌, ℕ, String, [], IfErr, IfOk, IfSome};
+ghost use Rattle.std.specs.Prelude.{◌≡◌, ◌⊎◌, ◌++◌, ◌∷◌, ℕ, String, [], IfErr, IfOk, IfSome, nat_lt};
 ghost use Rattle.std.specs.declared.alloc.Global.{Global};
 ghost use Rattle.address_lines.specs.Found.{AreAllFound};
 ghost use Rattle.address_lines.specs.Sought.{AreTold, AreToldUntil};
@@ -39,12 +39,15 @@ fn tell<R: BufRead + Drop, W: Write>(
         (λ text. IsHalted list.now text lines.name (W.contents out.old) (W.contents out.new) stop)) }
 {
     let Source { name, mut reader } = lines;
-    let told = write_told_lines(alloc, list, &mut reader, out);
-    let flushed = out.flush();
-    match told {
-        Ok(has_all) if flushed.is_ok() => Ok(has_all),
-        Ok(_) => Err(Stop::Unwritable),
-        Err(halt) => Err(stop_of(name, halt)),
+    match write_told_lines(alloc, list, &mut reader, out) {
+        Ok(has_all) => match out.flush() {
+            Ok(()) => Ok(has_all),
+            Err(_) => Err(Stop::Unwritable),
+        },
+        Err(halt) => {
+            let _ = out.flush();
+            Err(stop_of(name, halt))
+        }
     }
 }
 

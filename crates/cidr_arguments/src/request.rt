@@ -200,7 +200,10 @@ fn sought_of(alloc: Global, words: &[&str]) -> Result<Sought, clap::Error> {
 /// The names of the texts: where there is none, standard input.
 fn texts_of<'a>(alloc: Global, found: &ArgMatches<'a>) -> Result<Vec<&'a str>, AllocError> {
     let mut names = Vec::new(alloc);
-    names.extend_from_slice(found.get_strs("TEXT").unwrap_or(&["-"]))?;
+    names.extend_from_slice(found.get_strs("TEXT").unwrap_or(&[]))?;
+    if names.is_empty() {
+        names.push("-")?;
+    }
     Ok(names)
 }
 
