@@ -1,0 +1,12 @@
+-- That the shortest table routes as the map does, that no other that does is shorter, and that the
+-- longest prefixes are looked for one length after the other.
+pub mod Bits
+pub mod Bound
+pub mod Gathered
+pub mod Items
+pub mod Lengths
+pub mod Lists
+pub mod Places
+pub mod Routes
+pub mod Theorem
+pub mod Ties
