@@ -86,7 +86,7 @@ module _ {A V : Type 0} {order : KeyOrder A} {number : A → ℕ} {at : ℕ → 
   abbrev pub Spans : List V → List (Item (AnyRange A) V) → List (Span ℕ)
   Spans values items = map (numbered same_value number width values) items
 
-  binds_is_bound : (items : List (Item (AnyRange A) V)) (a : A) (v : V)
+  pub binds_is_bound : (items : List (Item (AnyRange A) V)) (a : A) (v : V)
       → BindsTo order same_value items a v → IsBound order items a
   binds_is_bound [] a v none = none
   binds_is_bound (i ∷ items) a v (inl here) = inl here.0
@@ -228,11 +228,11 @@ module _ {A V : Type 0} {order : KeyOrder A} {number : A → ℕ} {at : ℕ → 
       ]
 
   -- the first of the ranges starts there or later
-  abbrev StartFrom : ℕ → List (Item (AnyRange A) V) → Type 0
+  abbrev pub StartFrom : ℕ → List (Item (AnyRange A) V) → Type 0
   StartFrom from [] = Unit {0}
   StartFrom from (i ∷ items) = from ≤ from_of family i.key
 
-  next_from : (i : Item (AnyRange A) V) (items : List (Item (AnyRange A) V))
+  pub next_from : (i : Item (AnyRange A) V) (items : List (Item (AnyRange A) V))
       → Known (i ∷ items) → Coarse (i ∷ items) → StartFrom (past_of family i.key) items
   next_from i [] known coarse = tt
   next_from i (j ∷ items) known coarse =
@@ -258,7 +258,7 @@ module _ {A V : Type 0} {order : KeyOrder A} {number : A → ℕ} {at : ℕ → 
             (past_of family i.key) (next_from i items known coarse)),
       )
 
-  starts_from_zero : (items : List (Item (AnyRange A) V)) → StartFrom 0 items
+  pub starts_from_zero : (items : List (Item (AnyRange A) V)) → StartFrom 0 items
   starts_from_zero [] = tt
   starts_from_zero (i ∷ items) = omega arith
 

@@ -2,3 +2,4 @@
 pub mod Lengths
 pub mod Numbers
 pub mod Tables
+pub mod Tiled

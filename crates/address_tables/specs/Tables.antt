@@ -1,5 +1,5 @@
 -- Prefixes with values: where they route each address, and when no shorter list does the same.
-use Rattle.std.specs.Prelude.{◌≡◌, ◌+◌, ◌≤◌, ◌<◌, ℕ, Bool, IsTrue, ◌&&◌, if◌then◌else◌, nat_le, nat_lt, List, [], ◌∷◌, length, Option, Some, None}
+use Rattle.std.specs.Prelude.{◌≡◌, ◌+◌, ◌≤◌, ◌<◌, ◌⊎◌, ℕ, Bool, IsTrue, ◌&&◌, if◌then◌else◌, nat_le, nat_lt, List, [], ◌∷◌, length, Option, Some, None}
 use Rattle.std.specs.Borrow.{Bor}
 use Rattle.std.specs.List.{AllByRecursion}
 use Rattle.std.specs.Option.{option_map}
@@ -20,6 +20,10 @@ module _ {A : Type 0} (number : A → ℕ) where
   -- the prefix holds the address
   abbrev pub holds : Prefix A → A → Bool
   holds p a = nat_le (number p.network) (number a) && nat_le (number a) (number p.last)
+
+  -- the one prefix ends before the other starts
+  abbrev pub IsApart : Prefix A → Prefix A → Type 0
+  IsApart p q = (number p.last < number q.network) ⊎ (number q.last < number p.network)
 
   module _ {V : Type 0} where
     -- of an entry and a later one the one whose prefix is longer, or else the later
@@ -43,6 +47,11 @@ module _ {A : Type 0} (number : A → ℕ) where
     -- each prefix ends before the next one starts
     abbrev pub AreAscending : List (Entry A V) → Type 0
     AreAscending t = EachNext (λ d e. number d.prefix.last < number e.prefix.network) t
+
+    -- no two prefixes overlap
+    abbrev pub AreApart : List (Entry A V) → Type 0
+    AreApart [] = Unit {0}
+    AreApart (e ∷ t) = AllByRecursion (λ d. IsApart e.prefix d.prefix) t × AreApart t
 
 module _ {A V : Type 0} (order : KeyOrder A) (same_value : V → V → Bool) where
   -- the two are equal values, or none
@@ -68,3 +77,8 @@ module _ {A V : Type 0} (order : KeyOrder A) (number : A → ℕ) (same_value : 
   abbrev pub IsShortest : ℕ → List (Entry A V) → Type 0
   IsShortest width t = (others : List (Entry A V)) → ArePrefixes number width others
       → IsTableOf others → length t ≤ length others
+
+  -- no table of prefixes of which no two overlap has fewer entries, if it routes alike
+  abbrev pub IsShortestApart : ℕ → List (Entry A V) → Type 0
+  IsShortestApart width t = (others : List (Entry A V)) → ArePrefixes number width others
+      → AreApart number others → IsTableOf others → length t ≤ length others

@@ -1,8 +1,11 @@
 //! The prefixes of a table, none of which overlap.
 
-ghost use Rattle.std.specs.Prelude.{map, IfOk, None};
+ghost use Rattle.std.specs.Prelude.{◌≡◌, ◌+◌, ◌++◌, map, IfOk, OnOk, None};
 ghost use Rattle.btree_range_map.specs.Holding.{box_items};
-ghost use Rattle.address_tables.specs.Tables.{IsTableOf, ArePrefixes, AreAscending, shown};
+ghost use Rattle.address_prefixes.specs.Runs.{IsSpan};
+ghost use Rattle.address_prefixes.specs.Tiles.{all_tiles};
+ghost use Rattle.address_tables.specs.Tables.{AreAscending, ArePrefixes, IsShortestApart, IsTableOf, shown};
+ghost use Rattle.address_tables.specs.Tiled.{valued};
 
 use crate::AddressTable;
 use crate::entries::Entry;
@@ -17,6 +20,9 @@ fn push_prefixes<'a, A: Address, V>(
     span: (u128, u128),
     value: &'a V,
 ) -> Result<(), AllocError>
+    requires { IsSpan A.WIDTH span }
+    ensures { OnOk result (entries.new.items ≡ entries.old.items
+        ++ valued value (all_tiles A.at A.WIDTH span.0 (span.1 + 1))) }
 {
     let mut part = Some(span);
     while let Some((first, last)) = part {
@@ -27,9 +33,11 @@ fn push_prefixes<'a, A: Address, V>(
     Ok(())
 }
 
-/// The prefixes with values that a table is: they do not overlap, and ascend.
+/// The prefixes with values that a table is: no two overlap, they ascend, and no such list is
+/// shorter.
 ///
-/// Allocates their list. Costs some steps for each bit of each prefix.
+/// Allocates their list; fails where an allocation does. Costs some steps for each bit of each
+/// prefix.
 ///
 /// ```
 /// // of a table that binds 10.0.0.0 to 10.0.0.5 to 1
@@ -46,6 +54,8 @@ pub fn disjoint_prefixes<A: Address, V: Eq + Drop>(
         (box_items table.now) (map shown entries.items)) }
     ensures ascending { IfOk result
         (λ entries. AreAscending A.number (map shown entries.items)) }
+    ensures shortest { IfOk result (λ entries. IsShortestApart A.order A.number A.WIDTH V.eq None
+        (box_items table.now) (map shown entries.items)) }
 {
     let mut entries = Vec::new(alloc);
     let mut items = table.iter();
