@@ -107,10 +107,7 @@ module _ {A V : Type 0} {order : KeyOrder A} {number : A → ℕ} {at : ℕ → 
     AreBoundTo items p v = (a : A) → order.is_key a → HasAddress number a p
         → BindsTo order same_value items a v
 
-    -- a prefix whose addresses have one value lies in one range
-    inside : (items : Items) → Known family same_value items → Coarse family same_value items
-        → (p : Prefix A) → IsPrefix number width p → (v : V) → AreBoundTo items p v
-        → Any (LiesIn p) items
+    -- where it holds the first address of a prefix whose addresses have one value, it holds all
     inside_at : (i : Item (AnyRange A) V) (items : Items) → Known family same_value (i ∷ items)
         → Coarse family same_value (i ∷ items) → (p : Prefix A) → IsPrefix number width p → (v : V)
         → AreBoundTo (i ∷ items) p v → Holds order i.key p.network
@@ -136,6 +133,11 @@ module _ {A V : Type 0} {order : KeyOrder A} {number : A → ℕ} {at : ℕ → 
                     is_key v e same later)
               ]
         ]
+
+    -- a prefix whose addresses have one value lies in one range
+    inside : (items : Items) → Known family same_value items → Coarse family same_value items
+        → (p : Prefix A) → IsPrefix number width p → (v : V) → AreBoundTo items p v
+        → Any (LiesIn p) items
     inside [] known coarse p is v binds =
         let ends = is.ends in
         let some = pow_pos (width - p.length) in
@@ -233,7 +235,7 @@ module _ {A V : Type 0} {order : KeyOrder A} {number : A → ℕ} {at : ℕ → 
       let top = has.1 in
       let rest = coarse_rest family same_value i items coarse in
       let next = next_from family same_value i items known coarse in
-      let ps : List (Prefix A) = range_tiles {V = V} number at width i.key in
+      let ps : List (Prefix A) = range_tiles number at width i.key in
       let left = fewest family (Sits (past_of family i.key) items) (past_of family i.key)
       (from_of family i.key) ps (tiles_are family same_value i.key has) qs
       (all_sorted border i items known coarse starts qs sit)

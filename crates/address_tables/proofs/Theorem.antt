@@ -61,7 +61,8 @@ module _ {A V : Type 0} {order : KeyOrder A} {number : A → ℕ} {at : ℕ → 
         fits = rw last (omega (arith, fits, size));
       }
 
-  whole : (es : List (NumberedEntry ℕ)) (rs : List (Entry A (Bor V)))
+  -- the entries have prefixes
+  pub whole : (es : List (NumberedEntry ℕ)) (rs : List (Entry A (Bor V)))
       → AllByRecursion (IsBlock width) es → AreNamed at width borrowed es rs
       → ArePrefixes number width (map shown rs)
   whole [] [] blocks named = tt

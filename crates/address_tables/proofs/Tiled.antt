@@ -17,7 +17,7 @@ use Rattle.address_prefixes.specs.declared.prefix.Prefix.{Prefix}
 use Rattle.address_prefixes.proofs.Tiles.{AreWidest, all_tiles_are, of_some, some_of}
 use Rattle.address_sets.proofs.Sets.{from_of, holds_is, past_of}
 use Rattle.address_tables.specs.Tables.{AreSame, ArePrefixes, IsTableOf, longest}
-use Rattle.address_tables.specs.Tiled.{entry_with, range_tiles, tiled, valued}
+use Rattle.address_tables.specs.Tiled.{range_tiles, tiled, valued}
 use Rattle.address_tables.specs.declared.entries.Entry.{Entry}
 use Rattle.address_tables.proofs.Apart.{AreWithin, IsOneOf, NoneHolds, has_or_lacks, none_longest, one_later, routed, within_apart, within_more}
 use Rattle.address_tables.proofs.Items.{Coarse, Known, StartFrom, coarse_rest, have_spans, next_from, starts_from_zero}
@@ -28,7 +28,7 @@ module _ {A V : Type 0} {order : KeyOrder A} {number : A → ℕ} {at : ℕ → 
   Tiles items = tiled number at width items
 
   abbrev RangeTiles : AnyRange A → List (Prefix A)
-  RangeTiles r = range_tiles {V = V} number at width r
+  RangeTiles r = range_tiles number at width r
 
   pub tiles_are : (r : AnyRange A) → HasSpan number width r
       → AreWidest family (from_of family r) (past_of family r) (RangeTiles r)
@@ -98,7 +98,8 @@ module _ {A V : Type 0} {order : KeyOrder A} {number : A → ℕ} {at : ℕ → 
       → (e : Entry A V) × IsOneOf e (valued v ps ++ more) × HasAddress number a e.prefix
       × (v ≡ e.value)
   first_found v [] more a none = absurd none
-  first_found v (p ∷ ps) more a (inl here) = (entry_with v p, inl refl, here, refl)
+  first_found v (p ∷ ps) more a (inl here) =
+      (record { prefix = p; value = v }, inl refl, here, refl)
   first_found v (p ∷ ps) more a (inr later) =
       let f = first_found v ps more a later in (f.0, inr f.1, f.2, f.3)
 

@@ -11,7 +11,7 @@ ghost use Rattle.shortest_tables.specs.Entries.{IsBlock};
 use crate::AddressTable;
 use crate::entries::Entry;
 use crate::spans::spans_of;
-use crate::values::{place_of, values_of};
+use crate::values::{other_place, values_of};
 use address_keys::Address;
 use address_prefixes::Prefix;
 use address_prefixes::prefix::greatest_of;
@@ -53,6 +53,7 @@ fn entries_of<'a, A: Address, V>(
     Ok(entries)
 }
 
+/// The shortest table of prefixes, with a value or none for addresses that have none.
 fn shortest_or<'a, A: Address, V: Eq + Drop>(
     alloc: Global,
     table: &'a AddressTable<A, V>,
@@ -69,12 +70,10 @@ fn shortest_or<'a, A: Address, V: Eq + Drop>(
     let Ok(count) = u32::try_from(values.len()) else {
         return Err(AllocError);
     };
+    let _items = table.iter();
     let spans = spans_of(alloc, table, values.as_slice())?;
-    let otherwise = match otherwise {
-        Some(value) => Some(place_of(values.as_slice(), value) as u32),
-        None => None,
-    };
-    let numbered = shortest_table(alloc, spans.as_slice(), otherwise, count, A::WIDTH)?;
+    let place = other_place(values.as_slice(), otherwise);
+    let numbered = shortest_table(alloc, spans.as_slice(), place, count, A::WIDTH)?;
     let entries = entries_of(alloc, numbered.as_slice(), values.as_slice())?;
     Ok(entries)
 }

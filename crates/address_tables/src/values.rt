@@ -1,7 +1,7 @@
 //! Values by numbers: by the place of the first that equals them.
 
-ghost use Rattle.std.specs.Prelude.{◌≡◌, map, IfOk, IfSome, OnOk};
-ghost use Rattle.std.specs.Option.{option_copied};
+ghost use Rattle.std.specs.Prelude.{◌≡◌, ◌<◌, ◌^◌, map, length, IfOk, IfSome, OnOk};
+ghost use Rattle.std.specs.Option.{option_copied, option_map};
 ghost use Rattle.btree_range_map.specs.Holding.{box_items};
 ghost use Rattle.address_tables.specs.Numbers.{AreAmong, IsAmong, place};
 
@@ -19,6 +19,18 @@ pub(crate) fn place_of<V: Eq>(values: &[&V], value: &V) -> usize
         }
     }
     values.len()
+}
+
+/// The place of the one value, where there is one.
+pub(crate) fn other_place<V: Eq>(values: &[&V], otherwise: Option<&V>) -> Option<u32>
+    requires { length values.now < 2 ^ 32 }
+    ensures { result ≡ option_map (place V.eq (map (λ v. v.now) values.now))
+        (option_copied otherwise.entry) }
+{
+    match otherwise {
+        Some(value) => Some(place_of(values, value) as u32),
+        None => None,
+    }
 }
 
 /// Adds a value that none of the others equals.

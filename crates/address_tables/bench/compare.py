@@ -1,0 +1,97 @@
+"""Makes the shortest and the disjoint prefixes of the tables of Debian's tor-geoipdb beside a program in Python of the
+same algorithm: compare.py PROGRAM [FOLDER], called by compare.sh. FOLDER has the tables, else /usr/share/tor.
+
+Prints for each family how many entries each makes, and the seconds of each call. Both have to make as many.
+"""
+
+import ipaddress
+import pathlib
+import subprocess
+import sys
+import time
+
+WIDTHS = {4: 32, 6: 128}
+
+
+def spans(path, width):
+    """Returns the first and last address and the value of each block, those that touch with one value as one."""
+    kind = int if width == 32 else lambda word: int(ipaddress.IPv6Address(word))
+    found = []
+    for line in open(path):
+        if not line.startswith("#"):
+            first, last, value = line.rstrip().split(",")
+            first, last = kind(first), kind(last)
+            if found and found[-1][2] == value and found[-1][1] + 1 == first:
+                found[-1] = (found[-1][0], last, value)
+            else:
+                found.append((first, last, value))
+    return found
+
+
+def disjoint(spans, width):
+    """Returns how many prefixes the blocks are, of which none overlap."""
+    count = 0
+    for first, last, _ in spans:
+        while first <= last:
+            free = min((first & -first).bit_length() - 1 if first else width, (last - first + 1).bit_length() - 1)
+            first, count = first + (1 << free), count + 1
+    return count
+
+
+def gather(spans, width):
+    """Returns the labels of all blocks, each before those of its halves: None where an address has no value."""
+    at = 0
+
+    def block(network, free):
+        nonlocal at
+        past = network + (1 << free)
+        while at < len(spans) and spans[at][1] < network:
+            at += 1
+        if at == len(spans) or spans[at][0] >= past:
+            return (None, None, None)
+        first, last, value = spans[at]
+        if first <= network and last >= past - 1:
+            return ([value], None, None)
+        low = block(network, free - 1)
+        high = block(network + (1 << (free - 1)), free - 1)
+        if low[0] is None or high[0] is None:
+            return (None, low, high)
+        both = [it for it in low[0] if it in high[0]]
+        return (both or low[0] + high[0], low, high)
+
+    return block(0, width)
+
+
+def shortest(node, above):
+    """Returns how many entries a block takes below a label."""
+    labels, low, high = node
+    label = None if labels is None else above if above in labels else labels[0]
+    count = 0 if label == above else 1
+    return count if low is None else count + shortest(low, label) + shortest(high, label)
+
+
+def told(program, family, path):
+    """Returns the seconds and the number of entries of each call of the program."""
+    ran = subprocess.run([program, str(family)], stdin=open(path), capture_output=True, check=True, text=True)
+    lines = [line.split() for line in ran.stdout.splitlines()]
+    return {call: (int(nanoseconds) / 1e9, int(count)) for nanoseconds, count, call in lines}
+
+
+def main():
+    program, folder = sys.argv[1], pathlib.Path((sys.argv[2:] + ["/usr/share/tor"])[0])
+    sys.setrecursionlimit(10000)
+    for family, name in (4, "geoip"), (6, "geoip6"):
+        calls = told(program, family, folder / name)
+        blocks = spans(folder / name, WIDTHS[family])
+        begun = time.process_time()
+        few = shortest(gather(blocks, WIDTHS[family]), None)
+        seconds = time.process_time() - begun
+        begun = time.process_time()
+        apart = disjoint(blocks, WIDTHS[family])
+        others = time.process_time() - begun
+        print(f"IPv{family}: {len(blocks)} ranges; shortest {few}, {seconds:.2f} s; disjoint {apart}, {others:.2f} s; program {calls}")
+        assert calls["ranges"][1] == len(blocks) and calls["same"][1] == 1
+        assert calls["shortest"][1] == few and calls["disjoint"][1] == apart
+
+
+main()
