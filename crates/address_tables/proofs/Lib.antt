@@ -9,6 +9,7 @@ pub mod Items
 pub mod Lengths
 pub mod Lists
 pub mod Places
+pub mod Pushed
 pub mod Routes
 pub mod Theorem
 pub mod Tiled

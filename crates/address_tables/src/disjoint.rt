@@ -22,7 +22,7 @@ fn push_prefixes<'a, A: Address, V>(
 ) -> Result<(), AllocError>
     requires { IsSpan A.WIDTH span }
     ensures { OnOk result (entries.new.items ≡ entries.old.items
-        ++ valued value (all_tiles A.at A.WIDTH span.0 (span.1 + 1))) }
+        ++ valued value.entry (all_tiles A.at A.WIDTH span.0 (span.1 + 1))) }
 {
     let mut part = Some(span);
     while let Some((first, last)) = part {
