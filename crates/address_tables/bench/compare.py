@@ -1,15 +1,20 @@
 """Makes the shortest and the disjoint prefixes of the tables of Debian's tor-geoipdb beside a program in Python of the
 same algorithm: compare.py PROGRAM [FOLDER], called by compare.sh. FOLDER has the tables, else /usr/share/tor.
 
-Prints for each family how many entries each makes, and the seconds of each call. Both have to make as many.
+Prints for each family how many entries each makes, the processor time of each call, the least of some runs, and the
+memory. Both have to make as many.
 """
 
 import ipaddress
+import os
 import pathlib
 import subprocess
 import sys
+import tempfile
 import time
 
+# How often each call is made; the least counts.
+RUNS = 5
 WIDTHS = {4: 32, 6: 128}
 
 
@@ -70,28 +75,42 @@ def shortest(node, above):
     return count if low is None else count + shortest(low, label) + shortest(high, label)
 
 
-def told(program, family, path):
-    """Returns the seconds and the number of entries of each call of the program."""
-    ran = subprocess.run([program, str(family)], stdin=open(path), capture_output=True, check=True, text=True)
-    lines = [line.split() for line in ran.stdout.splitlines()]
-    return {call: (int(nanoseconds) / 1e9, int(count)) for nanoseconds, count, call in lines}
+def ran(program, family, call, path):
+    """Returns what the program prints of a call, and its processor time in seconds and its memory in megabytes."""
+    best = None
+    for _ in range(RUNS):
+        with open(path) as table, tempfile.TemporaryFile() as out:
+            child = subprocess.Popen([program, str(family), call], stdin=table, stdout=out)
+            _, status, used = os.wait4(child.pid, 0)
+            child.returncode = os.waitstatus_to_exitcode(status)
+            out.seek(0)
+            count = int(out.read())
+        seconds = used.ru_utime + used.ru_stime
+        best = min(best or (count, seconds, used.ru_maxrss / 1000), (count, seconds, used.ru_maxrss / 1000))
+    return best
+
+
+def timed(call, *given):
+    began = time.process_time()
+    found = call(*given)
+    return found, time.process_time() - began
 
 
 def main():
     program, folder = sys.argv[1], pathlib.Path((sys.argv[2:] + ["/usr/share/tor"])[0])
     sys.setrecursionlimit(10000)
     for family, name in (4, "geoip"), (6, "geoip6"):
-        calls = told(program, family, folder / name)
-        blocks = spans(folder / name, WIDTHS[family])
-        begun = time.process_time()
-        few = shortest(gather(blocks, WIDTHS[family]), None)
-        seconds = time.process_time() - begun
-        begun = time.process_time()
-        apart = disjoint(blocks, WIDTHS[family])
-        others = time.process_time() - begun
-        print(f"IPv{family}: {len(blocks)} ranges; shortest {few}, {seconds:.2f} s; disjoint {apart}, {others:.2f} s; program {calls}")
-        assert calls["ranges"][1] == len(blocks) and calls["same"][1] == 1
-        assert calls["shortest"][1] == few and calls["disjoint"][1] == apart
+        path = folder / name
+        count, load, _ = ran(program, family, "load", path)
+        blocks = spans(path, WIDTHS[family])
+        few, slow = timed(lambda: shortest(gather(blocks, WIDTHS[family]), None))
+        apart, also = timed(disjoint, blocks, WIDTHS[family])
+        print(f"IPv{family}: {count} ranges, read in {load:.2f} s; Python: shortest {few} in {slow:.2f} s, disjoint {apart} in {also:.2f} s")
+        assert count == len(blocks)
+        for call, wanted in ("shortest", few), ("disjoint_prefixes", apart), ("from_prefixes", count):
+            made, seconds, memory = ran(program, family, call, path)
+            print(f"  {call}: {made} in {seconds - load:.2f} s, {memory:.0f} MB with the table and its text")
+            assert made == wanted
 
 
 main()

@@ -130,3 +130,11 @@ module _ {A V : Type 0} {order : KeyOrder A} {number : A → ℕ} {at : ℕ → 
       let binds : Binds order same_value items a (route number t a) =
       subst (λ x. Binds order same_value items a (option_map (λ e. e.value) x)) is (below a key) in
       record { bound = λ some. binds; free = free_by items a (route number t a) binds }
+
+-- prefixes that are at most so long are shorter than what is longer
+pub all_shorter : {A V : Type 0} (greatest past : ℕ) (t : List (Entry A V)) → greatest < past
+    → AllByRecursion (λ e. e.prefix.length ≤ greatest) t
+    → AllByRecursion (λ e. e.prefix.length < past) t
+all_shorter greatest past [] more all = tt
+all_shorter greatest past (e ∷ t) more all =
+    (let h = all.0 in omega arith, all_shorter greatest past t more all.1)
