@@ -7,14 +7,14 @@
 //!   `specs/Tables.antt`
 //! - the table that prefixes with values are, each address by the longest: `src/longest.rt`
 //! - the prefixes that a table is, none of which overlap: `src/disjoint.rt`
-//! - the shortest table of prefixes there is: `src/shortest.rt`; its values and ranges as numbers:
+//! - the shortest table of prefixes there is: `src/shortest_prefixes.rt`; its values and ranges as numbers:
 //!   `src/{values,spans}.rt`, `specs/Numbers.antt`
 #![tactic(auto)]
 
 pub mod disjoint;
 pub mod entries;
 pub mod longest;
-pub mod shortest;
+pub mod shortest_prefixes;
 mod spans;
 mod values;
 
@@ -24,7 +24,7 @@ use btree_range_map::RangeMap;
 pub use disjoint::disjoint_prefixes;
 pub use entries::Entry;
 pub use longest::from_prefixes;
-pub use shortest::{shortest, shortest_with};
+pub use shortest_prefixes::{shortest, shortest_with};
 
 /// A map of addresses of one family to values.
 pub type AddressTable<A, V> = RangeMap<A, V>;

@@ -1,7 +1,7 @@
 use Rattle.std.proofs.Common.{◌<◌, length}
 use Rattle.address_tables.specs.Numbers.{IsNamed}
 use Rattle.address_tables.proofs.Lists.{every_at, zip_next}
-use Rattle.address_tables.proofs.shortest.entries_of.Goals as goal
+use Rattle.address_tables.proofs.shortest_prefixes.entries_of.Goals as goal
 use Rattle.shortest_tables.specs.Entries.{IsBlock}
 
 pub entry_of-requires-clause-block : goal.entry_of-requires-clause-block

@@ -1,6 +1,6 @@
 use Rattle.std.proofs.Common.{◌≡◌, ◌+◌, ◌-◌, ◌^◌, ◌≤◌, arith}
 use Rattle.std.proofs.Math.Pow.{pow_mono}
-use Rattle.address_tables.proofs.shortest.entry_of.Goals as goal
+use Rattle.address_tables.proofs.shortest_prefixes.entry_of.Goals as goal
 
 pub overflow_add-entry : goal.overflow_add-entry
 overflow_add-entry g c =

@@ -6,7 +6,7 @@ use Rattle.shortest_tables.specs.Entries.{AreFewest, RoutesAs}
 use Rattle.shortest_tables.specs.Numbers.{AreAscending, IsNumbered, value_at}
 use Rattle.address_tables.proofs.Items.{spans_ascend}
 use Rattle.address_tables.proofs.Theorem.{is_shortest, is_table, whole}
-use Rattle.address_tables.proofs.shortest.shortest_or.Goals as goal
+use Rattle.address_tables.proofs.shortest_prefixes.shortest_or.Goals as goal
 
 pub returns : goal.returns
 returns g c = ?
