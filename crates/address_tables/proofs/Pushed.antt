@@ -16,15 +16,17 @@ use Rattle.address_tables.specs.Tiled.{range_tiles, tiled, valued}
 use Rattle.address_tables.specs.declared.entries.Entry.{Entry}
 
 -- one prefix more with the value, of those that are left
-pub one_more : {A V : Type 0} (v : V) (p : Prefix A) (entries more : List (Entry A V))
+pub one_more : {A V : Type 0} (v : Bor V) (p : Prefix A) (entries more : List (Entry A (Bor V)))
     (left rest all : List (Prefix A)) → left ≡ p ∷ rest
     → more ≡ entries ++ record { prefix = p; value = v } ∷ []
-    → (before : List (Entry A V)) → entries ++ valued v left ≡ before ++ valued v all
-    → more ++ valued v rest ≡ before ++ valued v all
+    → (before : List (Entry A V)) → map shown entries ++ valued v.now left ≡ before ++ valued v.now all
+    → map shown more ++ valued v.now rest ≡ before ++ valued v.now all
 one_more v p entries more left rest all first pushed before is =
-    ap (λ es. es ++ valued v rest) pushed
-    ∙ append_assoc entries (record { prefix = p; value = v } ∷ []) (valued v rest)
-    ∙ ap (λ ps. entries ++ valued v ps) (sym first) ∙ is
+    ap (λ es. map shown es ++ valued v.now rest) pushed
+    ∙ ap (λ es. es ++ valued v.now rest)
+    (map-append shown entries (record { prefix = p; value = v } ∷ []))
+    ∙ append_assoc (map shown entries) (record { prefix = p; value = v.now } ∷ []) (valued v.now rest)
+    ∙ ap (λ ps. map shown entries ++ valued v.now ps) (sym first) ∙ is
 
 module _ {A : Type 0} (number : A → ℕ) (at : ℕ → A) (width : ℕ) where
   -- the numbers of the addresses of a range
@@ -38,29 +40,22 @@ module _ {A : Type 0} (number : A → ℕ) (at : ℕ → A) (width : ℕ) where
     abbrev pub HaveSpans : List (Item (AnyRange A) V) → Type 0
     HaveSpans items = AllByRecursion (λ i. HasSpan number width i.key) items
 
-    shown_valued : (v : Bor V) (ps : List (Prefix A)) → map shown (valued v ps) ≡ valued v.now ps
-    shown_valued v [] = refl
-    shown_valued v (p ∷ ps) =
-        ap (λ es. record { prefix = p; value = v.now } ∷ es) (shown_valued v ps)
-
     -- the prefixes of one range more
-    pub one_tiled : (v : Bor V) (r : AnyRange A) (entries more : List (Entry A (Bor V)))
+    pub one_tiled : (v : V) (r : AnyRange A) (entries more : List (Entry A (Bor V)))
         (left items : List (Item (AnyRange A) V)) (all : List (Entry A V))
-        → left ≡ record { key = r; value = v.now } ∷ items
-        → more ≡ entries ++ valued v (range_tiles number at width r)
+        → left ≡ record { key = r; value = v } ∷ items
+        → map shown more ≡ map shown entries ++ valued v (range_tiles number at width r)
         → map shown entries ++ tiled number at width left ≡ all
         → map shown more ++ tiled number at width items ≡ all
     one_tiled v r entries more left items all first pushed is =
-        let tiles : List (Prefix A) = range_tiles number at width r in
-        ap (λ es. map shown es ++ tiled number at width items) pushed
-        ∙ ap (λ es. es ++ tiled number at width items) (map-append shown entries (valued v tiles))
-        ∙ append_assoc (map shown entries) (map shown (valued v tiles)) (tiled number at width items)
-        ∙ ap (λ es. map shown entries ++ (es ++ tiled number at width items)) (shown_valued v tiles)
+        ap (λ es. es ++ tiled number at width items) pushed
+        ∙ append_assoc (map shown entries) (valued v (range_tiles number at width r))
+        (tiled number at width items)
         ∙ ap (λ l. map shown entries ++ tiled number at width l) (sym first)
         ∙ is
 
     module _ (same_value : V → V → Bool) (values : List V) where
-      abbrev Spans : List (Item (AnyRange A) V) → List (Span ℕ)
+      abbrev pub Spans : List (Item (AnyRange A) V) → List (Span ℕ)
       Spans items = map (numbered same_value number width values) items
 
       -- the span of one range more

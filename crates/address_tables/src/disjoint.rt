@@ -21,8 +21,8 @@ fn push_prefixes<'a, A: Address, V>(
     value: &'a V,
 ) -> Result<(), AllocError>
     requires { IsSpan A.WIDTH span }
-    ensures { OnOk result (entries.new.items ≡ entries.old.items
-        ++ valued value.entry (all_tiles A.at A.WIDTH span.0 (span.1 + 1))) }
+    ensures { OnOk result (map shown entries.new.items ≡ map shown entries.old.items
+        ++ valued value.now (all_tiles A.at A.WIDTH span.0 (span.1 + 1))) }
 {
     let mut part = Some(span);
     while let Some((first, last)) = part {
@@ -54,8 +54,8 @@ pub fn disjoint_prefixes<A: Address, V: Eq + Drop>(
         (box_items table.now) (map shown entries.items)) }
     ensures ascending { IfOk result
         (λ entries. AreAscending A.number (map shown entries.items)) }
-    ensures shortest { IfOk result (λ entries. IsShortestApart A.order A.number A.WIDTH V.eq None
-        (box_items table.now) (map shown entries.items)) }
+    ensures shortest { IfOk result (λ entries. IsShortestApart A.order A.number V.eq None
+        (box_items table.now) A.WIDTH (map shown entries.items)) }
 {
     let mut entries = Vec::new(alloc);
     let mut items = table.iter();

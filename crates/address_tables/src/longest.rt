@@ -1,6 +1,6 @@
 //! Tables made of prefixes: each address has the value of the longest prefix that holds it.
 
-ghost use Rattle.std.specs.Prelude.{◌≤◌, ◌∷◌, [], IfOk, OnOk, None};
+ghost use Rattle.std.specs.Prelude.{◌<◌, ◌∷◌, [], IfOk, OnOk, None};
 ghost use Rattle.std.specs.List.{AllByRecursion};
 ghost use Rattle.btree_range_map.specs.Holding.{box_items};
 ghost use Rattle.btree_range_map.specs.Range.{ClonesAreEqual};
@@ -13,29 +13,29 @@ use address_keys::Address;
 use btree_range_map::MapError;
 use std::alloc::Global;
 
-/// The length of the longest of the prefixes, or 0.
-fn greatest_length<A, V>(entries: &[Entry<A, V>]) -> u8
-    ensures { AllByRecursion (λ e. e.prefix.length ≤ result) entries.now }
+/// A length that all the prefixes are shorter than: 0 where there are none.
+fn past_lengths<A, V>(entries: &[Entry<A, V>]) -> u16
+    ensures { AllByRecursion (λ e. e.prefix.length < result) entries.now }
 {
-    let mut greatest = 0;
+    let mut past = 0;
     for entry in entries {
-        greatest = greatest.max(entry.prefix.length);
+        past = past.max(u16::from(entry.prefix.length) + 1);
     }
-    greatest
+    past
 }
 
 /// Binds the addresses of a prefix to its value, if it has this length.
 fn bind_if_of_length<A: Address, V: Eq + Clone + Drop>(
     table: &mut AddressTable<A, V>,
     entry: &Entry<A, V>,
-    length: u8,
+    length: u16,
 ) -> Result<(), MapError>
     requires keys { ClonesAreEqual A.is_clone A.eq }
     requires values { ClonesAreEqual V.is_clone V.eq }
     ensures { OnOk result (IsBoundOver A.order A.number V.eq length (entry.now ∷ [])
         (box_items table.old) (box_items table.new)) }
 {
-    if entry.prefix.length != length {
+    if u16::from(entry.prefix.length) != length {
         return Ok(());
     }
     table.insert(entry.prefix, entry.value.clone()?)?;
@@ -46,7 +46,7 @@ fn bind_if_of_length<A: Address, V: Eq + Clone + Drop>(
 fn bind_of_length<A: Address, V: Eq + Clone + Drop>(
     table: &mut AddressTable<A, V>,
     entries: &[Entry<A, V>],
-    length: u8,
+    length: u16,
 ) -> Result<(), MapError>
     requires keys { ClonesAreEqual A.is_clone A.eq }
     requires values { ClonesAreEqual V.is_clone V.eq }
@@ -79,9 +79,8 @@ pub fn from_prefixes<A: Address, V: Eq + Clone + Drop>(
     ensures { IfOk result (λ table. IsTableOf A.order A.number V.eq None (box_items table)
         entries.now) }
 {
-    let greatest = greatest_length(entries);
     let mut table = AddressTable::new(alloc);
-    for length in 0..=greatest {
+    for length in 0..past_lengths(entries) {
         bind_of_length(&mut table, entries, length)?;
     }
     Ok(table)

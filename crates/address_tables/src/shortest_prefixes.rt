@@ -63,8 +63,8 @@ fn shortest_or<'a, A: Address, V: Eq + Drop>(
         (λ entries. ArePrefixes A.number A.WIDTH (map shown entries.items)) }
     ensures routes { IfOk result (λ entries. IsTableOf A.order A.number V.eq
         (option_copied otherwise.entry) (box_items table.now) (map shown entries.items)) }
-    ensures shortest { IfOk result (λ entries. IsShortest A.order A.number A.WIDTH V.eq
-        (option_copied otherwise.entry) (box_items table.now) (map shown entries.items)) }
+    ensures shortest { IfOk result (λ entries. IsShortest A.order A.number V.eq
+        (option_copied otherwise.entry) (box_items table.now) A.WIDTH (map shown entries.items)) }
 {
     let values = values_of(alloc, table, otherwise)?;
     let Ok(count) = u32::try_from(values.len()) else {
@@ -100,8 +100,8 @@ pub fn shortest<A: Address, V: Eq + Drop>(
         (λ entries. ArePrefixes A.number A.WIDTH (map shown entries.items)) }
     ensures routes { IfOk result (λ entries. IsTableOf A.order A.number V.eq None
         (box_items table.now) (map shown entries.items)) }
-    ensures shortest { IfOk result (λ entries. IsShortest A.order A.number A.WIDTH V.eq None
-        (box_items table.now) (map shown entries.items)) }
+    ensures shortest { IfOk result (λ entries. IsShortest A.order A.number V.eq None
+        (box_items table.now) A.WIDTH (map shown entries.items)) }
 {
     shortest_or(alloc, table, None)
 }
@@ -125,8 +125,8 @@ pub fn shortest_with<'a, A: Address, V: Eq + Drop>(
         (λ entries. ArePrefixes A.number A.WIDTH (map shown entries.items)) }
     ensures routes { IfOk result (λ entries. IsTableOf A.order A.number V.eq (Some default.now)
         (box_items table.now) (map shown entries.items)) }
-    ensures shortest { IfOk result (λ entries. IsShortest A.order A.number A.WIDTH V.eq
-        (Some default.now) (box_items table.now) (map shown entries.items)) }
+    ensures shortest { IfOk result (λ entries. IsShortest A.order A.number V.eq
+        (Some default.now) (box_items table.now) A.WIDTH (map shown entries.items)) }
 {
     shortest_or(alloc, table, Some(default))
 }

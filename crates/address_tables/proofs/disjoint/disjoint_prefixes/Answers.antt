@@ -41,7 +41,7 @@ loop-range-preserved g c =
       spans = (subst (λ left. HaveSpans g.A.Address.number g.A.Address.at g.A.Address.WIDTH left)
           c.in-Some.ensures.steps c.loop-range.invariant.spans).1;
       made =
-          one_tiled g.A.Address.number g.A.Address.at g.A.Address.WIDTH c.in-Some.value
+          one_tiled g.A.Address.number g.A.Address.at g.A.Address.WIDTH c.in-Some.value.now
           c.in-Some.range.now _ _ _ _ _ c.in-Some.ensures.steps
           (rw c.span_of.ensures at c.in_ok-push_prefixes.ensures) c.loop-range.invariant.made;
     }

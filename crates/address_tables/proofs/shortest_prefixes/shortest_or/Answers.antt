@@ -8,5 +8,14 @@ use Rattle.address_tables.proofs.Items.{spans_ascend}
 use Rattle.address_tables.proofs.Theorem.{is_shortest, is_table, whole}
 use Rattle.address_tables.proofs.shortest_prefixes.shortest_or.Goals as goal
 
+pub shortest_table-numbered-requires-clause-spans : goal.shortest_table-numbered-requires-clause-spans
+shortest_table-numbered-requires-clause-spans g c = ?
+
+pub shortest_table-numbered-requires-clause-otherwise : goal.shortest_table-numbered-requires-clause-otherwise
+shortest_table-numbered-requires-clause-otherwise g c = ?
+
+pub entries_of-entries-requires : goal.entries_of-entries-requires
+entries_of-entries-requires g c = ?
+
 pub returns : goal.returns
 returns g c = ?

@@ -19,8 +19,8 @@ loop-range-init g c =
       made = rw (c.new-spans.ensures.items, items) refl;
     }
 
-pub span_of-requires : goal.span_of-requires
-span_of-requires g c =
+pub span_of-first-requires : goal.span_of-first-requires
+span_of-first-requires g c =
     (subst (λ left. HaveSpans g.A.Address.number g.A.Address.at g.A.Address.WIDTH left)
     c.in-Some.ensures.steps c.loop-range.invariant.spans).0
 
@@ -40,11 +40,11 @@ loop-range-preserved g c =
           (map (λ v. v.now) c.args.values.now)
           (record { key = c.in-Some.range.now; value = c.in-Some.value.now })
           (record {
-            first = c.span_of.result.0;
-            last = c.span_of.result.1;
+            first = c.span_of-first.result.0;
+            last = c.span_of-first.result.1;
             value = c.place_of-value.result;
           }) _ _ _ _ _ c.in-Some.ensures.steps c.in_ok-push.ensures.items
-          (rw (c.span_of.ensures, c.place_of-value.ensures) refl) c.loop-range.invariant.made;
+          (rw (c.span_of-first.ensures, c.place_of-value.ensures) refl) c.loop-range.invariant.made;
     }
 
 pub returns : goal.returns
