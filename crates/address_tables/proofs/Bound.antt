@@ -90,8 +90,10 @@ module _ {A V : Type 0} {order : KeyOrder A} {number : A → ℕ} {at : ℕ → 
       → IsOver length (e ∷ []) mid after → IsOver length (t ++ e ∷ []) before after
   more_over length t e before mid after is next =
       λ a key x binds.
-      rw (of_append number length t (e ∷ []) a,
-      ← over_assoc x (last_of number length t a) (last_of number length (e ∷ []) a))
+      rw (
+        of_append number length t (e ∷ []) a,
+        ← over_assoc x (last_of number length t a) (last_of number length (e ∷ []) a),
+      )
       (next a key (over x (last_of number length t a)) (is a key x binds))
 
   -- the table binds the addresses of the prefixes shorter than that

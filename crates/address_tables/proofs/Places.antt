@@ -1,8 +1,9 @@
 -- Values by their places.
-use Rattle.std.proofs.Common.{◌≡◌, ℕ, zero, suc, ◌+◌, ◌≤◌, ◌<◌, Bool, true, false, if◌then◌else◌, List, [], ◌∷◌, ◌++◌, length, length-append, Option, Some, None, refl, ap, sym, ◌∙◌, arith}
+use Rattle.std.proofs.Common.{◌≡◌, ℕ, zero, suc, ◌+◌, ◌≤◌, ◌<◌, Bool, true, false, if◌then◌else◌, List, [], ◌∷◌, ◌++◌, length, length-append, Option, Some, None, IfSome, refl, ap, sym, ◌∙◌, arith}
 use Rattle.std.specs.Cmp.{IsEquivalence}
 use Rattle.std.specs.List.{slice_get}
 use Rattle.std.specs.Option.{option_map}
+use Rattle.shortest_tables.specs.Numbers.{IsNumbered}
 use Rattle.address_tables.specs.Numbers.{IsAmong, place}
 
 module _ {V : Type 0} (same_value : V → V → Bool) where
@@ -75,3 +76,10 @@ module _ {V : Type 0} (same_value : V → V → Bool) where
   pub at_most : (values : List V) (v : V) → place same_value values v ≤ length values
   at_most [] v = omega arith
   at_most (w ∷ values) v = at_most_by values v (same_value w v) (at_most values v)
+
+  -- the place of a value that is there, or of none, is below how many there are
+  pub numbered_other : (values : List V) (otherwise : Option V) (count : ℕ) → length values ≡ count
+      → IfSome otherwise (IsAmong same_value values)
+      → IsNumbered count (option_map (place same_value values) otherwise)
+  numbered_other values None count all among = tt
+  numbered_other values (Some v) count all among = omega arith

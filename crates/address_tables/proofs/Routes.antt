@@ -24,7 +24,7 @@ module _ {V W : Type 0} (name : V → W) where
       → pick (option_map as_other x) (option_map as_other y) ≡ option_map as_other (pick x y)
   pick_renamed None y = refl
   pick_renamed (Some e) None = refl
-  pick_renamed (Some e) (Some d) = 
+  pick_renamed (Some e) (Some d) =
       elim (shorter e.0 d.0) as (λ h. (if h then Some (as_other d) else Some (as_other e))
       ≡ option_map as_other (if h then Some d else Some e)) [ true ↦ refl | false ↦ refl ]
 

@@ -103,8 +103,11 @@ module _ {A V : Type 0} {order : KeyOrder A} {number : A → ℕ} {at : ℕ → 
   same_bits [] (r ∷ rs) blocks below named = absurd named
   same_bits (e ∷ es) [] blocks below named = absurd named
   same_bits (e ∷ es) (r ∷ rs) blocks below named =
-      rw (named_bits e r.prefix blocks.0 named.0.0, named_value e r below.0 named.0.1,
-      same_bits es rs blocks.1 below.1 named.1) refl
+      rw (
+        named_bits e r.prefix blocks.0 named.0.0,
+        named_value e r below.0 named.0.1,
+        same_bits es rs blocks.1 below.1 named.1,
+      ) refl
 
   same_length : (es : List (NumberedEntry ℕ)) (rs : List (Entry A (Bor V)))
       → AreNamed at width borrowed es rs → length (map shown rs) ≡ length es

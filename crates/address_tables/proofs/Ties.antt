@@ -167,6 +167,7 @@ module _ {X V : Type 0} (entry : X → Bits × V) where
             is = there.is;
             has = there.has;
           }
+
       here : holds (entry e).0 a ≡ true → entry e ≡ d → IsIn (e ∷ t) d a
       here h equal =
           record {
@@ -177,11 +178,13 @@ module _ {X V : Type 0} (entry : X → Bits × V) where
             is = equal;
             has = ap (λ x. holds x.0 a) (sym equal) ∙ h;
           }
+
       by_length : (longest (map entry t) a ≡ Some d → IsIn t d a) → (c : Bits × V) (ec : Bool)
           → longest (map entry t) a ≡ Some c → holds (entry e).0 a ≡ true
           → (if ec then Some c else Some (entry e)) ≡ Some d → IsIn (e ∷ t) d a
       by_length again c true found h got = later (again (found ∙ got))
       by_length again c false found h got = here h cc
+
       by_first : (longest (map entry t) a ≡ Some d → IsIn t d a)
           → (h : Bool) (found : Option (Bits × V)) → holds (entry e).0 a ≡ h
           → longest (map entry t) a ≡ found
@@ -203,9 +206,12 @@ module _ {X V : Type 0} (entry : X → Bits × V) where
         → longest (map entry (front ++ e ∷ (left ++ right))) b
         ≡ longest (map entry (front ++ e ∷ (left ++ one ∷ right))) b
     without front left right e one equal b =
-        rw (map-append entry front (e ∷ (left ++ right)),
-        map-append entry front (e ∷ (left ++ one ∷ right)),
-        map-append entry left right, map-append entry left (one ∷ right))
+        rw (
+          map-append entry front (e ∷ (left ++ right)),
+          map-append entry front (e ∷ (left ++ one ∷ right)),
+          map-append entry left right,
+          map-append entry left (one ∷ right),
+        )
         (longest_append (map entry front) (entry e ∷ (map entry left ++ map entry right)) b
         ∙ ap (λ x. pick (longest (map entry front) b) x)
         (sym (needless (map entry left) (map entry right) (entry e) (entry one) equal b))
@@ -245,6 +251,7 @@ module _ {X V : Type 0} (entry : X → Bits × V) where
         by_length d false true p q found has = refl
         by_length d false false p q found has =
             absurd (no_equals front t e d a fewest found has (grind (arith, nat_tests)))
+
         by_first : (h : Bool) (found : Option (Bits × V)) → holds (entry e).0 a ≡ h
             → longest (map entry t) a ≡ found
             → pick found (if h then Some (entry e) else None)

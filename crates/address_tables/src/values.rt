@@ -46,10 +46,7 @@ fn add<'a, V: Eq>(values: &mut Vec<&'a V>, value: &'a V) -> Result<(), AllocErro
 }
 
 /// The one value, where there is one.
-fn other_alone<'a, V: Eq>(
-    alloc: Global,
-    otherwise: Option<&'a V>,
-) -> Result<Vec<&'a V>, AllocError>
+fn other_alone<'a, V: Eq>(alloc: Global, otherwise: Option<&'a V>) -> Result<Vec<&'a V>, AllocError>
     ensures { IfOk result (λ values. IfSome (option_copied otherwise.entry)
         (IsAmong V.eq (map (λ v. v.now) values.items))) }
 {

@@ -16,8 +16,8 @@ loop-length-preserved g c =
 
 pub returns : goal.returns
 returns g c =
-    let past : c.loop-length.length ≡ c.past_lengths.result = omega arith in
-    all_below g.met.A.Address.family g.V.PartialEq.eq c.past_lengths.result c.args.entries.now
-    c.past_lengths.ensures (box_items c.loop-length.table)
+    let past : c.loop-length.length ≡ c.past_lengths-length-end.result = omega arith in
+    all_below g.met.A.Address.family g.V.PartialEq.eq c.past_lengths-length-end.result c.args.entries.now
+    c.past_lengths-length-end.ensures (box_items c.loop-length.table)
     (subst (λ n. IsBoundBelow g.met.A.Address.family g.V.PartialEq.eq n c.args.entries.now
     (box_items c.loop-length.table)) past c.loop-length.invariant)
