@@ -52,10 +52,10 @@ def offer(folder, names):
     """Puts the libraries of these crates, as far as they are kept, where checks in the workspace find them.
 
     Returns the names of those that are there then. One that a check built there is left."""
-    rt, found = toolchain(), []
+    rt, found, folder = toolchain(), [], pathlib.Path(folder).resolve()
     with taken(rt) as (crates, lacking):
         for name in names:
-            out = pathlib.Path(folder).resolve() / "crates" / name / "out" / "rlib"
+            out = folder / "crates" / name / "out" / "rlib"
             stamp = crates[name].stamp()
             is_there = (out / "stamp").exists() and (out / "stamp").read_text() == stamp
             if not is_there and name not in lacking and os.path.isdir(crates[name].rlib):

@@ -43,7 +43,7 @@ typedef enum {
     BRM_CONNECTED = 4,  /* the range meets or touches a stored one */
     BRM_OTHER_KIND = 5, /* the handle is open on another kind of collection */
     BRM_OPEN = 6,       /* the handle is open already */
-    BRM_NO_ROOM = 7,    /* the buffer is too short */
+    BRM_NO_ROOM = 7,    /* the buffer is too short, or the number too large */
     BRM_NOT_JSON = 8,   /* the text is no JSON */
     BRM_NOT_READ = 9,   /* the JSON is no collection of the kind that the handle holds */
     BRM_OCCUPIED = 10,  /* the range meets a stored one */
@@ -60,7 +60,7 @@ static inline const char *brm_status_text(brm_status status) {
     case BRM_CONNECTED: return "the range meets or touches a stored one";
     case BRM_OTHER_KIND: return "the handle is open on another kind of collection";
     case BRM_OPEN: return "the handle is open already";
-    case BRM_NO_ROOM: return "the buffer is too short";
+    case BRM_NO_ROOM: return "there is not enough room for the result";
     case BRM_NOT_JSON: return "the text is not JSON";
     case BRM_NOT_READ: return "the JSON is no collection of this kind";
     case BRM_OCCUPIED: return "the range meets a stored one";
@@ -87,6 +87,16 @@ typedef struct {
     uint32_t flags;
 } brm_range_i64;
 
+/* A key of 128 bits: high times 2^64, and low. It lies in memory as an unsigned __int128 of the compiler does. */
+typedef struct {
+    uint64_t low, high;
+} brm_u128;
+
+typedef struct {
+    brm_u128 start, end;
+    uint32_t flags;
+} brm_range_u128;
+
 /* A stored range with its value. */
 typedef struct {
     brm_range_u64 range;
@@ -97,6 +107,11 @@ typedef struct {
     brm_range_i64 range;
     uint64_t value;
 } brm_entry_i64;
+
+typedef struct {
+    brm_range_u128 range;
+    uint64_t value;
+} brm_entry_u128;
 
 /* What a key is bound to: a value, or none, and then the value is 0. */
 typedef struct {
@@ -114,6 +129,11 @@ typedef struct {
     brm_range_i64 range;
     brm_binding binding;
 } brm_piece_i64;
+
+typedef struct {
+    brm_range_u128 range;
+    brm_binding binding;
+} brm_piece_u128;
 
 /* A number of keys: high times 2^64, and low. */
 typedef struct {
@@ -237,6 +257,58 @@ brm_status brm_set_i64_gaps(const brm_handle *set, const brm_range_i64 *range, b
 /* Adds the keys of each of so many ranges, one after the other, and tells of how many, also with BRM_NO_MEMORY. */
 brm_status brm_set_i64_insert_many(brm_handle *set, const brm_range_i64 *ranges, size_t size, size_t *count);
 
+/* Maps of keys of 128 bits to uint64_t values. */
+brm_status brm_map_u128_create(brm_handle *map);
+brm_status brm_map_u128_insert(brm_handle *map, const brm_range_u128 *range, uint64_t value);
+brm_status brm_map_u128_insert_disconnected(brm_handle *map, const brm_range_u128 *range, uint64_t value);
+brm_status brm_map_u128_try_insert(brm_handle *map, const brm_range_u128 *range, uint64_t value);
+brm_status brm_map_u128_remove(brm_handle *map, const brm_range_u128 *range);
+brm_status brm_map_u128_get(const brm_handle *map, const brm_u128 *key, brm_entry_u128 *entry);
+brm_status brm_map_u128_contains(const brm_handle *map, const brm_u128 *key);
+brm_status brm_map_u128_intersects(const brm_handle *map, const brm_range_u128 *range);
+brm_status brm_map_u128_first(const brm_handle *map, brm_entry_u128 *entry);
+brm_status brm_map_u128_last(const brm_handle *map, brm_entry_u128 *entry);
+brm_status brm_map_u128_next(const brm_handle *map, const brm_u128 *key, brm_entry_u128 *entry);
+brm_status brm_map_u128_previous(const brm_handle *map, const brm_u128 *key, brm_entry_u128 *entry);
+brm_status brm_map_u128_pop_first(brm_handle *map, brm_entry_u128 *entry);
+brm_status brm_map_u128_pop_last(brm_handle *map, brm_entry_u128 *entry);
+/* Write the stored ranges from the key on in ascending order, or those up to it in descending order, as many as the array
+ * takes. Fewer than that are written where there are no more. */
+brm_status brm_map_u128_read(const brm_handle *map, const brm_u128 *from, brm_entry_u128 *entries, size_t capacity, size_t *count);
+brm_status brm_map_u128_read_back(const brm_handle *map, const brm_u128 *upto, brm_entry_u128 *entries, size_t capacity, size_t *count);
+/* Write the stored ranges that meet the range, whole, or the parts of it that hold no bound key, in the same way. */
+brm_status brm_map_u128_overlapping(const brm_handle *map, const brm_range_u128 *range, brm_entry_u128 *entries, size_t capacity, size_t *count);
+brm_status brm_map_u128_gaps(const brm_handle *map, const brm_range_u128 *range, brm_range_u128 *ranges, size_t capacity, size_t *count);
+/* Writes the parts of the range in the same way, each as wide as it goes, with what it is bound to: a value, or none. */
+brm_status brm_map_u128_pieces(const brm_handle *map, const brm_range_u128 *range, brm_piece_u128 *pieces, size_t capacity, size_t *count);
+/* Binds the keys of each of so many ranges to the value beside it, one after the other, and tells of how many, also with
+ * BRM_NO_MEMORY: those before the one for which memory ran out stay bound. */
+brm_status brm_map_u128_insert_many(brm_handle *map, const brm_entry_u128 *entries, size_t size, size_t *count);
+
+/* Sets of keys of 128 bits. */
+brm_status brm_set_u128_create(brm_handle *set);
+brm_status brm_set_u128_insert(brm_handle *set, const brm_range_u128 *range);
+brm_status brm_set_u128_try_insert(brm_handle *set, const brm_range_u128 *range);
+brm_status brm_set_u128_remove(brm_handle *set, const brm_range_u128 *range);
+brm_status brm_set_u128_get(const brm_handle *set, const brm_u128 *key, brm_range_u128 *range);
+brm_status brm_set_u128_contains(const brm_handle *set, const brm_u128 *key);
+brm_status brm_set_u128_intersects(const brm_handle *set, const brm_range_u128 *range);
+brm_status brm_set_u128_first(const brm_handle *set, brm_range_u128 *range);
+brm_status brm_set_u128_last(const brm_handle *set, brm_range_u128 *range);
+brm_status brm_set_u128_next(const brm_handle *set, const brm_u128 *key, brm_range_u128 *range);
+brm_status brm_set_u128_previous(const brm_handle *set, const brm_u128 *key, brm_range_u128 *range);
+brm_status brm_set_u128_pop_first(brm_handle *set, brm_range_u128 *range);
+brm_status brm_set_u128_pop_last(brm_handle *set, brm_range_u128 *range);
+/* Write the stored ranges from the key on in ascending order, or those up to it in descending order, as many as the array
+ * takes. Fewer than that are written where there are no more. */
+brm_status brm_set_u128_read(const brm_handle *set, const brm_u128 *from, brm_range_u128 *entries, size_t capacity, size_t *count);
+brm_status brm_set_u128_read_back(const brm_handle *set, const brm_u128 *upto, brm_range_u128 *entries, size_t capacity, size_t *count);
+/* Write the stored ranges that meet the range, whole, or the parts of it that hold no key of the set, in the same way. */
+brm_status brm_set_u128_overlapping(const brm_handle *set, const brm_range_u128 *range, brm_range_u128 *entries, size_t capacity, size_t *count);
+brm_status brm_set_u128_gaps(const brm_handle *set, const brm_range_u128 *range, brm_range_u128 *ranges, size_t capacity, size_t *count);
+/* Adds the keys of each of so many ranges, one after the other, and tells of how many, also with BRM_NO_MEMORY. */
+brm_status brm_set_u128_insert_many(brm_handle *set, const brm_range_u128 *ranges, size_t size, size_t *count);
+
 /* The calls that the functions below are made of, which stand in the library: their proof is of handles that are apart. Call the
  * functions below instead; these are for bindings of other languages, and owe that no handle is given twice in one call. */
 void brm_raw_destroy(brm_handle *handle);
@@ -246,8 +318,10 @@ brm_status brm_raw_map_u64_get_many(const brm_handle *map, const uint64_t *keys,
 brm_status brm_raw_map_i64_get_many(const brm_handle *map, const int64_t *keys, size_t size, brm_binding *bindings, size_t capacity);
 brm_status brm_raw_map_u64_split_off(brm_handle *map, uint64_t key, brm_handle *other);
 brm_status brm_raw_map_i64_split_off(brm_handle *map, int64_t key, brm_handle *other);
+brm_status brm_raw_map_u128_split_off(brm_handle *map, const brm_u128 *key, brm_handle *other);
 brm_status brm_raw_map_u64_append(brm_handle *map, brm_handle *other);
 brm_status brm_raw_map_i64_append(brm_handle *map, brm_handle *other);
+brm_status brm_raw_map_u128_append(brm_handle *map, brm_handle *other);
 brm_status brm_raw_overlay(const brm_handle *map, const brm_handle *other, brm_handle *made);
 brm_status brm_raw_restrict(const brm_handle *map, const brm_handle *keys, brm_handle *made);
 brm_status brm_raw_without(const brm_handle *map, const brm_handle *keys, brm_handle *made);
@@ -285,6 +359,18 @@ static inline brm_status brm_map_i64_get_many(const brm_handle *map, const int64
     return brm_raw_map_i64_get_many(map, keys, size, bindings, size);
 }
 
+static inline brm_status brm_map_u128_get_many(const brm_handle *map, const brm_u128 *keys, brm_binding *bindings, size_t size) {
+    brm_u128 zero = {0, 0};
+    brm_status status = brm_map_u128_contains(map, &zero);
+    if (status != BRM_DONE && status != BRM_NONE) return status;
+    for (size_t i = 0; i < size; i++) {
+        brm_entry_u128 found = {{{0, 0}, {0, 0}, 0}, 0};
+        bindings[i].is_bound = brm_map_u128_get(map, &keys[i], &found) == BRM_DONE;
+        bindings[i].value = found.value;
+    }
+    return BRM_DONE;
+}
+
 /* Open the closed handle `made` on what the map binds from the key on, the key with it, and take that from the map. */
 static inline brm_status brm_map_u64_split_off(brm_handle *map, uint64_t key, brm_handle *made) {
     if (made->is_open) return BRM_OPEN;
@@ -306,6 +392,16 @@ static inline brm_status brm_map_i64_split_off(brm_handle *map, int64_t key, brm
     return status;
 }
 
+static inline brm_status brm_map_u128_split_off(brm_handle *map, const brm_u128 *key, brm_handle *made) {
+    if (made->is_open) return BRM_OPEN;
+    if (made == map) return BRM_CLOSED;
+    brm_status status = brm_map_u128_create(made);
+    if (status != BRM_DONE) return status;
+    status = brm_raw_map_u128_split_off(map, key, made);
+    if (status != BRM_DONE) brm_raw_destroy(made);
+    return status;
+}
+
 /* Move all ranges of the other map, each of which lies after all of the first, to its end, and leave the other empty. */
 static inline brm_status brm_map_u64_append(brm_handle *map, brm_handle *other) {
     if (map != other) return brm_raw_map_u64_append(map, other);
@@ -321,10 +417,20 @@ static inline brm_status brm_map_i64_append(brm_handle *map, brm_handle *other) 
     return brm_count(map) > 0 ? BRM_OUT_OF_ORDER : BRM_DONE;
 }
 
-/* What is wrong with a map of either kind that is given twice, or BRM_DONE. */
+static inline brm_status brm_map_u128_append(brm_handle *map, brm_handle *other) {
+    if (map != other) return brm_raw_map_u128_append(map, other);
+    brm_u128 zero = {0, 0};
+    brm_status found = brm_map_u128_contains(map, &zero);
+    if (found != BRM_DONE && found != BRM_NONE) return found;
+    return brm_count(map) > 0 ? BRM_OUT_OF_ORDER : BRM_DONE;
+}
+
+/* What is wrong with a map of any kind that is given twice, or BRM_DONE. */
 static inline brm_status brm_map_twice(const brm_handle *map) {
+    brm_u128 zero = {0, 0};
     brm_status found = brm_map_u64_contains(map, 0);
     if (found == BRM_OTHER_KIND) found = brm_map_i64_contains(map, 0);
+    if (found == BRM_OTHER_KIND) found = brm_map_u128_contains(map, &zero);
     return found == BRM_NONE ? BRM_DONE : found;
 }
 
@@ -365,6 +471,12 @@ static inline brm_status brm_sets_asked(brm_status found, const brm_handle *set,
 /* The same where the call opens the handle `made`. */
 static inline brm_status brm_sets_put_together(brm_status found, const brm_handle *set, const brm_handle *other, const brm_handle *made) {
     return made->is_open ? BRM_OPEN : brm_sets_asked(found, set, other);
+}
+
+/* What `contains` of a set of keys of 128 bits answers. */
+static inline brm_status brm_set_u128_kind(const brm_handle *set) {
+    brm_u128 zero = {0, 0};
+    return brm_set_u128_contains(set, &zero);
 }
 
 /* Open the closed handle `made` on the keys of either set, of both, of the first alone, or of just one of them. The sets
@@ -417,6 +529,30 @@ static inline brm_status brm_set_i64_symmetric_difference(const brm_handle *set,
     return set == other ? brm_set_i64_create(made) : brm_raw_set_symmetric_difference(set, other, made);
 }
 
+static inline brm_status brm_set_u128_union(const brm_handle *set, const brm_handle *other, brm_handle *made) {
+    brm_status status = brm_sets_put_together(brm_set_u128_kind(set), set, other, made);
+    if (status != BRM_DONE) return status;
+    return set == other ? brm_raw_clone(set, made) : brm_raw_set_union(set, other, made);
+}
+
+static inline brm_status brm_set_u128_intersection(const brm_handle *set, const brm_handle *other, brm_handle *made) {
+    brm_status status = brm_sets_put_together(brm_set_u128_kind(set), set, other, made);
+    if (status != BRM_DONE) return status;
+    return set == other ? brm_raw_clone(set, made) : brm_raw_set_intersection(set, other, made);
+}
+
+static inline brm_status brm_set_u128_difference(const brm_handle *set, const brm_handle *other, brm_handle *made) {
+    brm_status status = brm_sets_put_together(brm_set_u128_kind(set), set, other, made);
+    if (status != BRM_DONE) return status;
+    return set == other ? brm_set_u128_create(made) : brm_raw_set_difference(set, other, made);
+}
+
+static inline brm_status brm_set_u128_symmetric_difference(const brm_handle *set, const brm_handle *other, brm_handle *made) {
+    brm_status status = brm_sets_put_together(brm_set_u128_kind(set), set, other, made);
+    if (status != BRM_DONE) return status;
+    return set == other ? brm_set_u128_create(made) : brm_raw_set_symmetric_difference(set, other, made);
+}
+
 /* Open the closed handle `made` on the keys that the set does not hold. */
 static inline brm_status brm_set_u64_complement(const brm_handle *set, brm_handle *made) {
     brm_status status = brm_sets_put_together(brm_set_u64_contains(set, 0), set, set, made);
@@ -428,6 +564,69 @@ static inline brm_status brm_set_i64_complement(const brm_handle *set, brm_handl
     return status == BRM_DONE ? brm_raw_set_complement(set, made) : status;
 }
 
+static inline brm_status brm_set_u128_complement(const brm_handle *set, brm_handle *made) {
+    brm_status status = brm_sets_put_together(brm_set_u128_kind(set), set, set, made);
+    return status == BRM_DONE ? brm_raw_set_complement(set, made) : status;
+}
+
+/* Keys of 32 bits, as addresses of version 4 of the internet protocol, are kept in maps and sets of uint64_t keys. This is a range
+ * of them as those take it: the least or the greatest such key stands in the place of no end. */
+static inline brm_range_u64 brm_range_of_u32(uint32_t start, uint32_t end, uint32_t flags) {
+    brm_range_u64 range = {start, end, flags & (BRM_START_EXCLUDED | BRM_END_EXCLUDED)};
+    if (flags & BRM_START_UNBOUNDED) range.start = 0, range.flags &= ~(uint32_t)BRM_START_EXCLUDED;
+    if (flags & BRM_END_UNBOUNDED) range.end = UINT32_MAX, range.flags &= ~(uint32_t)BRM_END_EXCLUDED;
+    return range;
+}
+
+/* Opens the closed handle `made` on the keys of 32 bits that the set does not hold. */
+static inline brm_status brm_set_u32_complement(const brm_handle *set, brm_handle *made) {
+    brm_range_u64 all = {0, UINT32_MAX, 0};
+    brm_handle whole = BRM_HANDLE_CLOSED;
+    brm_status status = brm_sets_put_together(brm_set_u64_contains(set, 0), set, set, made);
+    if (status == BRM_DONE) status = brm_set_u64_create(&whole);
+    if (status == BRM_DONE) status = brm_set_u64_insert(&whole, &all);
+    if (status == BRM_DONE) status = brm_raw_set_difference(&whole, set, made);
+    brm_raw_destroy(&whole);
+    return status;
+}
+
+/* Whether each key of the set is in the other; whether no key is in both. */
+static inline brm_status brm_set_u64_is_subset(const brm_handle *set, const brm_handle *other) {
+    brm_status status = brm_sets_asked(brm_set_u64_contains(set, 0), set, other);
+    return status == BRM_DONE && set != other ? brm_raw_set_is_subset(set, other) : status;
+}
+
+static inline brm_status brm_set_u64_is_disjoint(const brm_handle *set, const brm_handle *other) {
+    brm_status status = brm_sets_asked(brm_set_u64_contains(set, 0), set, other);
+    if (status != BRM_DONE) return status;
+    if (set != other) return brm_raw_set_is_disjoint(set, other);
+    return brm_count(set) > 0 ? BRM_NONE : BRM_DONE;
+}
+
+static inline brm_status brm_set_i64_is_subset(const brm_handle *set, const brm_handle *other) {
+    brm_status status = brm_sets_asked(brm_set_i64_contains(set, 0), set, other);
+    return status == BRM_DONE && set != other ? brm_raw_set_is_subset(set, other) : status;
+}
+
+static inline brm_status brm_set_i64_is_disjoint(const brm_handle *set, const brm_handle *other) {
+    brm_status status = brm_sets_asked(brm_set_i64_contains(set, 0), set, other);
+    if (status != BRM_DONE) return status;
+    if (set != other) return brm_raw_set_is_disjoint(set, other);
+    return brm_count(set) > 0 ? BRM_NONE : BRM_DONE;
+}
+
+static inline brm_status brm_set_u128_is_subset(const brm_handle *set, const brm_handle *other) {
+    brm_status status = brm_sets_asked(brm_set_u128_kind(set), set, other);
+    return status == BRM_DONE && set != other ? brm_raw_set_is_subset(set, other) : status;
+}
+
+static inline brm_status brm_set_u128_is_disjoint(const brm_handle *set, const brm_handle *other) {
+    brm_status status = brm_sets_asked(brm_set_u128_kind(set), set, other);
+    if (status != BRM_DONE) return status;
+    if (set != other) return brm_raw_set_is_disjoint(set, other);
+    return brm_count(set) > 0 ? BRM_NONE : BRM_DONE;
+}
+
 /* A function of the caller's: what the keys of a part are bound to afterwards, of what they are bound to, in one map or in two. The
  * last word is the caller's own. It changes no map. */
 typedef brm_binding (*brm_change)(brm_binding bound, void *with);
@@ -437,11 +636,13 @@ typedef brm_binding (*brm_merge)(brm_binding bound, brm_binding other, void *wit
  * order. Of BRM_NO_MEMORY the range becomes that part for which there was none, with all behind it: what lies before has changed. */
 static inline brm_status brm_map_u64_update(brm_handle *map, brm_range_u64 *range, brm_change change, void *with);
 static inline brm_status brm_map_i64_update(brm_handle *map, brm_range_i64 *range, brm_change change, void *with);
+static inline brm_status brm_map_u128_update(brm_handle *map, brm_range_u128 *range, brm_change change, void *with);
 
 /* Open the closed handle `made` on a map that binds the keys of each part as the function says of what two maps of one kind bind
  * them to. It is not asked of keys that neither binds. */
 static inline brm_status brm_map_u64_merge_with(const brm_handle *map, const brm_handle *other, brm_handle *made, brm_merge merge, void *with);
 static inline brm_status brm_map_i64_merge_with(const brm_handle *map, const brm_handle *other, brm_handle *made, brm_merge merge, void *with);
+static inline brm_status brm_map_u128_merge_with(const brm_handle *map, const brm_handle *other, brm_handle *made, brm_merge merge, void *with);
 
 #define BRM_CHANGES_OF(KIND)                                                                                              \
     /* Makes the range what lies past a part of it, and tells whether something does. */                                  \
@@ -512,52 +713,87 @@ static inline brm_status brm_map_i64_merge_with(const brm_handle *map, const brm
 
 BRM_CHANGES_OF(u64)
 BRM_CHANGES_OF(i64)
+BRM_CHANGES_OF(u128)
 #undef BRM_CHANGES_OF
 
-/* Keys of 32 bits, as addresses of version 4 of the internet protocol, are kept in maps and sets of uint64_t keys. This is a range
- * of them as those take it: the least or the greatest such key stands in the place of no end. */
-static inline brm_range_u64 brm_range_of_u32(uint32_t start, uint32_t end, uint32_t flags) {
-    brm_range_u64 range = {start, end, flags & (BRM_START_EXCLUDED | BRM_END_EXCLUDED)};
-    if (flags & BRM_START_UNBOUNDED) range.start = 0, range.flags &= ~(uint32_t)BRM_START_EXCLUDED;
-    if (flags & BRM_END_UNBOUNDED) range.end = UINT32_MAX, range.flags &= ~(uint32_t)BRM_END_EXCLUDED;
-    return range;
+/* A key of two words, of the 16 bytes of an address or a UUID, and these of a key: the first byte is the highest. */
+static inline brm_u128 brm_u128_of(uint64_t high, uint64_t low) {
+    brm_u128 key = {low, high};
+    return key;
 }
 
-/* Opens the closed handle `made` on the keys of 32 bits that the set does not hold. */
-static inline brm_status brm_set_u32_complement(const brm_handle *set, brm_handle *made) {
-    brm_range_u64 all = {0, UINT32_MAX, 0};
-    brm_handle whole = BRM_HANDLE_CLOSED;
-    brm_status status = brm_sets_put_together(brm_set_u64_contains(set, 0), set, set, made);
-    if (status == BRM_DONE) status = brm_set_u64_create(&whole);
-    if (status == BRM_DONE) status = brm_set_u64_insert(&whole, &all);
-    if (status == BRM_DONE) status = brm_raw_set_difference(&whole, set, made);
-    brm_raw_destroy(&whole);
-    return status;
+static inline brm_u128 brm_u128_of_bytes(const uint8_t bytes[16]) {
+    brm_u128 key = {0, 0};
+    for (int i = 0; i < 8; i++) key.high = key.high << 8 | bytes[i], key.low = key.low << 8 | bytes[8 + i];
+    return key;
 }
 
-/* Whether each key of the set is in the other; whether no key is in both. */
-static inline brm_status brm_set_u64_is_subset(const brm_handle *set, const brm_handle *other) {
-    brm_status status = brm_sets_asked(brm_set_u64_contains(set, 0), set, other);
-    return status == BRM_DONE && set != other ? brm_raw_set_is_subset(set, other) : status;
+static inline void brm_u128_to_bytes(brm_u128 key, uint8_t bytes[16]) {
+    for (int i = 0; i < 8; i++) bytes[i] = (uint8_t)(key.high >> (56 - 8 * i)), bytes[8 + i] = (uint8_t)(key.low >> (56 - 8 * i));
 }
 
-static inline brm_status brm_set_u64_is_disjoint(const brm_handle *set, const brm_handle *other) {
-    brm_status status = brm_sets_asked(brm_set_u64_contains(set, 0), set, other);
-    if (status != BRM_DONE) return status;
-    if (set != other) return brm_raw_set_is_disjoint(set, other);
-    return brm_count(set) > 0 ? BRM_NONE : BRM_DONE;
+/* The keys before and after, and round about at the ends. */
+static inline brm_u128 brm_u128_before(brm_u128 key) { return brm_u128_of(key.high - (key.low == 0), key.low - 1); }
+
+static inline brm_u128 brm_u128_after(brm_u128 key) { return brm_u128_of(key.high + (key.low == UINT64_MAX), key.low + 1); }
+
+static inline bool brm_u128_is_below(brm_u128 key, brm_u128 other) {
+    return key.high < other.high || (key.high == other.high && key.low < other.low);
 }
 
-static inline brm_status brm_set_i64_is_subset(const brm_handle *set, const brm_handle *other) {
-    brm_status status = brm_sets_asked(brm_set_i64_contains(set, 0), set, other);
-    return status == BRM_DONE && set != other ? brm_raw_set_is_subset(set, other) : status;
+/* The first and the last key of a range that is not empty. */
+static inline brm_u128 brm_first_u128(const brm_range_u128 *range) {
+    if (range->flags & BRM_START_UNBOUNDED) return brm_u128_of(0, 0);
+    return range->flags & BRM_START_EXCLUDED ? brm_u128_after(range->start) : range->start;
 }
 
-static inline brm_status brm_set_i64_is_disjoint(const brm_handle *set, const brm_handle *other) {
-    brm_status status = brm_sets_asked(brm_set_i64_contains(set, 0), set, other);
-    if (status != BRM_DONE) return status;
-    if (set != other) return brm_raw_set_is_disjoint(set, other);
-    return brm_count(set) > 0 ? BRM_NONE : BRM_DONE;
+static inline brm_u128 brm_last_u128(const brm_range_u128 *range) {
+    if (range->flags & BRM_END_UNBOUNDED) return brm_u128_of(UINT64_MAX, UINT64_MAX);
+    return range->flags & BRM_END_EXCLUDED ? brm_u128_before(range->end) : range->end;
+}
+
+/* Counts the keys of one more range, which is not empty, and tells whether there may be more behind it: then the key after it
+ * is written. The count of all keys, 2^128, comes round to 0. */
+static inline bool brm_count_u128(const brm_range_u128 *range, brm_key_count *count, brm_u128 *past) {
+    brm_u128 first = brm_first_u128(range);
+    *past = brm_u128_after(brm_last_u128(range));
+    uint64_t low = past->low - first.low;
+    count->high += past->high - first.high - (past->low < first.low) + (count->low + low < low);
+    count->low += low;
+    return past->high != 0 || past->low != 0;
+}
+
+/* Write how many keys there are, or answer BRM_NO_ROOM where they are all: 2^128, which two words do not say. */
+static inline brm_status brm_map_u128_len(const brm_handle *map, brm_key_count *count) {
+    brm_entry_u128 few[16];
+    brm_key_count sum = {0, 0};
+    brm_u128 from = {0, 0};
+    size_t read = 16;
+    bool is_more = true;
+    while (is_more && read == 16) {
+        brm_status status = brm_map_u128_read(map, &from, few, 16, &read);
+        if (status != BRM_DONE) return status;
+        for (size_t i = 0; i < read; i++) is_more = brm_count_u128(&few[i].range, &sum, &from);
+    }
+    if (brm_count(map) > 0 && sum.high == 0 && sum.low == 0) return BRM_NO_ROOM;
+    *count = sum;
+    return BRM_DONE;
+}
+
+static inline brm_status brm_set_u128_len(const brm_handle *set, brm_key_count *count) {
+    brm_range_u128 few[16];
+    brm_key_count sum = {0, 0};
+    brm_u128 from = {0, 0};
+    size_t read = 16;
+    bool is_more = true;
+    while (is_more && read == 16) {
+        brm_status status = brm_set_u128_read(set, &from, few, 16, &read);
+        if (status != BRM_DONE) return status;
+        for (size_t i = 0; i < read; i++) is_more = brm_count_u128(&few[i], &sum, &from);
+    }
+    if (brm_count(set) > 0 && sum.high == 0 && sum.low == 0) return BRM_NO_ROOM;
+    *count = sum;
+    return BRM_DONE;
 }
 
 #ifdef __cplusplus

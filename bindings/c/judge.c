@@ -80,18 +80,105 @@ typedef int64_t number_i64;
 #define COMPLEMENT brm_set_u32_complement
 #include "judge_kind.h"
 
+/* Keys of 128 bits as numbers of the compiler, which lie in memory as the keys of the header do, and its calls on these. */
+typedef unsigned __int128 number_w128 __attribute__((aligned(8)));
+
+typedef struct {
+    number_w128 start, end;
+    uint32_t flags;
+} brm_range_w128;
+
+typedef struct {
+    brm_range_w128 range;
+    uint64_t value;
+} brm_entry_w128;
+
+typedef struct {
+    brm_range_w128 range;
+    brm_binding binding;
+} brm_piece_w128;
+
+_Static_assert(sizeof(brm_entry_w128) == sizeof(brm_entry_u128) && sizeof(brm_piece_w128) == sizeof(brm_piece_u128), "they lie alike");
+
+#define AT(key) ((const void *)(number_w128[]){key})
+#define brm_map_w128_create brm_map_u128_create
+#define brm_map_w128_len brm_map_u128_len
+#define brm_map_w128_get(it, key, found) brm_map_u128_get(it, AT(key), (void *)(found))
+#define brm_map_w128_next(it, key, found) brm_map_u128_next(it, AT(key), (void *)(found))
+#define brm_map_w128_previous(it, key, found) brm_map_u128_previous(it, AT(key), (void *)(found))
+#define brm_map_w128_contains(it, key) brm_map_u128_contains(it, AT(key))
+#define brm_map_w128_intersects(it, range) brm_map_u128_intersects(it, (const void *)(range))
+#define brm_map_w128_remove(it, range) brm_map_u128_remove(it, (const void *)(range))
+#define brm_map_w128_first(it, found) brm_map_u128_first(it, (void *)(found))
+#define brm_map_w128_last(it, found) brm_map_u128_last(it, (void *)(found))
+#define brm_map_w128_pop_first(it, found) brm_map_u128_pop_first(it, (void *)(found))
+#define brm_map_w128_pop_last(it, found) brm_map_u128_pop_last(it, (void *)(found))
+#define brm_map_w128_read(it, key, found, room, count) brm_map_u128_read(it, AT(key), (void *)(found), room, count)
+#define brm_map_w128_read_back(it, key, found, room, count) brm_map_u128_read_back(it, AT(key), (void *)(found), room, count)
+#define brm_map_w128_overlapping(it, range, found, room, count) brm_map_u128_overlapping(it, (const void *)(range), (void *)(found), room, count)
+#define brm_map_w128_gaps(it, range, found, room, count) brm_map_u128_gaps(it, (const void *)(range), (void *)(found), room, count)
+#define brm_map_w128_pieces(it, range, found, room, count) brm_map_u128_pieces(it, (const void *)(range), (void *)(found), room, count)
+#define brm_map_w128_insert_many(it, given, size, count) brm_map_u128_insert_many(it, (const void *)(given), size, count)
+#define brm_map_w128_insert(it, range, value) brm_map_u128_insert(it, (const void *)(range), value)
+#define brm_map_w128_try_insert(it, range, value) brm_map_u128_try_insert(it, (const void *)(range), value)
+#define brm_map_w128_insert_disconnected(it, range, value) brm_map_u128_insert_disconnected(it, (const void *)(range), value)
+#define brm_map_w128_get_many(it, keys, bound, size) brm_map_u128_get_many(it, (const void *)(keys), bound, size)
+#define brm_map_w128_split_off(it, key, made) brm_map_u128_split_off(it, AT(key), made)
+#define brm_map_w128_append brm_map_u128_append
+#define brm_map_w128_merge_with brm_map_u128_merge_with
+#define brm_map_w128_update(it, range, change, with) brm_map_u128_update(it, (void *)(range), change, with)
+#define brm_set_w128_create brm_set_u128_create
+#define brm_set_w128_len brm_set_u128_len
+#define brm_set_w128_get(it, key, found) brm_set_u128_get(it, AT(key), (void *)(found))
+#define brm_set_w128_next(it, key, found) brm_set_u128_next(it, AT(key), (void *)(found))
+#define brm_set_w128_previous(it, key, found) brm_set_u128_previous(it, AT(key), (void *)(found))
+#define brm_set_w128_contains(it, key) brm_set_u128_contains(it, AT(key))
+#define brm_set_w128_intersects(it, range) brm_set_u128_intersects(it, (const void *)(range))
+#define brm_set_w128_remove(it, range) brm_set_u128_remove(it, (const void *)(range))
+#define brm_set_w128_first(it, found) brm_set_u128_first(it, (void *)(found))
+#define brm_set_w128_last(it, found) brm_set_u128_last(it, (void *)(found))
+#define brm_set_w128_pop_first(it, found) brm_set_u128_pop_first(it, (void *)(found))
+#define brm_set_w128_pop_last(it, found) brm_set_u128_pop_last(it, (void *)(found))
+#define brm_set_w128_read(it, key, found, room, count) brm_set_u128_read(it, AT(key), (void *)(found), room, count)
+#define brm_set_w128_read_back(it, key, found, room, count) brm_set_u128_read_back(it, AT(key), (void *)(found), room, count)
+#define brm_set_w128_overlapping(it, range, found, room, count) brm_set_u128_overlapping(it, (const void *)(range), (void *)(found), room, count)
+#define brm_set_w128_gaps(it, range, found, room, count) brm_set_u128_gaps(it, (const void *)(range), (void *)(found), room, count)
+#define brm_set_w128_insert_many(it, given, size, count) brm_set_u128_insert_many(it, (const void *)(given), size, count)
+#define brm_set_w128_insert(it, range) brm_set_u128_insert(it, (const void *)(range))
+#define brm_set_w128_try_insert(it, range) brm_set_u128_try_insert(it, (const void *)(range))
+#define brm_set_w128_union brm_set_u128_union
+#define brm_set_w128_intersection brm_set_u128_intersection
+#define brm_set_w128_difference brm_set_u128_difference
+#define brm_set_w128_symmetric_difference brm_set_u128_symmetric_difference
+#define brm_set_w128_complement brm_set_u128_complement
+#define brm_set_w128_is_subset brm_set_u128_is_subset
+#define brm_set_w128_is_disjoint brm_set_u128_is_disjoint
+
+#define KEY number_w128
+#define SUFFIX u128
+#define LEAST 0
+#define GREATEST (~(number_w128)0)
+#define MIDDLE ((number_w128)1 << 64)
+#define CALLED w128
+#define GIVEN(range) range
+#define COMPLEMENT brm_set_u128_complement
+#include "judge_kind.h"
+
 int main(void) {
     const char *given = getenv("RANGE_MAP_CALLS");
-    long calls = (given ? atol(given) : 20000) / 6 + 1;
+    long calls = (given ? atol(given) : 20000) / 8 + 1;
     make_parts_u64();
     make_parts_i64();
     make_parts_u32();
+    make_parts_u128();
     judge_map_u64(calls);
     judge_set_u64(calls);
     judge_map_i64(calls);
     judge_set_i64(calls);
     judge_map_u32(calls);
     judge_set_u32(calls);
+    judge_map_u128(calls);
+    judge_set_u128(calls);
     printf("judge: %s\n", failures ? "FAILED" : "passed");
     return failures != 0;
 }

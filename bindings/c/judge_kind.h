@@ -114,18 +114,14 @@ static bool NAME(set_holds)(const brm_handle *set, const int *bound) {
     return true;
 }
 
-/* How many keys there are in the runs, in two words. */
-static brm_key_count NAME(keys)(const int *bound) {
-    brm_key_count sum = {0, 0};
-    for (int i = 0; i < NAME(count); i++) {
-        uint64_t more = bound[i] ? (uint64_t)NAME(parts)[i].last - (uint64_t)NAME(parts)[i].first : 0;
-        for (int turn = 0; bound[i] && turn < 2; turn++) {
-            uint64_t add = turn ? 1 : more;
-            sum.high += sum.low + add < add;
-            sum.low += add;
-        }
-    }
-    return sum;
+/* Whether the call has counted the keys, or has refused to where they are as many as two words do not say. */
+static bool NAME(counts)(const int *bound, brm_status status, brm_key_count told) {
+    unsigned __int128 sum = 0;
+    bool is_any = false;
+    for (int i = 0; i < NAME(count); i++)
+        if (bound[i]) sum += (unsigned __int128)NAME(parts)[i].last - (unsigned __int128)NAME(parts)[i].first + 1, is_any = true;
+    if (is_any && sum == 0) return status == BRM_NO_ROOM && told.high == 9 && told.low == 9;
+    return status == BRM_DONE && told.high == (uint64_t)(sum >> 64) && told.low == (uint64_t)sum;
 }
 
 static void NAME(unbind_run)(int *bound, NAME(run) run) {
@@ -299,7 +295,7 @@ static void NAME(judge_map)(long calls) {
             break;
         }
         default: {
-            brm_key_count length = {9, 9}, keys = NAME(keys)(bound);
+            brm_key_count length = {9, 9};
             int next = -1, previous = -1, held = -1;
             count = NAME(join)(bound, 0, NAME(count), false, runs);
             for (int i = count - 1; i >= 0; i--) next = runs[i].last >= key ? i : next;
@@ -312,7 +308,8 @@ static void NAME(judge_map)(long calls) {
             EXPECT(MAP(last)(&map, &entry) == (count ? BRM_DONE : BRM_NONE) && (!count || NAME(is_run)(entry, runs[count - 1])));
             EXPECT(MAP(contains)(&map, key) == (bound[part] ? BRM_DONE : BRM_NONE));
             EXPECT(MAP(intersects)(&map, &range) == (is_free ? BRM_NONE : BRM_DONE));
-            EXPECT(MAP(len)(&map, &length) == BRM_DONE && length.high == keys.high && length.low == keys.low);
+            brm_status counted = MAP(len)(&map, &length);
+            EXPECT(NAME(counts)(bound, counted, length));
         }
         }
         EXPECT(NAME(holds)(&map, bound));
@@ -407,7 +404,7 @@ static void NAME(judge_set)(long calls) {
             break;
         }
         default: {
-            brm_key_count length = {9, 9}, keys = NAME(keys)(bound);
+            brm_key_count length = {9, 9};
             int next = -1, previous = -1, held = -1;
             count = NAME(join)(bound, 0, NAME(count), false, runs);
             for (int i = count - 1; i >= 0; i--) next = runs[i].last >= key ? i : next;
@@ -422,7 +419,8 @@ static void NAME(judge_set)(long calls) {
 #undef ASKED
             EXPECT(SET(contains)(&set, key) == (bound[part] ? BRM_DONE : BRM_NONE));
             EXPECT(SET(intersects)(&set, &range) == (is_free ? BRM_NONE : BRM_DONE));
-            EXPECT(SET(len)(&set, &length) == BRM_DONE && length.high == keys.high && length.low == keys.low);
+            brm_status counted = SET(len)(&set, &length);
+            EXPECT(NAME(counts)(bound, counted, length));
         }
         }
         EXPECT(NAME(set_holds)(&set, bound));

@@ -683,7 +683,7 @@ static void sets_of_two_kinds(void) {
 
 static void status_texts(void) {
     for (int i = BRM_DONE; i <= BRM_OUT_OF_ORDER; i++) EXPECT(strlen(brm_status_text((brm_status)i)) > 3);
-    EXPECT(strcmp(brm_status_text(BRM_NO_ROOM), "the buffer is too short") == 0);
+    EXPECT(strcmp(brm_status_text(BRM_NO_ROOM), "there is not enough room for the result") == 0);
 }
 
 static uint32_t load(brm_handle *handle, const char *text) {
@@ -1011,6 +1011,100 @@ static void maps_of_two(void) {
     EXPECT(brm_overlay(&map, &map, &made) == BRM_CLOSED && brm_without(&map, &map, &made) == BRM_CLOSED);
 }
 
+static bool is_key(brm_u128 key, uint64_t high, uint64_t low) { return key.high == high && key.low == low; }
+
+static void expect_closed_wide(brm_handle *map, brm_status wanted) {
+    brm_u128 key = {0, 0};
+    brm_range_u128 range = {{0, 0}, {9, 0}, 0}, set_range = range;
+    brm_entry_u128 e = {range, 7};
+    brm_piece_u128 piece = {range, {7, true}};
+    brm_key_count n = {7, 7};
+    brm_binding bound = {7, true};
+    size_t count = 77;
+    EXPECT(brm_map_u128_insert(map, &range, 1) == wanted && brm_map_u128_try_insert(map, &range, 1) == wanted);
+    EXPECT(brm_map_u128_insert_disconnected(map, &range, 1) == wanted && brm_map_u128_remove(map, &range) == wanted);
+    EXPECT(brm_map_u128_get(map, &key, &e) == wanted && brm_map_u128_contains(map, &key) == wanted);
+    EXPECT(brm_map_u128_intersects(map, &range) == wanted && brm_map_u128_len(map, &n) == wanted && n.low == 7);
+    EXPECT(brm_map_u128_first(map, &e) == wanted && brm_map_u128_last(map, &e) == wanted);
+    EXPECT(brm_map_u128_next(map, &key, &e) == wanted && brm_map_u128_previous(map, &key, &e) == wanted);
+    EXPECT(brm_map_u128_pop_first(map, &e) == wanted && brm_map_u128_pop_last(map, &e) == wanted && e.value == 7);
+    EXPECT(brm_map_u128_read(map, &key, &e, 1, &count) == wanted && brm_map_u128_read_back(map, &key, &e, 1, &count) == wanted);
+    EXPECT(brm_map_u128_overlapping(map, &range, &e, 1, &count) == wanted && brm_map_u128_gaps(map, &range, &set_range, 1, &count) == wanted);
+    EXPECT(brm_map_u128_pieces(map, &range, &piece, 1, &count) == wanted && brm_map_u128_insert_many(map, &e, 1, &count) == wanted);
+    EXPECT(brm_map_u128_get_many(map, &key, &bound, 1) == wanted && bound.value == 7 && count == 77);
+    EXPECT(brm_set_u128_insert(map, &range) == wanted && brm_set_u128_try_insert(map, &range) == wanted);
+    EXPECT(brm_set_u128_remove(map, &range) == wanted && brm_set_u128_get(map, &key, &set_range) == wanted);
+    EXPECT(brm_set_u128_contains(map, &key) == wanted && brm_set_u128_intersects(map, &range) == wanted);
+    EXPECT(brm_set_u128_len(map, &n) == wanted && brm_set_u128_first(map, &set_range) == wanted && brm_set_u128_last(map, &set_range) == wanted);
+    EXPECT(brm_set_u128_next(map, &key, &set_range) == wanted && brm_set_u128_previous(map, &key, &set_range) == wanted);
+    EXPECT(brm_set_u128_pop_first(map, &set_range) == wanted && brm_set_u128_pop_last(map, &set_range) == wanted);
+    EXPECT(brm_set_u128_read(map, &key, &set_range, 1, &count) == wanted && brm_set_u128_read_back(map, &key, &set_range, 1, &count) == wanted);
+    EXPECT(brm_set_u128_overlapping(map, &range, &set_range, 1, &count) == wanted && brm_set_u128_gaps(map, &range, &set_range, 1, &count) == wanted);
+    EXPECT(brm_set_u128_insert_many(map, &range, 1, &count) == wanted && count == 77 && n.high == 7 && is_key(set_range.end, 0, 9));
+}
+
+/* Keys of 128 bits: addresses of version 6, and both ends of all keys. */
+static void wide_maps(void) {
+    const uint8_t bytes[16] = {0x20, 0x01, 0x0d, 0xb8, 0, 0, 0, 0, 0, 0, 0, 0, 0, 0, 0, 0xff};
+    uint8_t back[16] = {0};
+    brm_u128 key = brm_u128_of_bytes(bytes), last = brm_u128_of(UINT64_MAX, UINT64_MAX), first = brm_u128_of(0, 0);
+    brm_handle map = BRM_HANDLE_CLOSED, other = BRM_HANDLE_CLOSED, made = BRM_HANDLE_CLOSED;
+    brm_entry_u128 e = {{{0, 0}, {0, 0}, 0}, 0};
+    brm_key_count n = {7, 7};
+    brm_u128_to_bytes(key, back);
+    EXPECT(is_key(key, 0x20010db800000000, 0xff) && memcmp(bytes, back, 16) == 0);
+    expect_closed_wide(&map, BRM_CLOSED);
+    EXPECT(brm_map_u64_create(&map) == BRM_DONE);
+    expect_closed_wide(&map, BRM_OTHER_KIND);
+    EXPECT(brm_overlay(&map, &other, &made) == BRM_CLOSED && brm_map_u128_create(&other) == BRM_DONE);
+    EXPECT(brm_overlay(&map, &other, &made) == BRM_OTHER_KIND && brm_equal(&map, &other) == BRM_OTHER_KIND);
+    EXPECT(brm_map_u128_append(&map, &map) == BRM_OTHER_KIND && brm_map_u128_split_off(&map, &key, &made) == BRM_OTHER_KIND);
+    brm_destroy(&map);
+    EXPECT(brm_map_u128_create(&map) == BRM_DONE && brm_map_u128_create(&map) == BRM_OPEN);
+    brm_range_u128 net = {key, brm_u128_of(key.high + 1, 0), BRM_END_EXCLUDED}, ends[] = {{first, first, 0}, {last, last, 0}};
+    EXPECT(brm_map_u128_insert(&map, &net, 5) == BRM_DONE && brm_map_u128_insert(&map, &ends[0], 1) == BRM_DONE);
+    EXPECT(brm_map_u128_insert_disconnected(&map, &ends[1], 2) == BRM_DONE && brm_count(&map) == 3);
+    EXPECT(brm_map_u128_len(&map, &n) == BRM_DONE && n.high == 0 && n.low == UINT64_MAX - 0xff + 1 + 2);
+    EXPECT(brm_map_u128_next(&map, &key, &e) == BRM_DONE && e.value == 5 && is_key(e.range.start, key.high, 0xff));
+    key = brm_u128_of(key.high + 1, 0);
+    EXPECT(brm_map_u128_next(&map, &key, &e) == BRM_DONE && e.value == 2 && is_key(e.range.start, UINT64_MAX, UINT64_MAX));
+    key = brm_u128_before(key);
+    EXPECT(brm_map_u128_get(&map, &key, &e) == BRM_DONE && is_key(e.range.end, key.high + 1, 0) && e.range.flags == BRM_END_EXCLUDED);
+    brm_range_u128 all = {last, first, BRM_START_UNBOUNDED | BRM_END_UNBOUNDED};
+    EXPECT(brm_map_u128_insert(&map, &all, 9) == BRM_DONE && brm_count(&map) == 1);
+    n.low = n.high = 7;
+    EXPECT(brm_map_u128_len(&map, &n) == BRM_NO_ROOM && n.high == 7 && n.low == 7);
+    EXPECT(brm_map_u128_remove(&map, &ends[1]) == BRM_DONE);
+    EXPECT(brm_map_u128_len(&map, &n) == BRM_DONE && n.high == UINT64_MAX && n.low == UINT64_MAX);
+    brm_destroy(&map);
+    brm_destroy(&other);
+}
+
+/* Their sets, their texts, and memory that runs out. */
+static void wide_sets(void) {
+    brm_handle set = BRM_HANDLE_CLOSED, others = BRM_HANDLE_CLOSED;
+    brm_range_u128 low = {{1, 0}, {0, 1}, 0}, high = {{0, 1}, {5, 1}, BRM_START_EXCLUDED}, found = {{0, 0}, {0, 0}, 0};
+    brm_status status = BRM_NO_MEMORY;
+    EXPECT(brm_set_u128_union(&set, &set, &others) == BRM_CLOSED && brm_set_u128_create(&set) == BRM_DONE);
+    EXPECT(brm_set_u128_insert(&set, &low) == BRM_DONE && brm_set_u128_try_insert(&set, &low) == BRM_OCCUPIED);
+    EXPECT(brm_set_u128_try_insert(&set, &high) == BRM_DONE && brm_count(&set) == 1);
+    for (long allowed = 0; status == BRM_NO_MEMORY; allowed++) {
+        granted = allowed;
+        status = brm_set_u128_complement(&set, &others);
+        granted = -1;
+        EXPECT(status == BRM_DONE || !others.is_open);
+    }
+    EXPECT(status == BRM_DONE && brm_count(&others) == 2 && brm_set_u128_is_disjoint(&set, &others) == BRM_DONE);
+    EXPECT(brm_set_u128_first(&others, &found) == BRM_DONE && is_key(brm_last_u128(&found), 0, 0));
+    EXPECT(brm_set_u128_last(&others, &found) == BRM_DONE && is_key(brm_first_u128(&found), 1, 6));
+    expect_text(&set, "[[{\"Included\":\"::1\"},{\"Included\":\"::1:0:0:0:5\"}]]");
+    EXPECT(load(&set, "[[{\"Included\":\"2001:db8::\"},\"Unbounded\"]]") == BRM_DONE);
+    EXPECT(brm_set_u128_first(&set, &found) == BRM_DONE && is_key(found.start, 0x20010db800000000, 0) && found.flags == BRM_END_UNBOUNDED);
+    EXPECT(load(&set, "[[{\"Included\":1},\"Unbounded\"]]") == BRM_NOT_READ && brm_count(&set) == 1);
+    brm_destroy(&set);
+    brm_destroy(&others);
+}
+
 /* Adds what `with` leads to, and leaves what comes to 0 free. */
 static brm_binding added(brm_binding bound, void *with) {
     brm_binding sum = {bound.value + *(const uint64_t *)with, true};
@@ -1094,6 +1188,8 @@ int main(void) {
     maps_of_two();
     status_texts();
     texts();
+    wide_maps();
+    wide_sets();
     changed_by_functions();
     printf("C: %s\n", failures ? "FAILED" : "passed");
     return failures != 0;

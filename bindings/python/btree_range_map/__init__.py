@@ -14,8 +14,8 @@
     >>> free
     RangeSet({0:10, 11:20, 30:100})
 
-A key is a whole number from 0 to 2**64 - 1, or of another kind that `keys` names: "u8" to "u64", "i8" to "i64", "char" for
-characters, "date", "datetime" and "utc" for times without and with a time zone, "ipv4", or "float". A slice `a:b` is a range
+A key is a whole number from 0 to 2**64 - 1, or of another kind that `keys` names: "u8" to "u128", "i8" to "i128", "char" for
+characters, "date", "datetime" and "utc" for times without and with a time zone, "ipv4", "ipv6", "uuid", or "float". A slice `a:b` is a range
 with its start and without its end, either of which may be left out; `Range` says any other, and a key alone is the range of
 that key. What is given back are `Range`s.
 """

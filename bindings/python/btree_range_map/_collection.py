@@ -7,6 +7,7 @@ import contextlib
 import copy as _copy
 import ctypes
 import ipaddress
+import itertools
 import json
 import operator
 import os
@@ -23,7 +24,7 @@ K = TypeVar("K")
 C = TypeVar("C", bound="Collection[Any]")
 
 #: what says a range: a slice, a `range`, a `Range`, a network of addresses or a key alone
-Keyed = Union[K, slice, range, Range[K], ipaddress.IPv4Network]
+Keyed = Union[K, slice, range, Range[K], ipaddress.IPv4Network, ipaddress.IPv6Network]
 
 _UNBOUNDED = _c.START_UNBOUNDED | _c.END_UNBOUNDED
 
@@ -198,7 +199,7 @@ class Collection(Generic[K]):
 
     def _unpacked(self, buffer: Any, count: int, form: Any) -> Read:
         """So many stored ranges of a buffer."""
-        if form is self._kind.form and count == _c.BATCH:
+        if form is self._kind.form and count == _c.BATCH and self._kind.whole_form is not None:
             words, width = self._kind.whole_form.unpack(buffer), self._kind.width
             return Read(*(words[at::width] for at in range(width)))
         return Read(*zip(*form.iter_unpack(memoryview(buffer)[: form.size * count]))) if count else Read((), (), ())
@@ -286,6 +287,9 @@ class Collection(Generic[K]):
 
     def key_count(self) -> int:
         """How many keys there are. Goes over all stored ranges."""
+        if self._kind.is_wide:
+            ends = (map(self._first_and_last, *read[:3]) for read, _ in self._batches())
+            return sum(last - first + 1 for first, last in itertools.chain.from_iterable(ends))
         length = _c.Length()
         self._call("len", length)
         return int((length.high << 64) + length.low)
@@ -351,9 +355,9 @@ class Collection(Generic[K]):
             sides: list[Any] = []
             for side, number in zip(bounds, (kind.least, kind.greatest)):
                 if side != "Unbounded":
-                    sides.append({name: kind.number(kind.of_json(key)) for name, key in side.items()})
+                    sides.append({name: kind.to_text(kind.number(kind.of_json(key))) for name, key in side.items()})
                 else:
-                    sides.append(side if kind.is_native else {"Included": number})
+                    sides.append(side if kind.is_native else {"Included": kind.to_text(number)})
             if len(bounds) != 2:
                 raise ValueError("a range has two bounds")
             return sides
@@ -362,9 +366,9 @@ class Collection(Generic[K]):
 
     def _json_of_bounds(self, bounds: Any) -> list[Any]:
         """The other way round, of the library's own text."""
-        to_json, key = self._keys.to_json, self._keys.key
+        to_json, key, of_text = self._keys.to_json, self._keys.key, self._keys.of_text
         return [
-            side if side == "Unbounded" else {name: to_json(key(number)) for name, number in side.items()}
+            side if side == "Unbounded" else {name: to_json(key(of_text(number))) for name, number in side.items()}
             for side in bounds
         ]
 
@@ -432,7 +436,7 @@ class Collection(Generic[K]):
 
     def _buffer(self, numbers: Any) -> Any:
         """The numbers of a buffer as an array of the library's; `None` where it is no buffer of whole numbers of one kind."""
-        if isinstance(numbers, (bytes, bytearray, str)) or not self._keys.is_plain:
+        if isinstance(numbers, (bytes, bytearray, str)) or not self._keys.is_plain or self._kind.is_wide:
             return None
         try:
             view = memoryview(numbers)
@@ -452,22 +456,46 @@ class Collection(Generic[K]):
     def _spans_packed(self, starts: Any, stops: Any) -> tuple[int, Any]:
         """How many ranges there are, from each start up to the stop beside it, and how they lie in memory, as words."""
         kind, code = self._keys, self._kind.key_code
+        if self._kind.is_wide:
+            return self._wide_spans_packed(list(starts), list(stops))
         firsts, lasts = self._buffer(starts), self._buffer(stops)
-        if firsts is None or lasts is None:
+        is_read = firsts is not None and lasts is not None
+        if not is_read:
             number = operator.index if kind.is_plain else kind.number
-            firsts, lasts = array.array(code, map(number, starts)), array.array(code, map(number, stops))
+            firsts, lasts = array.array(code, map(number, starts)), list(map(number, stops))
         size = len(firsts)
         if len(lasts) != size:
             raise ValueError(f"{size} starts and {len(lasts)} stops")
-        if size and not kind.is_native:
-            for number in (min(firsts), min(lasts), max(firsts), max(lasts) - 1):
+        flags = array.array("Q", [_c.END_EXCLUDED]) * size
+        # numbers of a buffer are keys of a kind that the library has, and those of other objects have been looked at
+        if size and kind.is_plain and not (is_read and kind.is_native):
+            if max(lasts) == kind.greatest + 1:
+                flags = array.array("Q", [_c.END_EXCLUDED if it <= kind.greatest else 0 for it in lasts])
+                lasts = [min(it, kind.greatest) for it in lasts]
+            for number in (min(firsts), min(lasts), max(firsts), max(lasts)):
                 kind.number(number)
         width = self._kind.width
         words = array.array("Q", bytes(8 * width * size))
         words[0::width] = array.array("Q", firsts.tobytes())
-        words[1::width] = array.array("Q", lasts.tobytes())
-        words[2::width] = array.array("Q", [_c.END_EXCLUDED]) * size
+        words[1::width] = array.array("Q", array.array(code, lasts).tobytes())
+        words[2::width] = flags
         return size, words
+
+    def _wide_spans_packed(self, starts: list[Any], stops: list[Any]) -> tuple[int, Any]:
+        """The same of keys of 128 bits."""
+        if len(stops) != len(starts):
+            raise ValueError(f"{len(starts)} starts and {len(stops)} stops")
+        pack, number, ends = self._kind.form.pack, self._keys.number, map(self._end_and_flags, stops)
+        rest = [0] * (self._kind.width - self._kind.flags_at - 1)
+        packed = b"".join([pack(number(start), *end, *rest) for start, end in zip(starts, ends)])
+        return len(starts), array.array("Q", packed)
+
+    def _end_and_flags(self, stop: Any) -> tuple[int, int]:
+        """How a range ends that goes up to the key, or to the number past the last key, which is none."""
+        kind = self._keys
+        if kind.is_plain and stop == kind.greatest + 1:
+            return kind.greatest, 0
+        return kind.number(stop), _c.END_EXCLUDED
 
     def __reduce__(self) -> Any:
         return _opened_anew, (type(self), self._keys.name), (self._items(), self._attributes())

@@ -6,10 +6,11 @@ import datetime
 import ipaddress
 import operator
 import struct
+import uuid
 from typing import Any, Callable, Literal
 
 #: the names of kinds, by the types of their keys
-IntegerKind = Literal["u8", "u16", "u32", "u64", "i8", "i16", "i32", "i64"]
+IntegerKind = Literal["u8", "u16", "u32", "u64", "u128", "i8", "i16", "i32", "i64", "i128"]
 TimeKind = Literal["datetime", "utc"]
 
 
@@ -22,8 +23,10 @@ class Keys:
     def __init__(self, name: str, least: int, greatest: int) -> None:
         self.name, self.least, self.greatest = name, least, greatest
         #: whether the library has maps of just these keys
-        self.is_native = name in ("u64", "i64")
+        self.is_native = name in ("u64", "i64", "u128", "i128")
         self.is_signed = least < 0
+        #: whether numbers have 128 bits
+        self.is_wide = greatest - least >= 2**64
 
     def number(self, key: Any) -> int:
         """The number of a key; `TypeError` and `OverflowError` where it is none."""
@@ -44,6 +47,18 @@ class Keys:
 
     def of_json(self, key: Any) -> Any:
         return key
+
+    def to_text(self, number: int) -> Any:
+        """The number as it stands in the library's JSON: one of 128 bits is the text of an address."""
+        if not self.is_wide:
+            return number
+        return str(ipaddress.IPv6Address(number + 2**127 if self.is_signed else number))
+
+    def of_text(self, side: Any) -> int:
+        """The other way round."""
+        if not self.is_wide:
+            return operator.index(side)
+        return int(ipaddress.IPv6Address(side)) - (2**127 if self.is_signed else 0)
 
 
 class _Indexed(Keys):
@@ -124,24 +139,46 @@ class Times(_Indexed):
 
 
 class Addresses(_Indexed):
-    """Addresses of version 4 of the internet protocol."""
+    """Addresses of one version of the internet protocol, without a scope, which is of one machine alone."""
 
-    def __init__(self) -> None:
-        super().__init__("ipv4", 0, 2**32 - 1)
+    def __init__(self, name: str, of_type: type[ipaddress.IPv4Address] | type[ipaddress.IPv6Address]) -> None:
+        self._type = of_type
+        super().__init__(name, 0, 2 ** of_type(0).max_prefixlen - 1)
 
     def number(self, key: Any) -> int:
-        if not isinstance(key, ipaddress.IPv4Address):
-            raise TypeError(f"a key is an IPv4Address, not {key!r}")
+        if not isinstance(key, self._type) or getattr(key, "scope_id", None) is not None:
+            raise TypeError(f"a key is an {self._type.__name__}{' without a scope' if self.is_wide else ''}, not {key!r}")
         return int(key)
 
-    def key(self, number: int) -> ipaddress.IPv4Address:
-        return ipaddress.IPv4Address(number)
+    def key(self, number: int) -> Any:
+        return self._type(number)
 
     def to_json(self, key: Any) -> Any:
         return str(key)
 
     def of_json(self, key: Any) -> Any:
-        return ipaddress.IPv4Address(key)
+        return self._type(key)
+
+
+class Identifiers(_Indexed):
+    """Universally unique identifiers, in the order of their bytes."""
+
+    def __init__(self) -> None:
+        super().__init__("uuid", 0, 2**128 - 1)
+
+    def number(self, key: Any) -> int:
+        if not isinstance(key, uuid.UUID):
+            raise TypeError(f"a key is a UUID, not {key!r}")
+        return key.int
+
+    def key(self, number: int) -> uuid.UUID:
+        return uuid.UUID(int=number)
+
+    def to_json(self, key: Any) -> Any:
+        return str(key)
+
+    def of_json(self, key: Any) -> Any:
+        return uuid.UUID(key)
 
 
 class Floats(_Indexed):
@@ -191,14 +228,16 @@ class _Integers(Keys):
 INTEGERS = _Integers("int", 0, 0)
 
 KEYS: dict[str, Keys] = {}
-for _bits in (8, 16, 32, 64):
+for _bits in (8, 16, 32, 64, 128):
     KEYS[f"u{_bits}"] = Keys(f"u{_bits}", 0, 2**_bits - 1)
     KEYS[f"i{_bits}"] = Keys(f"i{_bits}", -(2 ** (_bits - 1)), 2 ** (_bits - 1) - 1)
 KEYS["char"] = Characters()
 KEYS["date"] = Dates()
 KEYS["datetime"] = Times("datetime", None)
 KEYS["utc"] = Times("utc", datetime.timezone.utc)
-KEYS["ipv4"] = Addresses()
+KEYS["ipv4"] = Addresses("ipv4", ipaddress.IPv4Address)
+KEYS["ipv6"] = Addresses("ipv6", ipaddress.IPv6Address)
+KEYS["uuid"] = Identifiers()
 KEYS["float"] = Floats()
 
 
@@ -215,6 +254,8 @@ _OF_TYPES: dict[type, Callable[[Any], Keys]] = {
     datetime.date: lambda key: KEYS["date"],
     datetime.datetime: lambda key: KEYS["datetime" if key.utcoffset() is None else "utc"],
     ipaddress.IPv4Address: lambda key: KEYS["ipv4"],
+    ipaddress.IPv6Address: lambda key: KEYS["ipv6"],
+    uuid.UUID: lambda key: KEYS["uuid"],
     float: lambda key: KEYS["float"],
 }
 

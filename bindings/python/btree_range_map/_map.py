@@ -10,6 +10,7 @@ import ipaddress
 import json
 import operator
 import reprlib
+import uuid
 from typing import Any, Callable, Generic, Iterable, Iterator, Literal, Mapping, Tuple, TypeVar, Union, overload
 
 from . import _library as _c
@@ -75,6 +76,12 @@ class RangeMap(Collection[K], Generic[K, V]):
         self: RangeMap[ipaddress.IPv4Address, V], items: Items[ipaddress.IPv4Address, V] = ..., *, keys: Literal["ipv4"]
     ) -> None: ...
     @overload
+    def __init__(
+        self: RangeMap[ipaddress.IPv6Address, V], items: Items[ipaddress.IPv6Address, V] = ..., *, keys: Literal["ipv6"]
+    ) -> None: ...
+    @overload
+    def __init__(self: RangeMap[uuid.UUID, V], items: Items[uuid.UUID, V] = ..., *, keys: Literal["uuid"]) -> None: ...
+    @overload
     def __init__(self: RangeMap[float, V], items: Items[float, V] = ..., *, keys: Literal["float"]) -> None: ...
     @overload
     def __init__(self: RangeMap[Any, V], items: Items[Any, V] = ..., *, keys: str) -> None: ...
@@ -85,7 +92,7 @@ class RangeMap(Collection[K], Generic[K, V]):
 
     def _start(self, keys: str) -> None:
         kind = kind_named(keys)
-        self._open(_c.SIGNED_MAP if kind.is_signed else _c.UNSIGNED_MAP, kind)
+        self._open(_c.MAPS[kind.is_wide, kind.is_signed], kind)
         self._values = Values()
 
     def _emptied(self) -> RangeMap[K, Any]:
@@ -221,7 +228,7 @@ class RangeMap(Collection[K], Generic[K, V]):
             raw = kind.range_form.pack(first, last, flags)
             check(kind.overlapping(self._handle, raw, buffer, _c.BATCH, count))
             words = array.array("Q", memoryview(buffer)[: kind.form.size * count.value].tobytes())
-            numbers.extend(words[3::4])
+            numbers.extend(words[kind.width - 1 :: kind.width])
             if most is not None and len(numbers) > most:
                 return None
             if count.value < _c.BATCH:
@@ -297,7 +304,7 @@ class RangeMap(Collection[K], Generic[K, V]):
             except BaseException:
                 self._values.change(numbers, [], gone)
                 raise
-            words[3::4] = array.array("Q", numbers)
+            words[self._kind.width - 1 :: self._kind.width] = array.array("Q", numbers)
             every = (self._keys.least, self._keys.greatest)
             self._bind_packed(words.tobytes(), numbers, every, self._numbers_within() or [], gone)
 
@@ -413,6 +420,11 @@ class RangeMap(Collection[K], Generic[K, V]):
 
         A buffer of whole numbers, as an `array` or one of numpy, is looked up with no step for each key.
         """
+        if self._kind.is_wide:
+            wanted = list(keys)
+            with self._lock:
+                self._check_open()
+                return [self.get(key, default) for key in wanted]
         outside: set[int] = set()
         numbers = self._buffer(keys)
         if numbers is None:
@@ -578,7 +590,7 @@ class RangeMap(Collection[K], Generic[K, V]):
         for read, values in self._batches():
             yield from zip(map(self._first_and_last, *read[:3]), values)
 
-    @reprlib.recursive_repr("RangeMap({...})")
+    @reprlib.recursive_repr()
     def __repr__(self) -> str:
         is_open = self._handle.is_open
         return self._shown(", ".join(f"{written(keys)}: {value!r}" for keys, value in self.items()) if is_open else None)

@@ -195,7 +195,7 @@ def bounds_of(keys: Any) -> Bounds:
         if keys.step not in (None, 1) or isinstance(keys, slice) and keys.step is not None:
             raise ValueError("a range has no step")
         return Bounds(keys.start, keys.stop, keys.start is not None, False)
-    if isinstance(keys, ipaddress.IPv4Network):
+    if isinstance(keys, (ipaddress.IPv4Network, ipaddress.IPv6Network)):
         return Bounds(keys.network_address, keys.broadcast_address, True, True)
     if keys is None:
         raise TypeError("None is no key and no range")

@@ -4,6 +4,7 @@ from __future__ import annotations
 
 import datetime
 import ipaddress
+import uuid
 from typing import AbstractSet, Any, Iterable, Iterator, Literal, TypeVar, Union, overload
 
 from . import _library as _c
@@ -46,6 +47,12 @@ class RangeSet(Collection[K]):
         self: RangeSet[ipaddress.IPv4Address], ranges: Iterable[Keyed[ipaddress.IPv4Address]] = ..., *, keys: Literal["ipv4"]
     ) -> None: ...
     @overload
+    def __init__(
+        self: RangeSet[ipaddress.IPv6Address], ranges: Iterable[Keyed[ipaddress.IPv6Address]] = ..., *, keys: Literal["ipv6"]
+    ) -> None: ...
+    @overload
+    def __init__(self: RangeSet[uuid.UUID], ranges: Iterable[Keyed[uuid.UUID]] = ..., *, keys: Literal["uuid"]) -> None: ...
+    @overload
     def __init__(self: RangeSet[float], ranges: Iterable[Keyed[float]] = ..., *, keys: Literal["float"]) -> None: ...
     @overload
     def __init__(self: RangeSet[Any], ranges: Iterable[Any] = ..., *, keys: str) -> None: ...
@@ -56,7 +63,7 @@ class RangeSet(Collection[K]):
 
     def _start(self, keys: str) -> None:
         kind = kind_named(keys)
-        self._open(_c.SIGNED_SET if kind.is_signed else _c.UNSIGNED_SET, kind)
+        self._open(_c.SETS[kind.is_wide, kind.is_signed], kind)
 
     def _one(self, name: str, *words: Any) -> Range[K] | None:
         with self._lock:
@@ -301,7 +308,7 @@ class RangeSet(Collection[K]):
     def to_json(self) -> str:
         """What is stored as JSON text."""
         text = self._text()
-        if self._keys.is_native:
+        if self._keys.is_native and not self._keys.is_wide:
             return text.decode()
         return self._dumped([self._json_of_bounds(bounds) for bounds in self._parsed(text)])
 

@@ -14,6 +14,7 @@ import threading
 import time
 import unittest
 import unittest.mock
+import uuid
 import weakref
 
 import btree_range_map
@@ -162,7 +163,7 @@ class Maps(unittest.TestCase):
         self.assertIsNone(keys.pop_last())
 
     def test_keys_of_each_kind(self):
-        for name, least, greatest in [("u8", 0, 255), ("i8", -128, 127), ("u32", 0, 2**32 - 1), ("i64", -(2**63), 2**63 - 1)]:
+        for name, least, greatest in [("u8", 0, 255), ("i8", -128, 127), ("u32", 0, 2**32 - 1), ("i64", -(2**63), 2**63 - 1), ("u128", 0, 2**128 - 1), ("i128", -(2**127), 2**127 - 1)]:
             keys, held = RangeMap(keys=name), RangeSet(keys=name)
             keys[:] = "all"
             held.add(slice(None))
@@ -201,6 +202,29 @@ class Maps(unittest.TestCase):
         for other in (network("::/96"), "10.0.0.0/8"):
             self.assertRaises(TypeError, held.add, other)
         self.assertRaises(TypeError, RangeSet().add, network("10.0.0.0/8"))
+
+    def test_addresses_and_identifiers(self):
+        address, network = ipaddress.ip_address, ipaddress.ip_network
+        owners = RangeMap([(network("2001:db8::/32"), "documents"), (address("::1"), "this")], keys="ipv6")
+        owners[network("2001:db8:1::/48")] = "site"
+        self.assertEqual((owners[address("2001:db8:1::5")], owners.get(address("2001:db9::"))), ("site", None))
+        self.assertEqual([str(it.last) for it in owners], ["::1", "2001:db8:0:ffff:ffff:ffff:ffff:ffff", "2001:db8:1:ffff:ffff:ffff:ffff:ffff", "2001:db8:ffff:ffff:ffff:ffff:ffff:ffff"])
+        read = RangeMap(keys="ipv6")
+        read.load_json(owners.to_json())
+        self.assertEqual((read, "2001:db8:1::" in read.to_json()), (owners, True))
+        held = RangeSet([network("10.0.0.0/8"), network("0.0.0.0/5")], keys="ipv4")
+        self.assertEqual((held.key_count(), held.first().stop), (2**24 + 2**27, address("8.0.0.0")))
+        self.assertEqual(RangeSet([network("::/0")], keys="ipv6").key_count(), 2**128)
+        for key in (address("1.2.3.4"), network("10.0.0.0/8"), address("fe80::1%eth0"), 5):
+            with self.assertRaises(TypeError):
+                owners[key] = "none"
+        one = uuid.UUID("12345678-1234-5678-1234-567812345678")
+        kinds = RangeMap([(Range(one, uuid.UUID(int=2**128 - 1), True, True), "late")], keys="uuid")
+        self.assertEqual((kinds[one], kinds.get(uuid.UUID(int=0)), kinds.first()[0].stop), ("late", None, None))
+        self.assertEqual(kinds.get_many([one, uuid.UUID(int=one.int - 1)], "early"), ["late", "early"])
+        self.assertIn(f'{{"Included":"{one}"}}', kinds.to_json())
+        self.assertEqual(RangeSet([2**100, 2**64 - 1], keys="u128").to_json(), f'[[{{"Included":{2**64 - 1}}},{{"Included":{2**64 - 1}}}],[{{"Included":{2**100}}},{{"Included":{2**100}}}]]')
+        self.assertRaises(TypeError, kinds.__getitem__, address("::1"))
 
     def test_refusals_change_nothing(self):
         keys = RangeMap([(slice(0, 10), 1)])
@@ -336,7 +360,7 @@ class Maps(unittest.TestCase):
         with self.assertRaises(TypeError):
             keys | [1]
         keys[5] = keys
-        self.assertEqual(repr(keys), "RangeMap({5: RangeMap({...})})")
+        self.assertEqual(repr(keys), "RangeMap({5: ...})")
         for made in (copy.deepcopy(keys), pickle.loads(pickle.dumps(keys))):
             self.assertIs(made[5], made)
 
@@ -371,7 +395,7 @@ class Maps(unittest.TestCase):
             self.assertEqual([it.place for it in (held.copy(), copy.deepcopy(held), pickle.loads(pickle.dumps(held)))], [5] * 3)
 
     def test_buffers_are_looked_up_and_bound_at_once(self):
-        for kind, code in (("u64", "Q"), ("u32", "I"), ("i64", "q"), ("i16", "h"), ("u64", "B"), ("i64", "Q")):
+        for kind, code in (("u64", "Q"), ("u32", "I"), ("i64", "q"), ("i16", "h"), ("u64", "B"), ("i64", "Q"), ("u128", "Q"), ("i128", "q")):
             keys, starts = RangeMap(keys=kind), array.array(code, range(0, 250, 5))
             stops = array.array(code, (at + 3 for at in starts))
             keys.insert_many(starts, stops, (f"value {at // 10}" for at in starts))
@@ -465,7 +489,7 @@ class Maps(unittest.TestCase):
         self.assertEqual((len(wide), more[5], more[8]), (2, 1, ["b"]))
 
     def test_many_keys_and_ranges_in_one_call(self):
-        for kind, least in (("u64", 0), ("i64", -3000), ("i16", -3000), ("char", None)):
+        for kind, least in (("u64", 0), ("i64", -3000), ("i16", -3000), ("u128", 2**64 - 3000), ("i128", -3000), ("char", None)):
             at_key = (lambda number: chr(0x4000 + number)) if least is None else (lambda number: least + number)
             held = RangeMap(keys=kind)
             held.update((Range(at_key(10 * at), at_key(10 * at + 6)), at % 2 or None) for at in range(600))

@@ -1,6 +1,7 @@
 """Random calls on maps and sets of keys of each kind, beside a list of what each key is bound to: each public call, and keys at
 both ends of the kind. RANGE_MAP_CALLS is how many calls there are in all."""
 
+import array
 import copy
 import datetime
 import ipaddress
@@ -10,6 +11,7 @@ import os
 import pickle
 import random
 import unittest
+import uuid
 
 from btree_range_map import UNBOUND, Connected, Range, RangeMap, RangeSet
 from btree_range_map._keys import KEYS
@@ -23,6 +25,9 @@ BETWEEN = {
     "datetime": datetime.datetime(1999, 12, 31, 23, 59, 59, 999999),
     "utc": datetime.datetime(2000, 1, 1, tzinfo=datetime.timezone.utc),
     "ipv4": ipaddress.IPv4Address("127.255.255.255"),
+    "ipv6": ipaddress.IPv6Address("::1:0:0:0:0"),
+    "uuid": uuid.UUID(int=2**127),
+    "u128": 2**64,
     "float": 0.0,
 }
 
@@ -32,6 +37,8 @@ AFTER = {
     "datetime": lambda key: key + datetime.timedelta(microseconds=1),
     "utc": lambda key: key + datetime.timedelta(microseconds=1),
     "ipv4": lambda key: key + 1,
+    "ipv6": lambda key: key + 1,
+    "uuid": lambda key: uuid.UUID(int=key.int + 1),
     "float": lambda key: math.nextafter(key, math.inf),
     "char": lambda key: "\ue000" if key == "\ud7ff" else chr(ord(key) + 1),
 }
@@ -42,6 +49,8 @@ ENDS = {
     "datetime": (datetime.datetime.min, datetime.datetime.max),
     "utc": tuple(it.replace(tzinfo=datetime.timezone.utc) for it in (datetime.datetime.min, datetime.datetime.max)),
     "ipv4": (ipaddress.IPv4Address("0.0.0.0"), ipaddress.IPv4Address("255.255.255.255")),
+    "ipv6": (ipaddress.IPv6Address("::"), ipaddress.IPv6Address("ffff:ffff:ffff:ffff:ffff:ffff:ffff:ffff")),
+    "uuid": (uuid.UUID("00000000-0000-0000-0000-000000000000"), uuid.UUID("ffffffff-ffff-ffff-ffff-ffffffffffff")),
     "float": (-math.inf, math.inf),
 }
 
@@ -131,6 +140,32 @@ class Parts:
             for i in at:
                 bound[i] = value
         return drawn, bound
+
+    def spans(self, values):
+        """Some starts, the stops beside them, in lists or in buffers, and values; and what they bind, the last of them first."""
+        size, drawn, bound = len(self.keys), [], [UNBOUND] * len(self.keys)
+        is_buffer = self.kind.is_plain and not self.kind.is_wide and self.random.random() < 0.5
+        # what is past the last key is none of a kind other than whole numbers, and of no buffer of 64 bits
+        last = size if self.kind.is_plain and not (is_buffer and self.kind.is_native) else size - 1
+        for _ in range(self.random.randrange(6)):
+            start, value = self.random.randrange(size), self.random.choice(values)
+            stop = min(last, start + self.random.randrange(8))
+            drawn.append((self.keys[start][0], self.keys[stop][0] if stop < size else self.kind.greatest + 1, value))
+            bound[start:stop] = [value] * (stop - start)
+        starts, stops, given = map(list, zip(*drawn)) if drawn else ([], [], [])
+        if is_buffer:
+            starts, stops = (array.array("q" if self.kind.is_signed else "Q", it) for it in (starts, stops))
+        return starts, stops, given, bound
+
+
+def bound_over(bound, later):
+    """What two lists bind, the later one first."""
+    return [one if two is UNBOUND else two for one, two in zip(bound, later)]
+
+
+def bound_without(bound, other):
+    """What a list binds of the keys that the other does not."""
+    return [one if two is UNBOUND else UNBOUND for one, two in zip(bound, other)]
 
 
 def same(one, other):
@@ -223,7 +258,7 @@ class Judge(unittest.TestCase):
             elif call == 11:
                 drawn, over = parts.some(VALUES)
                 (held.update if numbers.random() < 0.5 else held.__ior__)(drawn)
-                bound = [it if it is not UNBOUND else before for before, it in zip(bound, over)]
+                bound = bound_over(bound, over)
             elif call == 12:
                 joined, is_first = parts.joined(bound), numbers.random() < 0.5
                 found = (held.pop_first if is_first else held.pop_last)()
@@ -251,10 +286,10 @@ class Judge(unittest.TestCase):
                 drawn, over = parts.some(VALUES)
                 other = RangeMap(drawn, keys=name)
                 self.is_alike(shown(other.items()), parts.joined(over))
-                self.is_alike(shown((held | other).items()), parts.joined([a if b is UNBOUND else b for a, b in zip(bound, over)]))
+                self.is_alike(shown((held | other).items()), parts.joined(bound_over(bound, over)))
                 for few in (other, RangeSet(other, keys=name)):
                     self.is_alike(shown(held.restrict(few).items()), parts.joined([UNBOUND if b is UNBOUND else a for a, b in zip(bound, over)]))
-                    self.is_alike(shown(held.without(few).items()), parts.joined([a if b is UNBOUND else UNBOUND for a, b in zip(bound, over)]))
+                    self.is_alike(shown(held.without(few).items()), parts.joined(bound_without(bound, over)))
                 merged = [UNBOUND if a is UNBOUND and b is UNBOUND or a is None else (repr(a), repr(b)) for a, b in zip(bound, over)]
                 made = held.merge_with(other, lambda a, b: UNBOUND if a is None else (repr(a), repr(b)))
                 self.is_alike(shown(made.items()), parts.joined(merged))
@@ -276,6 +311,14 @@ class Judge(unittest.TestCase):
                 drawn = [parts.key() for _ in range(numbers.randrange(50))]
                 found = held.get_many([key for key, _ in drawn], UNBOUND)
                 self.assertTrue(all(map(same, found, (bound[part] for _, part in drawn))))
+            elif call == 22:
+                starts, stops, given, later = parts.spans(VALUES)
+                held.insert_many(starts, stops, given)
+                bound = bound_over(bound, later)
+            elif call == 23:
+                starts, stops, _, other = parts.spans([True])
+                held.remove_many(starts, stops)
+                bound = bound_without(bound, other)
             elif call == 20 and bound[part] is UNBOUND:
                 self.assertIs(held.setdefault(parts.keys[part][0], value), value)
                 if parts.keys[part][0] != parts.keys[part][1]:
@@ -393,6 +436,14 @@ class Judge(unittest.TestCase):
             elif call == 14:
                 self.assertEqual([told(it) for it in held.gaps(keys)], [it[:2] for it in parts.pieces(bound, at) if it[2] is UNBOUND])
                 self.assertEqual([told(it) for it in held.overlapping(keys)], [it[:2] for it in parts.met(bound, at)])
+            elif call == 16:
+                starts, stops, _, later = parts.spans([True])
+                held.add_many(starts, stops)
+                bound = bound_over(bound, later)
+            elif call == 17:
+                starts, stops, _, other = parts.spans([True])
+                held.discard_many(starts, stops)
+                bound = bound_without(bound, other)
             elif call == 15 and bound[part] is True and parts.keys[part][0] == parts.keys[part][1]:
                 if ends(bound)[0][0] == key:
                     self.assertEqual(held.pop(), key)

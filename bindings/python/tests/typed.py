@@ -1,6 +1,8 @@
 """What a type checker says of the package: `mypy --strict` finds a fault in just the lines that end so."""
 
 import datetime
+import ipaddress
+import uuid
 from typing import Dict, Iterator, List, Optional, Tuple, Union
 
 from btree_range_map import UNBOUND, Range, RangeMap, RangeSet, Unbound
@@ -31,6 +33,11 @@ letters[5]  # error
 days: RangeMap[datetime.date, str] = RangeMap(keys="date")
 days[datetime.date(2000, 1, 1)] = "first"
 days[5] = "first"  # error
+sites = RangeMap([(ipaddress.IPv6Address("::1"), "this")], keys="ipv6")
+sites[ipaddress.IPv6Network("2001:db8::/32")] = "documents"
+sites[ipaddress.IPv4Address("127.0.0.1")] = "this"  # error
+known: RangeSet[uuid.UUID] = RangeSet([uuid.UUID(int=5)], keys="uuid")
+known.add(5)  # error
 held = RangeSet([slice(0, 5), 7])
 held |= {9}
 held.add("a")  # error

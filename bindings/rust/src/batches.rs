@@ -1,6 +1,6 @@
 //! What is stored, read in batches from both ends, and what is given, handed on in batches.
 use crate::ffi::{
-    Calls, DONE, END_EXCLUDED, END_UNBOUNDED, Handle, RawBinding, RawHandle, RawRange, ReadsWithin,
+    Calls, Crossing, DONE, END_EXCLUDED, END_UNBOUNDED, Handle, RawBinding, RawHandle, RawRange, ReadsWithin,
     START_EXCLUDED,
 };
 use crate::range::sealed::Native;
@@ -45,7 +45,7 @@ impl<N: Copy + Default> Stored<N> for ffi::RawPiece<N> {
 
 /// The ranges of one collection that are left: they are shown in order from either end.
 #[derive(Clone)]
-pub struct Batches<'a, N: 'static, E: 'static> {
+pub struct Batches<'a, N: Crossing, E: 'static> {
     handle: &'a Handle,
     calls: &'static Calls<N, E>,
     front: End<N, E>,
@@ -65,9 +65,10 @@ struct End<N, E> {
     is_again: bool,
 }
 
-type Reads<N, E> = unsafe extern "C" fn(*const RawHandle, N, *mut E, usize, &mut usize) -> u32;
+type Reads<N, E> =
+    unsafe extern "C" fn(*const RawHandle, <N as Crossing>::Alone, *mut E, usize, &mut usize) -> u32;
 
-impl<N: Copy, E: Stored<N>> End<N, E> {
+impl<N: Crossing, E: Stored<N>> End<N, E> {
     fn new(next: N) -> Self {
         End { read: Vec::new(), shown: 0, next, is_again: false }
     }
@@ -86,14 +87,14 @@ impl<N: Copy, E: Stored<N>> End<N, E> {
         self.read.resize((left + again).min(size_after(self.read.len())), E::default());
         let mut count = 0;
         // SAFETY: the buffer is as many ranges as is said, initialised, and the handle is not written while it is borrowed
-        unsafe { reads(handle.get(), self.next, self.read.as_mut_ptr(), self.read.len(), &mut count) };
+        unsafe { reads(handle.get(), self.next.alone(), self.read.as_mut_ptr(), self.read.len(), &mut count) };
         self.read.truncate(count);
         self.shown = again;
         (self.next, self.is_again) = bound(self.read[count - 1].range());
     }
 }
 
-impl<'a, N: Copy, E: Stored<N>> Batches<'a, N, E> {
+impl<'a, N: Crossing, E: Stored<N>> Batches<'a, N, E> {
     /// All ranges of the collection, whose least and greatest keys are the ends.
     pub fn new(handle: &'a Handle, calls: &'static Calls<N, E>, ends: (N, N)) -> Self {
         let (least, greatest) = ends;
@@ -281,10 +282,7 @@ impl<N: Native, I: Iterator<Item = N>> Iterator for Bindings<'_, N, I> {
         if self.shown == self.size {
             self.size = filled(&mut self.numbers, &mut self.keys);
             self.shown = 0;
-            let (keys, found) = (self.numbers.as_ptr(), self.found.as_mut_ptr());
-            // SAFETY: both arrays are as long as is said or longer, initialised, and the handle is not written while it is
-            // borrowed
-            unsafe { (N::BINDS.get_many)(self.handle.get(), keys, self.size, found, self.size) };
+            N::bindings(self.handle, &self.numbers[..self.size], &mut self.found[..self.size]);
         }
         let found = self.found[..self.size].get(self.shown)?;
         self.shown += 1;

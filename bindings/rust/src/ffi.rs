@@ -21,6 +21,48 @@ pub struct RawHandle {
     at: *mut c_void,
 }
 
+/// A key as it lies in ranges and in arrays, and how it crosses alone: as it is, or by a pointer where it is wider than a word.
+pub trait Crossing: Copy + Default + Ord + 'static {
+    type Alone: Copy;
+
+    fn alone(&self) -> Self::Alone;
+}
+
+impl Crossing for u64 {
+    type Alone = u64;
+
+    fn alone(&self) -> u64 {
+        *self
+    }
+}
+
+impl Crossing for i64 {
+    type Alone = i64;
+
+    fn alone(&self) -> i64 {
+        *self
+    }
+}
+
+/// A key of 128 bits, which the header aligns as a word.
+#[repr(C, packed(8))]
+#[derive(Clone, Copy, Default, PartialEq, Eq, PartialOrd, Ord)]
+pub struct Wide(pub u128);
+
+impl Crossing for Wide {
+    type Alone = *const Wide;
+
+    fn alone(&self) -> *const Wide {
+        self
+    }
+}
+
+impl From<Wide> for u128 {
+    fn from(key: Wide) -> u128 {
+        key.0
+    }
+}
+
 #[repr(C)]
 #[derive(Clone, Copy, Default)]
 pub struct RawRange<K> {
@@ -45,6 +87,10 @@ pub struct RawBinding {
 }
 
 impl RawBinding {
+    pub fn of(value: Option<u64>) -> RawBinding {
+        RawBinding { value: value.unwrap_or(0), is_bound: value.is_some() }
+    }
+
     pub fn value(&self) -> Option<u64> {
         self.is_bound.then_some(self.value)
     }
@@ -58,42 +104,28 @@ pub struct RawPiece<K> {
     pub binding: RawBinding,
 }
 
-#[repr(C)]
-#[derive(Default)]
-pub struct RawLength {
-    high: u64,
-    low: u64,
-}
-
-impl RawLength {
-    pub fn number(&self) -> u128 {
-        u128::from(self.high) << 64 | u128::from(self.low)
-    }
-}
-
 /// A call that writes to an array what it finds in a range.
 pub type ReadsWithin<K, E> =
     unsafe extern "C" fn(*const RawHandle, &RawRange<K>, *mut E, usize, &mut usize) -> u32;
 
-/// Hands the list of the calls that each kind of collection has to a macro, after its own words: keys are `K`, and ranges
-/// with what they are bound to `E`.
+/// Hands the list of the calls that each kind of collection has to a macro, after its own words: keys are `K`, those that
+/// cross alone `K::Alone`, and ranges with what they are bound to `E`.
 macro_rules! calls_on_each {
     ($then:ident $words:tt) => {
         $then! { $words
             create(made: *mut RawHandle);
             remove(handle: *mut RawHandle, range: &RawRange<K>);
-            get(handle: *const RawHandle, key: K, entry: &mut E);
-            contains(handle: *const RawHandle, key: K);
+            get(handle: *const RawHandle, key: <K as Crossing>::Alone, entry: &mut E);
+            contains(handle: *const RawHandle, key: <K as Crossing>::Alone);
             intersects(handle: *const RawHandle, range: &RawRange<K>);
-            len(handle: *const RawHandle, length: &mut RawLength);
             first(handle: *const RawHandle, entry: &mut E);
             last(handle: *const RawHandle, entry: &mut E);
-            next(handle: *const RawHandle, key: K, entry: &mut E);
-            previous(handle: *const RawHandle, key: K, entry: &mut E);
+            next(handle: *const RawHandle, key: <K as Crossing>::Alone, entry: &mut E);
+            previous(handle: *const RawHandle, key: <K as Crossing>::Alone, entry: &mut E);
             pop_first(handle: *mut RawHandle, entry: &mut E);
             pop_last(handle: *mut RawHandle, entry: &mut E);
-            read(handle: *const RawHandle, from: K, to: *mut E, size: usize, count: &mut usize);
-            read_back(handle: *const RawHandle, upto: K, to: *mut E, size: usize, count: &mut usize);
+            read(handle: *const RawHandle, from: <K as Crossing>::Alone, to: *mut E, size: usize, count: &mut usize);
+            read_back(handle: *const RawHandle, upto: <K as Crossing>::Alone, to: *mut E, size: usize, count: &mut usize);
             overlapping(at: *const RawHandle, range: &RawRange<K>,
                 to: *mut E, size: usize, count: &mut usize);
             gaps(at: *const RawHandle, range: &RawRange<K>,
@@ -110,12 +142,21 @@ macro_rules! calls_on_maps {
             insert_disconnected(map: *mut RawHandle, range: &RawRange<K>, value: u64);
             try_insert(map: *mut RawHandle, range: &RawRange<K>, value: u64);
             insert_many(map: *mut RawHandle, from: *const E, size: usize, count: &mut usize);
-            "raw_" get_many(map: *const RawHandle, keys: *const K, size: usize,
-                to: *mut RawBinding, room: usize);
             pieces(map: *const RawHandle, range: &RawRange<K>,
                 to: *mut RawPiece<K>, size: usize, count: &mut usize);
-            "raw_" split_off(map: *mut RawHandle, key: K, other: *mut RawHandle);
+            "raw_" split_off(map: *mut RawHandle, key: <K as Crossing>::Alone, other: *mut RawHandle);
             "raw_" append(map: *mut RawHandle, other: *mut RawHandle);
+        }
+    };
+}
+
+/// The same of the calls that sets have beside those.
+macro_rules! calls_on_sets {
+    ($then:ident $words:tt) => {
+        $then! { $words
+            insert(set: *mut RawHandle, range: &RawRange<K>);
+            try_insert(set: *mut RawHandle, range: &RawRange<K>);
+            insert_many(set: *mut RawHandle, from: *const E, size: usize, count: &mut usize);
         }
     };
 }
@@ -124,7 +165,7 @@ macro_rules! calls_on_maps {
 macro_rules! table {
     ([$table:ident, $doc:literal] $($($raw:literal)? $call:ident($($name:ident: $type:ty),*);)*) => {
         #[doc = $doc]
-        pub struct $table<K, E> {
+        pub struct $table<K: Crossing, E> {
             $(pub $call: unsafe extern "C" fn($($type),*) -> u32,)*
         }
     };
@@ -157,10 +198,16 @@ macro_rules! declare {
 calls_on_each!(table[Calls, "The calls of one kind of collection."]);
 calls_on_each!(declare[unsigned, Calls, CALLS, "map_u64_", u64, RawEntry<u64>]);
 calls_on_each!(declare[signed, Calls, CALLS, "map_i64_", i64, RawEntry<i64>]);
+calls_on_each!(declare[wide, Calls, CALLS, "map_u128_", Wide, RawEntry<Wide>]);
 calls_on_each!(declare[set, Calls, CALLS, "set_u64_", u64, RawRange<u64>]);
+calls_on_each!(declare[wide_set, Calls, CALLS, "set_u128_", Wide, RawRange<Wide>]);
 calls_on_maps!(table[Binds, "The calls on maps, beside those on sets too."]);
 calls_on_maps!(declare[unsigned_binds, Binds, BINDS, "map_u64_", u64, RawEntry<u64>]);
 calls_on_maps!(declare[signed_binds, Binds, BINDS, "map_i64_", i64, RawEntry<i64>]);
+calls_on_maps!(declare[wide_binds, Binds, BINDS, "map_u128_", Wide, RawEntry<Wide>]);
+calls_on_sets!(table[Adds, "The calls on sets, beside those on maps too."]);
+calls_on_sets!(declare[set_adds, Adds, ADDS, "set_u64_", u64, RawRange<u64>]);
+calls_on_sets!(declare[wide_set_adds, Adds, ADDS, "set_u128_", Wide, RawRange<Wide>]);
 
 /// A call that opens the last handle on a collection made of the first two.
 pub type OfTwo = unsafe extern "C" fn(*const RawHandle, *const RawHandle, *mut RawHandle) -> u32;
@@ -176,13 +223,19 @@ unsafe extern "C" {
     pub fn brm_count(handle: *const RawHandle) -> usize;
     pub fn brm_save(handle: *const RawHandle, buffer: *mut u8, capacity: usize, size: &mut usize) -> u32;
     pub fn brm_load(handle: *mut RawHandle, text: *const u8, size: usize) -> u32;
-    pub fn brm_set_u64_insert(set: *mut RawHandle, range: &RawRange<u64>) -> u32;
-    pub fn brm_set_u64_try_insert(set: *mut RawHandle, range: &RawRange<u64>) -> u32;
-    pub fn brm_set_u64_insert_many(
-        set: *mut RawHandle,
-        ranges: *const RawRange<u64>,
+    pub fn brm_raw_map_u64_get_many(
+        map: *const RawHandle,
+        keys: *const u64,
         size: usize,
-        count: &mut usize,
+        to: *mut RawBinding,
+        room: usize,
+    ) -> u32;
+    pub fn brm_raw_map_i64_get_many(
+        map: *const RawHandle,
+        keys: *const i64,
+        size: usize,
+        to: *mut RawBinding,
+        room: usize,
     ) -> u32;
     pub fn brm_raw_overlay(map: *const RawHandle, other: *const RawHandle, made: *mut RawHandle) -> u32;
     pub fn brm_raw_restrict(map: *const RawHandle, keys: *const RawHandle, made: *mut RawHandle) -> u32;

@@ -164,7 +164,8 @@ impl<K: Key, V> RangeMap<K, V> {
         self.len() == 0
     }
 
-    /// How many keys are bound. Goes over all stored ranges.
+    /// How many keys are bound; of all keys of 128 bits, which are one more than it can say, `u128::MAX`. Goes over all
+    /// stored ranges.
     pub fn key_count(&self) -> u128 {
         self.numbers.key_count()
     }

@@ -1,6 +1,6 @@
 //! Maps from ranges of keys to numbers: the library's maps as they are.
 use crate::batches::{Batches, Bindings, Within, hand_on};
-use crate::ffi::{self, Handle, OfTwo, RawEntry, RawLength, RawPiece, RawRange, done, inserted};
+use crate::ffi::{self, Crossing, Handle, OfTwo, RawEntry, RawPiece, RawRange, done, inserted};
 use crate::range::sealed::{Native, Numbered};
 use crate::range::{Key, Range, range_of, raw_range};
 use crate::{InsertedOnly, NoMemory, NotInserted, NotLoaded};
@@ -16,8 +16,8 @@ use std::ops::RangeBounds;
 /// where memory runs out: a call says so by an error then and leaves the map as it was; [`NumberMap::insert_many`] tells how
 /// many ranges it has inserted. Iterators, `Debug` and `Hash` allocate as std does, and abort.
 ///
-/// What any call answers is what `btree_range_map.h` says of it. A range that has no start or no end is stored so of `u64`
-/// and `i64` keys; of others it ends at the least or the greatest key. [`Range::to_inclusive`] tells of the keys in either
+/// What any call answers is what `btree_range_map.h` says of it. A range that has no start or no end is stored so of keys of
+/// 64 and of 128 bits but `usize` and `isize`; of others it ends at the least or the greatest key. [`Range::to_inclusive`] tells of the keys in either
 /// case. A map of `u64` or `i64` keys is saved as JSON by [`NumberMap::to_json`], and read by [`NumberMap::load_json`].
 ///
 /// ```
@@ -129,7 +129,7 @@ impl<K: Key> NumberMap<K> {
 
     /// The stored range that holds the key, with its number.
     pub fn get_key_value(&self, key: K) -> Option<(Range<K>, u64)> {
-        found(|it| unsafe { (calls::<K>().get)(self.handle.get(), key.number(), it) })
+        found(|it| unsafe { (calls::<K>().get)(self.handle.get(), key.number().alone(), it) })
     }
 
     /// The former name of [`NumberMap::get_key_value`].
@@ -140,7 +140,7 @@ impl<K: Key> NumberMap<K> {
 
     /// Whether the key is bound.
     pub fn contains_key(&self, key: K) -> bool {
-        (unsafe { (calls::<K>().contains)(self.handle.get(), key.number()) }) == ffi::DONE
+        (unsafe { (calls::<K>().contains)(self.handle.get(), key.number().alone()) }) == ffi::DONE
     }
 
     /// Whether some key of the range is bound.
@@ -165,11 +165,10 @@ impl<K: Key> NumberMap<K> {
         self.len() == 0
     }
 
-    /// How many keys are bound. Goes over all stored ranges.
+    /// How many keys are bound; of all keys of 128 bits, which are one more than it can say, `u128::MAX`. Goes over all
+    /// stored ranges.
     pub fn key_count(&self) -> u128 {
-        let mut length = RawLength::default();
-        unsafe { (calls::<K>().len)(self.handle.get(), &mut length) };
-        length.number()
+        self.iter().fold(0, |sum: u128, (range, _)| sum.saturating_add(range.len()))
     }
 
     /// The first stored range, with its number.
@@ -184,12 +183,12 @@ impl<K: Key> NumberMap<K> {
 
     /// The first stored range that ends at the key or after it, with its number.
     pub fn next(&self, key: K) -> Option<(Range<K>, u64)> {
-        found(|it| unsafe { (calls::<K>().next)(self.handle.get(), key.number(), it) })
+        found(|it| unsafe { (calls::<K>().next)(self.handle.get(), key.number().alone(), it) })
     }
 
     /// The last stored range that starts at the key or before it, with its number.
     pub fn previous(&self, key: K) -> Option<(Range<K>, u64)> {
-        found(|it| unsafe { (calls::<K>().previous)(self.handle.get(), key.number(), it) })
+        found(|it| unsafe { (calls::<K>().previous)(self.handle.get(), key.number().alone(), it) })
     }
 
     /// Takes the first stored range out.
@@ -211,7 +210,7 @@ impl<K: Key> NumberMap<K> {
     pub(crate) fn few_from(&self, key: K) -> [Option<(Range<K>, u64)>; FEW] {
         let (mut entries, mut count) = ([RawEntry::default(); FEW], 0);
         unsafe {
-            (calls::<K>().read)(self.handle.get(), key.number(), entries.as_mut_ptr(), FEW, &mut count)
+            (calls::<K>().read)(self.handle.get(), key.number().alone(), entries.as_mut_ptr(), FEW, &mut count)
         };
         std::array::from_fn(|at| (at < count).then(|| shown::<K>(entries[at])))
     }
@@ -235,7 +234,7 @@ impl<K: Key> NumberMap<K> {
     pub fn split_off(&mut self, key: K) -> Result<NumberMap<K>, NoMemory> {
         let mut rest = NumberMap::new()?;
         done(unsafe {
-            (K::Native::BINDS.split_off)(self.handle.get_mut(), key.number(), rest.handle.get_mut())
+            (K::Native::BINDS.split_off)(self.handle.get_mut(), key.number().alone(), rest.handle.get_mut())
         })?;
         Ok(rest)
     }

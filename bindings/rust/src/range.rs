@@ -1,5 +1,5 @@
 //! Ranges and keys, as callers write them and as they cross.
-use crate::ffi::{self, Binds, Calls, RawEntry, RawRange};
+use crate::ffi::{self, Adds, Binds, Calls, Handle, RawBinding, RawEntry, RawRange, Wide};
 use sealed::Numbered;
 use std::fmt;
 use std::ops::{self, Bound, RangeBounds};
@@ -74,8 +74,8 @@ impl<K> From<ops::RangeFull> for Range<K> {
     }
 }
 
-/// A type of keys: an integer type of up to 64 bits, or `char`. In the library a key is its number, a `u64` or an `i64`;
-/// numbers of keys that follow one another do so too.
+/// A type of keys: an integer type, or `char`. In the library a key is its number, a `u64`, an `i64` or a `u128`; numbers of
+/// keys that follow one another do so too.
 pub trait Key: Copy + Ord + fmt::Debug + sealed::Numbered {
     /// The least key.
     const LEAST: Self;
@@ -91,20 +91,32 @@ pub trait Key: Copy + Ord + fmt::Debug + sealed::Numbered {
 }
 
 pub(crate) mod sealed {
-    use super::{Binds, Calls, RawEntry};
+    use super::{Adds, Binds, Calls, Handle, RawBinding, RawEntry, RawRange};
+    use crate::ffi::Crossing;
 
-    /// A type of keys that the library has maps for: `u64` and `i64`.
-    pub trait Native: Copy + Default + Ord + 'static {
+    /// A type of keys that the library has maps for.
+    pub trait Native: Crossing {
         /// The calls on maps of these keys.
         const CALLS: &'static Calls<Self, RawEntry<Self>>;
         const BINDS: &'static Binds<Self, RawEntry<Self>>;
+
+        /// Writes what each key is bound to in a map of such keys, in the place of the key.
+        fn bindings(map: &Handle, keys: &[Self], found: &mut [RawBinding]);
+    }
+
+    /// A type of keys that the library has sets for.
+    pub trait Placed: Crossing + Into<u128> {
+        /// The calls on sets of these keys.
+        const CALLS: &'static Calls<Self, RawRange<Self>>;
+        const ADDS: &'static Adds<Self, RawRange<Self>>;
     }
 
     /// How a key crosses to the library.
     pub trait Numbered: Sized {
-        type Native: Native + super::Key<Native = Self::Native>;
+        type Native: Native;
+        type Place: Placed;
 
-        /// Whether the key type is the native one, whose ends an unbounded range may keep.
+        /// Whether the keys are as many as those of the library, so that a range without ends may be stored so.
         const IS_NATIVE: bool;
 
         fn number(self) -> Self::Native;
@@ -113,24 +125,73 @@ pub(crate) mod sealed {
         fn of_number(number: Self::Native) -> Self;
 
         /// The key's place among all keys, from 0 on, as a set keeps it.
-        fn place(self) -> u64;
+        fn place(self) -> Self::Place;
 
-        fn of_place(place: u64) -> Self;
+        fn of_place(place: Self::Place) -> Self;
     }
 }
 
 impl sealed::Native for u64 {
     const CALLS: &'static Calls<u64, RawEntry<u64>> = &ffi::unsigned::CALLS;
     const BINDS: &'static Binds<u64, RawEntry<u64>> = &ffi::unsigned_binds::BINDS;
+
+    fn bindings(map: &Handle, keys: &[u64], found: &mut [RawBinding]) {
+        // SAFETY: the arrays are as long as is said, and the handle is not written while it is borrowed
+        unsafe {
+            let (from, to) = (keys.as_ptr(), found.as_mut_ptr());
+            ffi::brm_raw_map_u64_get_many(map.get(), from, keys.len(), to, found.len())
+        };
+    }
 }
 
 impl sealed::Native for i64 {
     const CALLS: &'static Calls<i64, RawEntry<i64>> = &ffi::signed::CALLS;
     const BINDS: &'static Binds<i64, RawEntry<i64>> = &ffi::signed_binds::BINDS;
+
+    fn bindings(map: &Handle, keys: &[i64], found: &mut [RawBinding]) {
+        // SAFETY: as above
+        unsafe {
+            let (from, to) = (keys.as_ptr(), found.as_mut_ptr());
+            ffi::brm_raw_map_i64_get_many(map.get(), from, keys.len(), to, found.len())
+        };
+    }
+}
+
+impl sealed::Native for Wide {
+    const CALLS: &'static Calls<Wide, RawEntry<Wide>> = &ffi::wide::CALLS;
+    const BINDS: &'static Binds<Wide, RawEntry<Wide>> = &ffi::wide_binds::BINDS;
+
+    fn bindings(map: &Handle, keys: &[Wide], found: &mut [RawBinding]) {
+        for (key, found) in keys.iter().zip(found) {
+            let mut entry = RawEntry::default();
+            // SAFETY: the key and the entry are this function's own, and the handle is not written while it is borrowed
+            let status = unsafe { (Wide::CALLS.get)(map.get(), key, &mut entry) };
+            *found = RawBinding::of((status == ffi::DONE).then_some(entry.value));
+        }
+    }
+}
+
+impl sealed::Placed for u64 {
+    const CALLS: &'static Calls<u64, RawRange<u64>> = &ffi::set::CALLS;
+    const ADDS: &'static Adds<u64, RawRange<u64>> = &ffi::set_adds::ADDS;
+}
+
+impl sealed::Placed for Wide {
+    const CALLS: &'static Calls<Wide, RawRange<Wide>> = &ffi::wide_set::CALLS;
+    const ADDS: &'static Adds<Wide, RawRange<Wide>> = &ffi::wide_set_adds::ADDS;
 }
 
 macro_rules! integer_keys {
-    ($native:ty, $is_native:expr, $place:expr, $of_place:expr, $($key:ty),*) => {$(
+    ($native:ty, $is_native:expr, $place_type:ty, $place:expr, $of_place:expr, $($key:ty),*) => {
+        integer_keys!(
+            $native, $is_native, |key| key as $native, |number: $native| number as _, $place_type,
+            |key| $place(key as $native), |place: $place_type| $of_place(place) as _, in $($key),*
+        );
+    };
+    (
+        $native:ty, $is_native:expr, $number:expr, $of_number:expr, $place_type:ty, $place:expr, $of_place:expr,
+        in $($key:ty),*
+    ) => {$(
         impl Key for $key {
             const LEAST: $key = <$key>::MIN;
             const GREATEST: $key = <$key>::MAX;
@@ -146,22 +207,23 @@ macro_rules! integer_keys {
 
         impl sealed::Numbered for $key {
             type Native = $native;
+            type Place = $place_type;
             const IS_NATIVE: bool = $is_native;
 
             fn number(self) -> $native {
-                self as $native
+                $number(self)
             }
 
             fn of_number(number: $native) -> $key {
-                number as $key
+                $of_number(number)
             }
 
-            fn place(self) -> u64 {
-                $place(self as $native)
+            fn place(self) -> $place_type {
+                $place(self)
             }
 
-            fn of_place(place: u64) -> $key {
-                $of_place(place) as $key
+            fn of_place(place: $place_type) -> $key {
+                $of_place(place)
             }
         }
     )*};
@@ -169,12 +231,13 @@ macro_rules! integer_keys {
 
 const SIGN: u64 = 1 << 63;
 
-integer_keys!(u64, true, |key: u64| key, |place: u64| place, u64);
-integer_keys!(u64, false, |key: u64| key, |place: u64| place, u8, u16, u32, usize);
-integer_keys!(i64, true, |key: i64| key as u64 ^ SIGN, |place: u64| (place ^ SIGN) as i64, i64);
+integer_keys!(u64, true, u64, |key: u64| key, |place: u64| place, u64);
+integer_keys!(u64, false, u64, |key: u64| key, |place: u64| place, u8, u16, u32, usize);
+integer_keys!(i64, true, u64, |key: i64| key as u64 ^ SIGN, |place: u64| (place ^ SIGN) as i64, i64);
 integer_keys!(
     i64,
     false,
+    u64,
     |key: i64| key as u64 ^ SIGN,
     |place: u64| (place ^ SIGN) as i64,
     i8,
@@ -182,6 +245,23 @@ integer_keys!(
     i32,
     isize
 );
+
+macro_rules! wide_keys {
+    ($($key:ty, $sign:expr);*) => {$(
+        integer_keys!(
+            Wide,
+            true,
+            |key: $key| Wide(key as u128 ^ $sign),
+            |number: Wide| (number.0 ^ $sign) as $key,
+            Wide,
+            |key: $key| Wide(key as u128 ^ $sign),
+            |place: Wide| (place.0 ^ $sign) as $key,
+            in $key
+        );
+    )*};
+}
+
+wide_keys!(u128, 0; i128, 1 << 127);
 
 /// How many code points are no characters, and which is the first.
 const SURROGATES: u32 = 0x800;
@@ -202,6 +282,7 @@ impl Key for char {
 
 impl sealed::Numbered for char {
     type Native = u64;
+    type Place = u64;
     const IS_NATIVE: bool = false;
 
     fn number(self) -> u64 {
@@ -313,9 +394,12 @@ impl<K: Key> Range<K> {
         self.ends().map(|(_, last)| last)
     }
 
-    /// How many keys there are.
+    /// How many keys there are; of all keys of 128 bits, which are one more than it can say, `u128::MAX`.
     pub fn len(&self) -> u128 {
-        self.ends().map_or(0, |(first, last)| u128::from(last.place() - first.place()) + 1)
+        self.ends().map_or(0, |(first, last)| {
+            let (first, last): (u128, u128) = (first.place().into(), last.place().into());
+            (last - first).saturating_add(1)
+        })
     }
 
     /// Whether there is no key. A stored range is never empty.

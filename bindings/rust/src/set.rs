@@ -1,8 +1,9 @@
 //! Sets of keys.
 use crate::batches::{Batches, Within, hand_on};
-use crate::ffi::{self, Handle, OfTwo, RawLength, RawRange, done, inserted};
+use crate::ffi::{self, Calls, Crossing, Handle, OfTwo, RawRange, done, inserted};
+use crate::range::sealed::{Numbered, Placed};
 use crate::range::{Key, Range, range_of, raw_range};
-use crate::{NoMemory, NotInserted, ffi::set::CALLS};
+use crate::{NoMemory, NotInserted};
 use std::fmt;
 use std::hash::{Hash, Hasher};
 use std::iter::FusedIterator;
@@ -30,11 +31,15 @@ pub struct RangeSet<K: Key> {
 
 const NO_MEMORY: &str = "out of memory";
 
-fn raw<K: Key>(range: &impl RangeBounds<K>) -> RawRange<u64> {
+fn calls<K: Key>() -> &'static Calls<K::Place, RawRange<K::Place>> {
+    K::Place::CALLS
+}
+
+fn raw<K: Key>(range: &impl RangeBounds<K>) -> RawRange<K::Place> {
     raw_range(range, K::IS_NATIVE, K::place)
 }
 
-fn found<K: Key>(call: impl FnOnce(&mut RawRange<u64>) -> u32) -> Option<Range<K>> {
+fn found<K: Key>(call: impl FnOnce(&mut RawRange<K::Place>) -> u32) -> Option<Range<K>> {
     let mut range = RawRange::default();
     (call(&mut range) == ffi::DONE).then(|| range_of(&range, K::of_place))
 }
@@ -45,7 +50,7 @@ fn found<K: Key>(call: impl FnOnce(&mut RawRange<u64>) -> u32) -> Option<Range<K
 impl<K: Key> RangeSet<K> {
     /// A set without a key.
     pub fn new() -> RangeSet<K> {
-        RangeSet::opened(|made| unsafe { (CALLS.create)(made) }).expect(NO_MEMORY)
+        RangeSet::opened(|made| unsafe { (calls::<K>().create)(made) }).expect(NO_MEMORY)
     }
 
     fn opened(open: impl FnOnce(*mut ffi::RawHandle) -> u32) -> Result<RangeSet<K>, NoMemory> {
@@ -66,7 +71,7 @@ impl<K: Key> RangeSet<K> {
     /// assert_eq!(set, [0..12].into());
     /// ```
     pub fn try_add(&mut self, range: impl RangeBounds<K>) -> Result<(), NoMemory> {
-        done(unsafe { ffi::brm_set_u64_insert(self.handle.get_mut(), &raw(&range)) })
+        done(unsafe { (K::Place::ADDS.insert)(self.handle.get_mut(), &raw(&range)) })
     }
 
     /// Adds each key of a range that meets no stored one. It may touch stored ranges. After an error the set is as it
@@ -80,7 +85,7 @@ impl<K: Key> RangeSet<K> {
     /// assert_eq!(set, [0..9].into());
     /// ```
     pub fn try_insert(&mut self, range: impl RangeBounds<K>) -> Result<(), NotInserted> {
-        inserted(unsafe { ffi::brm_set_u64_try_insert(self.handle.get_mut(), &raw(&range)) })
+        inserted(unsafe { (K::Place::ADDS.try_insert)(self.handle.get_mut(), &raw(&range)) })
     }
 
     /// Takes each key of the range away.
@@ -97,7 +102,7 @@ impl<K: Key> RangeSet<K> {
     /// assert_eq!(set, [0..3, 5..9].into());
     /// ```
     pub fn try_remove(&mut self, range: impl RangeBounds<K>) -> Result<(), NoMemory> {
-        done(unsafe { (CALLS.remove)(self.handle.get_mut(), &raw(&range)) })
+        done(unsafe { (calls::<K>().remove)(self.handle.get_mut(), &raw(&range)) })
     }
 
     /// Takes all keys away, and keeps their memory for others.
@@ -107,18 +112,18 @@ impl<K: Key> RangeSet<K> {
 
     /// The stored range that holds the key.
     pub fn get(&self, key: K) -> Option<Range<K>> {
-        found(|it| unsafe { (CALLS.get)(self.handle.get(), key.place(), it) })
+        found(|it| unsafe { (calls::<K>().get)(self.handle.get(), key.place().alone(), it) })
     }
 
     /// Whether the key is in the set.
     pub fn contains(&self, key: K) -> bool {
-        (unsafe { (CALLS.contains)(self.handle.get(), key.place()) }) == ffi::DONE
+        (unsafe { (calls::<K>().contains)(self.handle.get(), key.place().alone()) }) == ffi::DONE
     }
 
     /// Whether some key of the range is in the set.
     #[doc(alias = "overlaps")]
     pub fn intersects(&self, range: impl RangeBounds<K>) -> bool {
-        (unsafe { (CALLS.intersects)(self.handle.get(), &raw(&range)) }) == ffi::DONE
+        (unsafe { (calls::<K>().intersects)(self.handle.get(), &raw(&range)) }) == ffi::DONE
     }
 
     /// How many ranges are stored. The number of keys is [`RangeSet::key_count`].
@@ -131,54 +136,53 @@ impl<K: Key> RangeSet<K> {
         self.len() == 0
     }
 
-    /// How many keys there are. Goes over all stored ranges.
+    /// How many keys there are; of all keys of 128 bits, which are one more than it can say, `u128::MAX`. Goes over all
+    /// stored ranges.
     pub fn key_count(&self) -> u128 {
-        let mut length = RawLength::default();
-        unsafe { (CALLS.len)(self.handle.get(), &mut length) };
-        length.number()
+        self.iter().fold(0, |sum: u128, range| sum.saturating_add(range.len()))
     }
 
     /// The first stored range.
     pub fn first(&self) -> Option<Range<K>> {
-        found(|it| unsafe { (CALLS.first)(self.handle.get(), it) })
+        found(|it| unsafe { (calls::<K>().first)(self.handle.get(), it) })
     }
 
     /// The last stored range.
     pub fn last(&self) -> Option<Range<K>> {
-        found(|it| unsafe { (CALLS.last)(self.handle.get(), it) })
+        found(|it| unsafe { (calls::<K>().last)(self.handle.get(), it) })
     }
 
     /// The first stored range that ends at the key or after it.
     pub fn next(&self, key: K) -> Option<Range<K>> {
-        found(|it| unsafe { (CALLS.next)(self.handle.get(), key.place(), it) })
+        found(|it| unsafe { (calls::<K>().next)(self.handle.get(), key.place().alone(), it) })
     }
 
     /// The last stored range that starts at the key or before it.
     pub fn previous(&self, key: K) -> Option<Range<K>> {
-        found(|it| unsafe { (CALLS.previous)(self.handle.get(), key.place(), it) })
+        found(|it| unsafe { (calls::<K>().previous)(self.handle.get(), key.place().alone(), it) })
     }
 
     /// Takes the first stored range out.
     pub fn pop_first(&mut self) -> Option<Range<K>> {
-        found(|it| unsafe { (CALLS.pop_first)(self.handle.get_mut(), it) })
+        found(|it| unsafe { (calls::<K>().pop_first)(self.handle.get_mut(), it) })
     }
 
     /// Takes the last stored range out.
     pub fn pop_last(&mut self) -> Option<Range<K>> {
-        found(|it| unsafe { (CALLS.pop_last)(self.handle.get_mut(), it) })
+        found(|it| unsafe { (calls::<K>().pop_last)(self.handle.get_mut(), it) })
     }
 
     /// The stored ranges, in ascending order, from both ends.
     pub fn iter(&self) -> Iter<'_, K> {
         Iter {
-            batches: Batches::new(&self.handle, &CALLS, (K::LEAST.place(), K::GREATEST.place())),
+            batches: Batches::new(&self.handle, calls::<K>(), (K::LEAST.place(), K::GREATEST.place())),
             _keys: PhantomData,
         }
     }
 
     /// The stored ranges that meet the range, whole, in ascending order.
     pub fn overlapping(&self, range: impl RangeBounds<K>) -> impl Iterator<Item = Range<K>> {
-        let mut found = Within::new(&self.handle, CALLS.overlapping, raw(&range));
+        let mut found = Within::new(&self.handle, calls::<K>().overlapping, raw(&range));
         std::iter::from_fn(move || found.next().map(|range| range_of(&range, K::of_place)))
     }
 
@@ -231,13 +235,16 @@ impl<K: Key> RangeSet<K> {
             // of keys that are fewer than those of the library
             let past = RawRange {
                 start: K::GREATEST.place(),
-                end: 0,
+                end: K::Place::default(),
                 flags: ffi::START_EXCLUDED | ffi::END_UNBOUNDED,
             };
-            let before =
-                RawRange { start: 0, end: K::LEAST.place(), flags: ffi::START_UNBOUNDED | ffi::END_EXCLUDED };
+            let before = RawRange {
+                start: K::Place::default(),
+                end: K::LEAST.place(),
+                flags: ffi::START_UNBOUNDED | ffi::END_EXCLUDED,
+            };
             for range in [past, before] {
-                done(unsafe { (CALLS.remove)(others.handle.get_mut(), &range) }).expect(NO_MEMORY);
+                done(unsafe { (calls::<K>().remove)(others.handle.get_mut(), &range) }).expect(NO_MEMORY);
             }
         }
         others
@@ -323,7 +330,7 @@ impl<K: Key, R: RangeBounds<K>> Extend<R> for RangeSet<K> {
     fn extend<I: IntoIterator<Item = R>>(&mut self, ranges: I) {
         let ranges = ranges.into_iter().map(|range| raw(&range));
         hand_on(ranges, false, |from, size, count| unsafe {
-            ffi::brm_set_u64_insert_many(self.handle.get_mut(), from, size, count)
+            (K::Place::ADDS.insert_many)(self.handle.get_mut(), from, size, count)
         })
         .expect(NO_MEMORY);
     }
@@ -346,11 +353,11 @@ impl<K: Key, R: RangeBounds<K>, const N: usize> From<[R; N]> for RangeSet<K> {
 /// The stored ranges of a [`RangeSet`], in ascending order, from both ends.
 #[derive(Clone)]
 pub struct Iter<'a, K: Key> {
-    batches: Batches<'a, u64, RawRange<u64>>,
+    batches: Batches<'a, <K as Numbered>::Place, RawRange<<K as Numbered>::Place>>,
     _keys: PhantomData<K>,
 }
 
-fn shown<K: Key>(raw: RawRange<u64>) -> Range<K> {
+fn shown<K: Key>(raw: RawRange<K::Place>) -> Range<K> {
     range_of(&raw, K::of_place)
 }
 

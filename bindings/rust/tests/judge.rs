@@ -64,7 +64,7 @@ impl<K: Key> Keys<K> {
     }
 
     fn count(&self, first: K, last: K) -> u128 {
-        ((self.place)(last) - (self.place)(first) + 1) as u128
+        ((self.place)(last).wrapping_sub((self.place)(first)) as u128).saturating_add(1)
     }
 
     /// A key, and the part that it is in.
@@ -358,8 +358,8 @@ fn judge_map<K: Key + Hash>(keys: &Keys<K>, seed: u64) {
                     joined.last().map(|it| vec![it.clone()])
                 );
                 assert_eq!(map.intersects(range), !is_free);
-                assert_eq!(map.key_count(), joined.iter().map(|it| keys.count(it.0, it.1)).sum::<u128>());
-                assert_eq!(map.key_count(), map.iter().map(|(range, _)| range.len()).sum::<u128>());
+                assert_eq!(map.key_count(), joined.iter().map(|it| keys.count(it.0, it.1)).fold(0, u128::saturating_add));
+                assert_eq!(map.key_count(), map.iter().map(|(range, _)| range.len()).fold(0, u128::saturating_add));
             }
         }
         let joined = keys.joined(&bound);
@@ -500,7 +500,7 @@ fn judge_numbers<K: Key + Hash>(keys: &Keys<K>, seed: u64) {
                 assert_eq!(map.first_range_value().map(|it| told([it])), joined.first().map(|it| vec![*it]));
                 assert_eq!(map.last_range_value().map(|it| told([it])), joined.last().map(|it| vec![*it]));
                 assert_eq!(map.intersects(range), !is_free);
-                assert_eq!(map.key_count(), joined.iter().map(|it| keys.count(it.0, it.1)).sum::<u128>());
+                assert_eq!(map.key_count(), joined.iter().map(|it| keys.count(it.0, it.1)).fold(0, u128::saturating_add));
             }
         }
         let joined = keys.joined(&bound);
@@ -614,7 +614,7 @@ fn judge_set<K: Key + Hash>(keys: &Keys<K>, seed: u64) {
                 assert_eq!(held.first().map(|it| ends(&it)), joined.first().copied());
                 assert_eq!(held.last().map(|it| ends(&it)), joined.last().copied());
                 assert_eq!(held.intersects(range), !is_free);
-                assert_eq!(held.key_count(), joined.iter().map(|it| keys.count(it.0, it.1)).sum::<u128>());
+                assert_eq!(held.key_count(), joined.iter().map(|it| keys.count(it.0, it.1)).fold(0, u128::saturating_add));
             }
         }
         let joined = plain(keys.joined(&bound));
@@ -651,6 +651,8 @@ judges! {
     i32_keys: i32, -1;
     i64_keys: i64, 0;
     isize_keys: isize, 0;
+    u128_keys: u128, 1 << 64;
+    i128_keys: i128, 0;
 }
 
 /// In the middle lie the characters on both sides of the code points that are none.
@@ -676,6 +678,24 @@ fn debug_output_is_alike_for_each_type() {
         shown::<i64>(),
         shown::<i8>().replace("-128", &i64::MIN.to_string()).replace("127", &i64::MAX.to_string())
     );
+}
+
+/// All keys of 128 bits are one more than can be counted.
+#[test]
+fn keys_of_128_bits() {
+    let loopback = u128::from(std::net::Ipv6Addr::LOCALHOST);
+    let mut map: RangeMap<u128, &str> = [(loopback..=loopback, "this")].into();
+    map.insert(1 << 127.., "high");
+    assert_eq!((map.key_count(), map.get(u128::MAX)), ((1 << 127) + 1, Some(&"high")));
+    assert_eq!(format!("{map:?}"), format!("{{1..=1: \"this\", {}..={}: \"high\"}}", 1u128 << 127, u128::MAX));
+    map.remove(..=1);
+    map.insert(..u128::MAX, "all but one");
+    assert_eq!((map.key_count(), map.len()), (u128::MAX, 2));
+    map.insert(u128::MAX..=u128::MAX, "all but one");
+    assert_eq!((map.key_count(), map.len()), (u128::MAX, 1));
+    let set: RangeSet<i128> = [i128::MIN..=i128::MIN, i128::MAX..=i128::MAX].into();
+    assert_eq!(set.complement(), [i128::MIN + 1..=i128::MAX - 1].into());
+    assert_eq!((set.next(0), set.previous(0)), (set.last(), set.first()));
 }
 
 #[test]

@@ -7,3 +7,5 @@ mod signed_map;
 mod signed_set;
 mod unsigned_map;
 mod unsigned_set;
+mod wide_map;
+mod wide_set;

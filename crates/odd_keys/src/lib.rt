@@ -9,6 +9,8 @@
 //! - a container over a ring buffer, as a user writes one: `src/ring.rt`, `specs/Rings.antt`
 //! - the two promises of a map, over every lawful and every complete key, and at each key type:
 //!   `src/promises/{bindings,lists}.rt`, `specs/Promises.antt`
+//! - callers of sets, multimaps, products, counted calls and JSON, each at two key types:
+//!   `src/stages`
 #![tactic(auto)]
 
 pub mod blind;
@@ -20,3 +22,4 @@ pub mod promises;
 pub mod rights;
 pub mod ring;
 pub mod single;
+mod stages;

@@ -7,7 +7,7 @@ use range_algebra::any::AnyRange;
 use std::ops::Bound;
 
 /// How many keys a `u64` tells apart.
-const TWO_64: u128 = 18_446_744_073_709_551_616;
+pub(crate) const TWO_64: u128 = 18_446_744_073_709_551_616;
 
 /// The flag of a range that does not hold its start.
 pub const START_EXCLUDED: u32 = 1;
@@ -124,7 +124,7 @@ impl SignedBounds {
 }
 
 /// The range that two keys and flags say.
-fn range_between<K: Copy + Drop>(start: K, end: K, flags: u32) -> AnyRange<K>
+pub fn range_between<K: Copy + Drop>(start: K, end: K, flags: u32) -> AnyRange<K>
     ensures { result ≡ flagged_range start end flags }
 {
     AnyRange::new(
@@ -147,7 +147,7 @@ fn bound<K: Copy + Drop>(key: K, flags: u32, excluded: u32, unbounded: u32) -> B
 }
 
 /// The keys and flags that say the range. A bound that has no key gets the other one.
-fn parts_of<K: Copy + Drop>(range: &AnyRange<K>, other: K) -> (K, K, u32)
+pub fn parts_of<K: Copy + Drop>(range: &AnyRange<K>, other: K) -> (K, K, u32)
     ensures { flagged_range result.0 result.1 result.2 ≡ range.now }
 {
     let (start, start_flag) = part_of(&range.start, other, START_EXCLUDED, START_UNBOUNDED);

@@ -1,8 +1,8 @@
 -- What an open handle holds.
 use Rattle.std.specs.Prelude.{ℕ, [], length, Option, Some, None, ⊤}
-use Rattle.range_handles.specs.Lists.{Ranges, SignedRanges, KeyRanges, SignedKeyRanges}
+use Rattle.range_handles.specs.Lists.{Ranges, SignedRanges, WideRanges, KeyRanges, SignedKeyRanges, WideKeyRanges}
 use Rattle.range_handles.specs.declared.collection.Collection.{Collection}
-use Rattle.range_handles.specs.declared.collection.Collection.TheVariants.{Unsigned, Signed, Set, SignedSet}
+use Rattle.range_handles.specs.declared.collection.Collection.TheVariants.{Unsigned, Signed, Set, SignedSet, Wide, WideSet}
 
 -- a map of `u64` keys is held
 abbrev pub HoldsMap : Option Collection → Type 0
@@ -41,12 +41,32 @@ abbrev pub signed_set_items : Option Collection → SignedKeyRanges
 signed_set_items (Some (SignedSet items)) = items
 signed_set_items _ = []
 
+-- a map of keys of 128 bits is held
+abbrev pub HoldsWideMap : Option Collection → Type 0
+HoldsWideMap (Some (Wide items)) = ⊤
+HoldsWideMap _ = ⊥
+
+abbrev pub wide_items : Option Collection → WideRanges
+wide_items (Some (Wide items)) = items
+wide_items _ = []
+
+-- a set of keys of 128 bits is held
+abbrev pub HoldsWideSet : Option Collection → Type 0
+HoldsWideSet (Some (WideSet items)) = ⊤
+HoldsWideSet _ = ⊥
+
+abbrev pub wide_set_items : Option Collection → WideKeyRanges
+wide_set_items (Some (WideSet items)) = items
+wide_set_items _ = []
+
 -- how many ranges are stored
 abbrev pub range_count : Option Collection → ℕ
 range_count (Some (Unsigned items)) = length items
 range_count (Some (Signed items)) = length items
 range_count (Some (Set items)) = length items
 range_count (Some (SignedSet items)) = length items
+range_count (Some (Wide items)) = length items
+range_count (Some (WideSet items)) = length items
 range_count None = 0
 
 -- the same kind, with no range
@@ -55,4 +75,6 @@ emptied (Some (Unsigned items)) = Some (Unsigned [])
 emptied (Some (Signed items)) = Some (Signed [])
 emptied (Some (Set items)) = Some (Set [])
 emptied (Some (SignedSet items)) = Some (SignedSet [])
+emptied (Some (Wide items)) = Some (Wide [])
+emptied (Some (WideSet items)) = Some (WideSet [])
 emptied None = None

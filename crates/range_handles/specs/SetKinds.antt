@@ -7,21 +7,24 @@ use Rattle.btree_range_map.specs.Names.{u64_order, i64_order}
 use Rattle.btree_range_map.specs.Order.{KeyOrder}
 use Rattle.btree_range_map.specs.Together.{BindKeysOf, ShareNoKey}
 use Rattle.btree_range_map.specs.TwoSets.{HoldsEither, HoldsBoth, HoldsFirstAlone, HoldsJustOne}
+use Rattle.address_keys.specs.Addresses.{ipv6_order}
 use Rattle.range_handles.specs.declared.collection.Collection.{Collection}
-use Rattle.range_handles.specs.declared.collection.Collection.TheVariants.{Set, SignedSet}
+use Rattle.range_handles.specs.declared.collection.Collection.TheVariants.{Set, SignedSet, WideSet}
 use Rattle.range_handles.specs.declared.kept_set.algebra.Join.{Join}
 use Rattle.range_handles.specs.declared.kept_set.algebra.Join.TheVariants.{Union, Intersection, Difference, SymmetricDifference}
 
--- a set of keys of either kind is held
+-- a set of keys of any kind is held
 abbrev pub HoldsAnySet : Option Collection → Type 0
 HoldsAnySet (Some (Set items)) = ⊤
 HoldsAnySet (Some (SignedSet items)) = ⊤
+HoldsAnySet (Some (WideSet items)) = ⊤
 HoldsAnySet _ = ⊥
 
 -- two sets of one kind
 abbrev pub AreSetsOfOneKind : Option Collection → Option Collection → Type 0
 AreSetsOfOneKind (Some (Set items)) (Some (Set others)) = ⊤
 AreSetsOfOneKind (Some (SignedSet items)) (Some (SignedSet others)) = ⊤
+AreSetsOfOneKind (Some (WideSet items)) (Some (WideSet others)) = ⊤
 AreSetsOfOneKind _ _ = ⊥
 
 -- the third list holds those keys of two lists that the join says
@@ -38,6 +41,8 @@ IsJoinOf join (Some (Set items)) (Some (Set others)) (Some (Set new)) =
     IsJoin join u64_order items others new
 IsJoinOf join (Some (SignedSet items)) (Some (SignedSet others)) (Some (SignedSet new)) =
     IsJoin join i64_order items others new
+IsJoinOf join (Some (WideSet items)) (Some (WideSet others)) (Some (WideSet new)) =
+    IsJoin join ipv6_order items others new
 IsJoinOf _ _ _ _ = ⊥
 
 -- the second is a set of just the keys that are not in the first
@@ -45,16 +50,20 @@ abbrev pub IsComplementOf : Option Collection → Option Collection → Type 0
 IsComplementOf (Some (Set items)) (Some (Set new)) = HoldsTheOthers u64_order items new
 IsComplementOf (Some (SignedSet items)) (Some (SignedSet new)) =
     HoldsTheOthers i64_order items new
+IsComplementOf (Some (WideSet items)) (Some (WideSet new)) =
+    HoldsTheOthers ipv6_order items new
 IsComplementOf _ _ = ⊥
 
 -- each key of the first set is in the second
 abbrev pub IsSubsetOf : Option Collection → Option Collection → Type 0
 IsSubsetOf (Some (Set items)) (Some (Set others)) = BindKeysOf u64_order items others
 IsSubsetOf (Some (SignedSet items)) (Some (SignedSet others)) = BindKeysOf i64_order items others
+IsSubsetOf (Some (WideSet items)) (Some (WideSet others)) = BindKeysOf ipv6_order items others
 IsSubsetOf _ _ = ⊥
 
 -- no key is in both sets
 abbrev pub AreDisjoint : Option Collection → Option Collection → Type 0
 AreDisjoint (Some (Set items)) (Some (Set others)) = ShareNoKey u64_order items others
 AreDisjoint (Some (SignedSet items)) (Some (SignedSet others)) = ShareNoKey i64_order items others
+AreDisjoint (Some (WideSet items)) (Some (WideSet others)) = ShareNoKey ipv6_order items others
 AreDisjoint _ _ = ⊥

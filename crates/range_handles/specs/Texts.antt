@@ -9,8 +9,10 @@ use Rattle.btree_range_map.specs.Keys.{unsigned_of, signed_of, unsigned_shape, s
 use Rattle.btree_range_map.specs.MapFaults.{IsMapRead, IsMapFault}
 use Rattle.btree_range_map.specs.Names.{u64_order, i64_order}
 use Rattle.btree_range_map.specs.Shapes.{map_shape, set_shape}
+use Rattle.address_keys.specs.Addresses.{ipv6_order}
+use Rattle.address_keys.specs.Json.{IsIpv6Read, ipv6_shape, reads_ipv6}
 use Rattle.range_handles.specs.declared.collection.Collection.{Collection}
-use Rattle.range_handles.specs.declared.collection.Collection.TheVariants.{Unsigned, Signed, Set, SignedSet}
+use Rattle.range_handles.specs.declared.collection.Collection.TheVariants.{Unsigned, Signed, Set, SignedSet, Wide, WideSet}
 
 -- a `u64`, and an `i64`, is read of the JSON value
 abbrev pub reads_unsigned : Data → Bool
@@ -31,6 +33,8 @@ data_of (Unsigned items) = map_shape unsigned_shape unsigned_shape items
 data_of (Signed items) = map_shape signed_shape unsigned_shape items
 data_of (Set items) = set_shape unsigned_shape items
 data_of (SignedSet items) = set_shape signed_shape items
+data_of (Wide items) = map_shape ipv6_shape unsigned_shape items
+data_of (WideSet items) = set_shape ipv6_shape items
 
 -- what the JSON value is read as
 abbrev pub IsDataRead : Data → Collection → Type 0
@@ -40,6 +44,9 @@ IsDataRead d (Signed items) =
     IsMapRead i64_order reads_signed reads_unsigned IsSignedRead IsUnsignedRead nat_eq d items
 IsDataRead d (Set items) = IsSetRead IsUnsignedRead u64_order d items
 IsDataRead d (SignedSet items) = IsSetRead IsSignedRead i64_order d items
+IsDataRead d (Wide items) =
+    IsMapRead ipv6_order reads_ipv6 reads_unsigned IsIpv6Read IsUnsignedRead nat_eq d items
+IsDataRead d (WideSet items) = IsSetRead IsIpv6Read ipv6_order d items
 
 -- a fault of the value as one of the collection's kind
 abbrev pub IsDataFault : Collection → Data → JsonError → Type 0
@@ -49,6 +56,9 @@ IsDataFault (Signed items) d e =
     IsMapFault i64_order reads_signed reads_unsigned IsSignedRead IsUnsignedRead d e
 IsDataFault (Set items) d e = set_fault reads_unsigned d ≡ Some e
 IsDataFault (SignedSet items) d e = set_fault reads_signed d ≡ Some e
+IsDataFault (Wide items) d e =
+    IsMapFault ipv6_order reads_ipv6 reads_unsigned IsIpv6Read IsUnsignedRead d e
+IsDataFault (WideSet items) d e = set_fault reads_ipv6 d ≡ Some e
 
 -- the text that what is held is saved as
 abbrev pub IsTextOf : Option Collection → List ℕ → Type 0

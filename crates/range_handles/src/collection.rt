@@ -11,6 +11,7 @@ ghost use Rattle.range_handles.specs.Texts.{data_of, IsDataFault, IsDataRead, Is
 
 use crate::kept_map::KeptMap;
 use crate::kept_set::KeptSet;
+use address_keys::Ipv6;
 use btree_range_map::json::JsonError;
 use range_ffi::status::{DONE, NO_MEMORY, NONE, NOT_JSON, NOT_READ, OTHER_KIND, answer};
 use serde_json::Value;
@@ -23,6 +24,8 @@ pub enum Collection {
     Signed(KeptMap<i64>),
     Set(KeptSet<u64>),
     SignedSet(KeptSet<i64>),
+    Wide(KeptMap<Ipv6>),
+    WideSet(KeptSet<Ipv6>),
 }
 
 impl Collection {
@@ -36,6 +39,8 @@ impl Collection {
             Collection::Signed(map) => map.range_count(),
             Collection::Set(set) => set.range_count(),
             Collection::SignedSet(set) => set.range_count(),
+            Collection::Wide(map) => map.range_count(),
+            Collection::WideSet(set) => set.range_count(),
         }
     }
 
@@ -48,6 +53,8 @@ impl Collection {
             Collection::Signed(map) => map.clear(),
             Collection::Set(set) => set.clear(),
             Collection::SignedSet(set) => set.clear(),
+            Collection::Wide(map) => map.clear(),
+            Collection::WideSet(set) => set.clear(),
         }
     }
 
@@ -60,6 +67,8 @@ impl Collection {
             Collection::Signed(map) => Ok(Collection::Signed(map.copied()?)),
             Collection::Set(set) => Ok(Collection::Set(set.copied()?)),
             Collection::SignedSet(set) => Ok(Collection::SignedSet(set.copied()?)),
+            Collection::Wide(map) => Ok(Collection::Wide(map.copied()?)),
+            Collection::WideSet(set) => Ok(Collection::WideSet(set.copied()?)),
         }
     }
 
@@ -79,6 +88,8 @@ impl Collection {
             (Collection::SignedSet(set), Collection::SignedSet(second)) => {
                 answer(set.equals(second))
             }
+            (Collection::Wide(map), Collection::Wide(second)) => answer(map.equals(second)),
+            (Collection::WideSet(set), Collection::WideSet(second)) => answer(set.equals(second)),
             (_, _) => OTHER_KIND,
         }
     }
@@ -92,6 +103,8 @@ impl Collection {
             Collection::Signed(map) => map.text(alloc),
             Collection::Set(set) => set.text(alloc),
             Collection::SignedSet(set) => set.text(alloc),
+            Collection::Wide(map) => map.text(alloc),
+            Collection::WideSet(set) => set.text(alloc),
         }
     }
 
@@ -107,6 +120,8 @@ impl Collection {
             Collection::Signed(_) => Ok(Collection::Signed(KeptMap::read(alloc, value)?)),
             Collection::Set(_) => Ok(Collection::Set(KeptSet::read(alloc, value)?)),
             Collection::SignedSet(_) => Ok(Collection::SignedSet(KeptSet::read(alloc, value)?)),
+            Collection::Wide(_) => Ok(Collection::Wide(KeptMap::read(alloc, value)?)),
+            Collection::WideSet(_) => Ok(Collection::WideSet(KeptSet::read(alloc, value)?)),
         }
     }
 

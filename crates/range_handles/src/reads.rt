@@ -16,7 +16,7 @@ ghost use Rattle.range_ffi.specs.Flags.{number_of, from_key, upto_key, said_rang
 
 use crate::batch::{fill, fill_one, from, upto, within};
 use crate::key::Key;
-use btree_range_map::range::traits::measure_counts_keys;
+use btree_range_map::range::traits::{Bounded, Counted, measure_counts_keys};
 use btree_range_map::{AnyRange, RangeMap};
 use range_ffi::bounds::{Binding, Length};
 use range_ffi::items::Shown;
@@ -66,7 +66,10 @@ pub fn intersects<K: Key, V: Eq + Drop>(stored: &RangeMap<K, V>, range: AnyRange
 }
 
 /// Writes how many keys are bound.
-pub fn len<K: Key, V: Eq + Drop>(stored: &RangeMap<K, V>, length: &mut Length) -> u32
+pub fn len<K: Counted + Bounded, V: Eq + Drop>(
+    stored: &RangeMap<K, V>,
+    length: &mut Length,
+) -> u32
     ensures counted { IsNumberOfKeys K.order (IsBound K.order (box_items stored.now))
         (number_of length.new) }
     ensures done { result ≡ DONE }

@@ -26,6 +26,7 @@ mod len;
 mod levels;
 mod lookup;
 mod map_values;
+mod one_by_one;
 mod overlapping;
 mod overlay;
 mod parts;

@@ -30,6 +30,12 @@ pub fn overlay(alloc: Global, collection: &Collection, other: &Collection, made:
                 Err(_) => NO_MEMORY,
             }
         }
+        (Collection::Wide(first), Collection::Wide(second)) => {
+            match first.overlay(second) {
+                Ok(map) => made.fill(alloc, Collection::Wide(map)),
+                Err(_) => NO_MEMORY,
+            }
+        }
         (_, _) => OTHER_KIND,
     }
 }
@@ -81,6 +87,18 @@ pub fn part_of(
         (Collection::Signed(first), Collection::SignedSet(second)) => {
             match first.part_of(second.as_map(), part) {
                 Ok(map) => made.fill(alloc, Collection::Signed(map)),
+                Err(_) => NO_MEMORY,
+            }
+        }
+        (Collection::Wide(first), Collection::Wide(second)) => {
+            match first.part_of(second.as_map(), part) {
+                Ok(map) => made.fill(alloc, Collection::Wide(map)),
+                Err(_) => NO_MEMORY,
+            }
+        }
+        (Collection::Wide(first), Collection::WideSet(second)) => {
+            match first.part_of(second.as_map(), part) {
+                Ok(map) => made.fill(alloc, Collection::Wide(map)),
                 Err(_) => NO_MEMORY,
             }
         }

@@ -47,6 +47,12 @@ pub fn joined(
                 Err(_) => NO_MEMORY,
             }
         }
+        (Collection::WideSet(first), Collection::WideSet(second)) => {
+            match first.joined(second, join) {
+                Ok(set) => made.fill(alloc, Collection::WideSet(set)),
+                Err(_) => NO_MEMORY,
+            }
+        }
         (_, _) => OTHER_KIND,
     }
 }
@@ -67,6 +73,10 @@ pub fn complement(alloc: Global, collection: &Collection, made: &mut Handle) -> 
             Ok(set) => made.fill(alloc, Collection::SignedSet(set)),
             Err(_) => NO_MEMORY,
         },
+        Collection::WideSet(kept) => match kept.complement() {
+            Ok(set) => made.fill(alloc, Collection::WideSet(set)),
+            Err(_) => NO_MEMORY,
+        },
         _ => OTHER_KIND,
     }
 }
@@ -85,6 +95,9 @@ pub fn is_subset(collection: &Collection, other: &Collection) -> u32
         (Collection::SignedSet(first), Collection::SignedSet(second)) => {
             answer(first.is_subset(second))
         }
+        (Collection::WideSet(first), Collection::WideSet(second)) => {
+            answer(first.is_subset(second))
+        }
         (_, _) => OTHER_KIND,
     }
 }
@@ -101,6 +114,9 @@ pub fn is_disjoint(collection: &Collection, other: &Collection) -> u32
     match (collection, other) {
         (Collection::Set(first), Collection::Set(second)) => answer(first.is_disjoint(second)),
         (Collection::SignedSet(first), Collection::SignedSet(second)) => {
+            answer(first.is_disjoint(second))
+        }
+        (Collection::WideSet(first), Collection::WideSet(second)) => {
             answer(first.is_disjoint(second))
         }
         (_, _) => OTHER_KIND,

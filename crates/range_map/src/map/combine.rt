@@ -71,10 +71,10 @@ impl<K: PartialEnum + Clone, V: Eq + Drop, C: Storage<Item<AnyRange<K>, V>>> Ran
     /// called for keys that neither map binds, and they stay unbound. The three maps may be kept in
     /// three kinds of containers.
     ///
-    /// Allocates a list of what the closure returns, clones of the bounds of its pieces, and the
-    /// new map's ranges, all at once. Fails with `Memory` where an allocation does, and only once
-    /// the closure returned a value, and no error before it. Goes once over both maps, and searches
-    /// neither.
+    /// Allocates a list of what the closure returns, clones of the bounds of its pieces, and then
+    /// what the new map's container needs. Fails with `Memory` where an allocation does, and only
+    /// once the closure returned a value, and no error before it. Goes once over both maps, and
+    /// searches neither.
     ///
     /// ```
     /// // of a map that binds 0..=5 to 1, and one that binds 4..9 to 10

@@ -1,4 +1,4 @@
-//! A map changed by the bindings of another, range by range.
+//! A map changed by the bindings of another.
 ghost use Rattle.std.specs.Prelude.{OnOk, OnErr};
 ghost use Rattle.range_algebra.specs.Range.{ClonesAreEqual};
 ghost use Rattle.range_map.specs.Overlays.{IsOverlaid, IsRestricted, IsWithout};
@@ -14,10 +14,11 @@ use range_store::storage::{Item, Storage};
 impl<K: Measure + Clone, V: Eq + Clone, C: Storage<Item<AnyRange<K>, V>>> RangeMap<K, V, C> {
     /// Binds each key that the other map binds as that does, whatever container it is kept in.
     ///
-    /// Searches once for each range of the other map, where `overlay` goes over both maps.
-    /// Allocates a clone of each bound and each value of the other map, and what `insert` does.
-    /// After an error the keys of the other map's ranges before the one at which it failed are
-    /// bound as there, and each other key as before.
+    /// Searches once for each range of the other map. Where that has 64 ranges or more, and half as
+    /// many as this one, it goes once over both maps, as `overlay` does. Allocates a clone of each
+    /// bound and each value of the other map, and what `insert` does; or what `overlay` does, and
+    /// where that fails, goes range by range. After an error the keys of the other map's ranges
+    /// before the one at which it failed are bound as there, and each other key as before.
     ///
     /// ```
     /// // of a map that binds 0..=5 to 1, and one that binds 4..9 to 10
@@ -37,17 +38,21 @@ impl<K: Measure + Clone, V: Eq + Clone, C: Storage<Item<AnyRange<K>, V>>> RangeM
         ensures canonical { IsCanonical K.order V.eq (C.items self.new) }
     {
         self.in_form();
-        let mut items = other.iter();
-        while let Some((range, value)) = items.next() {
-            self.insert(range.clone()?, value.clone()?)?;
+        if is_many(other.range_count(), self.range_count()) {
+            if let Ok(both) = self.overlay(other) {
+                *self = both;
+                return Ok(());
+            }
         }
-        Ok(())
+        self.insert_each(other)
     }
 
     /// Unbinds each key that the other map binds, whatever its values and its container.
     ///
-    /// Searches once for each range of the other map, where `without` goes over both maps.
-    /// Allocates what `remove` does. After an error the keys of the other map's ranges before the
+    /// Searches once for each range of the other map. Where that has 64 ranges or more, and half as
+    /// many as this one, it goes once over both maps, as `without` does. Allocates what `remove`
+    /// does; or what `without` does, and where that fails, goes range by range. After an error the
+    /// keys of the other map's ranges before the
     /// one at which it failed are unbound, and each other key is bound as before.
     ///
     /// ```
@@ -68,19 +73,23 @@ impl<K: Measure + Clone, V: Eq + Clone, C: Storage<Item<AnyRange<K>, V>>> RangeM
         ensures canonical { IsCanonical K.order V.eq (C.items self.new) }
     {
         self.in_form();
-        let mut items = other.iter();
-        while let Some((range, _)) = items.next() {
-            self.remove(range)?;
+        if is_many(other.range_count(), self.range_count()) {
+            if let Ok(rest) = self.without(other) {
+                *self = rest;
+                return Ok(());
+            }
         }
-        Ok(())
+        self.remove_each(other)
     }
 
     /// Keeps only the bindings of keys that the other map binds, whatever its values and its
     /// container.
     ///
-    /// Searches once for each gap of the other map, and takes each stored range out by itself:
-    /// where little is left, `restrict`, which goes once over both maps, costs less. Allocates a
-    /// clone of each bound of a gap, and what `remove` does. After an error the keys of the other
+    /// Searches once for each gap of the other map, and takes each stored range out by itself. It
+    /// goes once over both maps, as `restrict` does, where the other map has 64 ranges or more and
+    /// half as many as this one, or where the first quarter of its gaps meet a fifth of 64 ranges
+    /// or more. Allocates a clone of each bound of a gap, and what `remove` does; or what
+    /// `restrict` does, and where that fails, goes gap by gap. After an error the keys of the other
     /// map's gaps before the one at which it failed are unbound, and each other key is bound as
     /// before.
     ///
@@ -102,10 +111,64 @@ impl<K: Measure + Clone, V: Eq + Clone, C: Storage<Item<AnyRange<K>, V>>> RangeM
         ensures canonical { IsCanonical K.order V.eq (C.items self.new) }
     {
         self.in_form();
-        let mut gaps = other.gaps();
-        while let Some(gap) = gaps.next() {
-            self.remove(gap.cloned()?)?;
+        if self.loses_many(other) {
+            if let Ok(kept) = self.restrict(other) {
+                *self = kept;
+                return Ok(());
+            }
         }
-        Ok(())
+        self.remove_gaps(other)
     }
+
+    // Whether one pass costs no more than the removal of each gap of the other map: for its many
+    // ranges, or for what the first of its gaps take out.
+    fn loses_many<W: Eq + Drop, D: Storage<Item<AnyRange<K>, W>>>(
+        &self,
+        other: &RangeMap<K, W, D>,
+    ) -> bool {
+        let ranges = self.range_count();
+        is_many(other.range_count(), ranges) || (ranges >= FEWEST && self.meets_first_gaps(other))
+    }
+
+    // Whether the first quarter of the other map's gaps meet a fifth of the ranges.
+    fn meets_first_gaps<W: Eq + Drop, D: Storage<Item<AnyRange<K>, W>>>(
+        &self,
+        other: &RangeMap<K, W, D>,
+    ) -> bool {
+        let mut left = self.range_count() / 5;
+        let mut gaps = other.gaps();
+        for _ in 0..other.range_count() / 4 + 2 {
+            let Some(gap) = gaps.next() else {
+                return false;
+            };
+            let Ok(gap) = gap.cloned() else {
+                return false;
+            };
+            left = self.less_met(left, &gap);
+            if left == 0 {
+                return true;
+            }
+        }
+        false
+    }
+
+    // What is left of so many, less the stored ranges that the range meets.
+    fn less_met(&self, many: usize, range: &AnyRange<K>) -> usize {
+        let mut items = self.met_by(range);
+        for met in 0..many {
+            if items.next().is_none() {
+                return many - met;
+            }
+        }
+        0
+    }
+}
+
+// With fewer changes, or for fewer ranges, one pass is not tried: a search costs little there.
+const FEWEST: usize = 64;
+
+// Whether one pass over so many ranges and changes costs no more than a search for each change,
+// also where a clone of a value allocates.
+fn is_many(changes: usize, ranges: usize) -> bool {
+    changes >= FEWEST && changes >= ranges / 2
 }

@@ -104,8 +104,9 @@ impl<K: PartialEnum + Clone, V: Eq + Clone, C: Storage<Item<AnyRange<K>, V>>> Ra
     /// A map that binds each key as the other map does, and where that does not bind it, as this
     /// one does. The other may be kept in another kind of container.
     ///
-    /// Allocates its ranges, all at once, and before that a list of them with clones of bounds and
-    /// values; fails where an allocation does. Goes once over both maps, and searches neither.
+    /// Allocates a list of its ranges with clones of bounds and values, and then what its container
+    /// needs for them; fails where an allocation does. Goes once over both maps, and searches
+    /// neither.
     ///
     /// ```
     /// // of a map that binds 0..=5 to 1, and one that binds 4..9 to 10
@@ -132,8 +133,9 @@ impl<K: PartialEnum + Clone, V: Eq + Clone, C: Storage<Item<AnyRange<K>, V>>> Ra
     /// A map that binds just those keys of this one that the other map binds too, each as this one
     /// does. The other may have other values, and be kept in another kind of container.
     ///
-    /// Allocates its ranges, all at once, and before that a list of them with clones of bounds and
-    /// values; fails where an allocation does. Goes once over both maps, and searches neither.
+    /// Allocates a list of its ranges with clones of bounds and values, and then what its container
+    /// needs for them; fails where an allocation does. Goes once over both maps, and searches
+    /// neither.
     ///
     /// ```
     /// // of a map that binds 0..=5 to 1, and one that binds 4..9 to 10
@@ -157,8 +159,9 @@ impl<K: PartialEnum + Clone, V: Eq + Clone, C: Storage<Item<AnyRange<K>, V>>> Ra
     /// A map that binds just those keys of this one that the other map does not bind, each as this
     /// one does. The other may have other values, and be kept in another kind of container.
     ///
-    /// Allocates its ranges, all at once, and before that a list of them with clones of bounds and
-    /// values; fails where an allocation does. Goes once over both maps, and searches neither.
+    /// Allocates a list of its ranges with clones of bounds and values, and then what its container
+    /// needs for them; fails where an allocation does. Goes once over both maps, and searches
+    /// neither.
     ///
     /// ```
     /// // of a map that binds 0..=5 to 1, and one that binds 4..9 to 10

@@ -94,8 +94,9 @@ impl<T: PartialEnum + Clone, C: Storage<Item<AnyRange<T>, ()>>> RangeSet<T, C> {
     /// A set of the keys that are in this set, in the other, or in both, whatever containers they
     /// are kept in.
     ///
-    /// Allocates its ranges, all at once, a list of them before, and clones of their bounds; fails
-    /// where an allocation is refused. Goes once over both sets, and searches neither.
+    /// Allocates a list of its ranges with clones of their bounds, and then what its container needs
+    /// for them; fails where an allocation is refused. Goes once over both sets, and searches
+    /// neither.
     ///
     /// ```
     /// // of a set of the keys 0..=5, and one of the keys 4..9
@@ -121,8 +122,9 @@ impl<T: PartialEnum + Clone, C: Storage<Item<AnyRange<T>, ()>>> RangeSet<T, C> {
 
     /// A set of the keys that are in both sets, whatever containers they are kept in.
     ///
-    /// Allocates its ranges, all at once, a list of them before, and clones of their bounds; fails
-    /// where an allocation is refused. Goes once over both sets, and searches neither.
+    /// Allocates a list of its ranges with clones of their bounds, and then what its container needs
+    /// for them; fails where an allocation is refused. Goes once over both sets, and searches
+    /// neither.
     ///
     /// ```
     /// // of a set of the keys 0..=5, and one of the keys 4..9
@@ -144,8 +146,9 @@ impl<T: PartialEnum + Clone, C: Storage<Item<AnyRange<T>, ()>>> RangeSet<T, C> {
     /// A set of the keys of this set that are not in the other, whatever containers they are kept
     /// in.
     ///
-    /// Allocates its ranges, all at once, a list of them before, and clones of their bounds; fails
-    /// where an allocation is refused. Goes once over both sets, and searches neither.
+    /// Allocates a list of its ranges with clones of their bounds, and then what its container needs
+    /// for them; fails where an allocation is refused. Goes once over both sets, and searches
+    /// neither.
     ///
     /// ```
     /// // of a set of the keys 0..=5, and one of the keys 4..9
@@ -168,8 +171,9 @@ impl<T: PartialEnum + Clone, C: Storage<Item<AnyRange<T>, ()>>> RangeSet<T, C> {
     /// A set of the keys that are in just one of the two sets, whatever containers they are kept
     /// in.
     ///
-    /// Allocates its ranges, all at once, a list of them before, and clones of their bounds; fails
-    /// where an allocation is refused. Goes once over both sets, and searches neither.
+    /// Allocates a list of its ranges with clones of their bounds, and then what its container needs
+    /// for them; fails where an allocation is refused. Goes once over both sets, and searches
+    /// neither.
     ///
     /// ```
     /// // of a set of the keys 0..=5, and one of the keys 4..9

@@ -15,7 +15,7 @@ use range_store::storage::{Item, Storage};
 impl<T: Measure + Clone, C: Storage<Item<AnyRange<T>, ()>>> RangeSet<T, C> {
     /// A set of just the keys that this one does not hold: its ranges are the gaps of this one.
     ///
-    /// Allocates its ranges, all at once, and a clone of each bound; fails where an allocation is
+    /// Allocates a clone of each bound, and what its container needs; fails where an allocation is
     /// refused. Costs a step for each stored range, and no search.
     ///
     /// ```

@@ -14,10 +14,11 @@ use range_store::storage::{Item, Storage};
 impl<T: Measure + Clone, C: Storage<Item<AnyRange<T>, ()>>> RangeSet<T, C> {
     /// Adds each key of the other set, whatever container it is kept in.
     ///
-    /// Searches once for each range of the other set, where `union` goes over both sets. Allocates
-    /// a clone of each bound of the other set, and where more ranges are stored than the container
-    /// has capacity for. After an error the keys of the other set's ranges before the one at which
-    /// it failed are added, and no other key.
+    /// Searches once for each range of the other set, or goes once over both sets, as
+    /// `RangeMap::extend_from`. Allocates a clone of each bound of the other set, and where more
+    /// ranges are stored than the container has capacity for; or what `union` does. After an error
+    /// the keys of the other set's ranges before the one at which it failed are added, and no other
+    /// key.
     ///
     /// ```
     /// // of a set of the keys 0..=5, and one of the keys 4..9
@@ -40,9 +41,10 @@ impl<T: Measure + Clone, C: Storage<Item<AnyRange<T>, ()>>> RangeSet<T, C> {
 
     /// Takes each key of the other set away, whatever container it is kept in.
     ///
-    /// Searches once for each range of the other set, where `difference` goes over both sets.
-    /// Allocates a clone of each bound at which a stored range is cut, and where more ranges are
-    /// stored than the container has capacity for. After an error the keys of the other set's
+    /// Searches once for each range of the other set, or goes once over both sets, as
+    /// `RangeMap::remove_all`. Allocates a clone of each bound at which a stored range is cut, and
+    /// where more ranges are stored than the container has capacity for; or what `difference` does.
+    /// After an error the keys of the other set's
     /// ranges before the one at which it failed are gone, and no other key.
     ///
     /// ```
@@ -66,12 +68,11 @@ impl<T: Measure + Clone, C: Storage<Item<AnyRange<T>, ()>>> RangeSet<T, C> {
 
     /// Keeps only the keys that are in the other set, whatever container it is kept in.
     ///
-    /// Searches once for each gap of the other set, and takes each stored range out by itself:
-    /// where little is left, `intersection`, which goes once over both sets, costs less. Allocates
-    /// a clone of each bound of a gap, and one of each bound at which a stored range is cut. It
-    /// also allocates where more ranges are stored than the container has capacity for. After an
-    /// error the keys of the other set's gaps before the one at which it failed are gone, and no
-    /// other key.
+    /// Searches once for each gap of the other set, and takes each stored range out by itself; or
+    /// goes once over both sets, as `RangeMap::retain_all`. Allocates a clone of each bound of a
+    /// gap, and one of each bound at which a stored range is cut; also where more ranges are stored
+    /// than the container has capacity for; or what `intersection` does. After an error the keys of
+    /// the other set's gaps before the one at which it failed are gone, and no other key.
     ///
     /// ```
     /// // of a set of the keys 0..=5, and one of the keys 4..9

@@ -1,5 +1,9 @@
 //! Callers of multimaps, and of the sets that these keep.
 
+ghost use Rattle.std.specs.Prelude.{IfOk};
+ghost use Rattle.btree_range_map.specs.Names.{char_order, bindings_of};
+ghost use Rattle.btree_range_map.specs.Pairs.{HasPairsOfFirstAlone};
+
 use btree_range_map::generic::multimap::{MaybeEmpty, SetMut};
 use btree_range_map::{MapError, RangeMultiMap};
 use std::alloc::{AllocError, Global};
@@ -21,6 +25,14 @@ fn has(classes: &Classes) -> bool {
 
 fn copied(classes: &Classes) -> Result<Classes, MapError> {
     Ok(classes.clone()?)
+}
+
+fn of_first_alone(classes: &Classes, others: &Classes) -> Result<Classes, MapError>
+    ensures { IfOk result (λ new. HasPairsOfFirstAlone char_order
+        ⟦<HashSet<u8> as SetMut<u8>>⟧.has (bindings_of classes.now) (bindings_of others.now)
+        (bindings_of new)) }
+{
+    classes.difference(others)
 }
 
 fn has_range(classes: &Classes) -> bool {

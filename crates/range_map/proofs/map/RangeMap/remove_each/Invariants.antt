@@ -1,6 +1,6 @@
 use Rattle.range_map.proofs.Common.{length, IsCanonical, IsWithout}
 use Rattle.range_map.proofs.PartWay.{IsPartWay}
-use Rattle.range_map.proofs.map.RangeMap.remove_all.Given as goal
+use Rattle.range_map.proofs.map.RangeMap.remove_each.Given as goal
 
 abbrev pub invariant-loop-range : goal.invariant-loop-range
 invariant-loop-range g l =

@@ -2,7 +2,7 @@ use Rattle.range_map.proofs.Common.{tied_back, range_clone, range_total, range_o
 use Rattle.range_map.proofs.InPlace.{none_unbound, one_unbound, all_kept}
 use Rattle.range_map.proofs.PartWay.{set_out, one_done, stopped_at_gap, arrived}
 use Rattle.range_map.proofs.CloneLists.{clones_tied}
-use Rattle.range_map.proofs.map.RangeMap.retain_all.Goals as goal
+use Rattle.range_map.proofs.map.RangeMap.remove_gaps.Goals as goal
 
 pub loop-gap-init : goal.loop-gap-init
 loop-gap-init g c =

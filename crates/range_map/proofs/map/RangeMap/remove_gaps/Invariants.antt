@@ -1,6 +1,6 @@
 use Rattle.range_map.proofs.Common.{length, IsCanonical, AreUnboundAfter}
 use Rattle.range_map.proofs.PartWay.{IsPartWay}
-use Rattle.range_map.proofs.map.RangeMap.retain_all.Given as goal
+use Rattle.range_map.proofs.map.RangeMap.remove_gaps.Given as goal
 
 abbrev pub invariant-loop-gap : goal.invariant-loop-gap
 invariant-loop-gap g l =

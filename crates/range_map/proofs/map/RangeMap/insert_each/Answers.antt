@@ -2,7 +2,7 @@ use Rattle.range_map.proofs.Common.{tied_back, range_clone, range_total, AnyRang
 use Rattle.range_map.proofs.InPlace.{none_over, one_over}
 use Rattle.range_map.proofs.PartWay.{set_out, one_done, stopped}
 use Rattle.range_map.proofs.CloneLists.{clones_tied}
-use Rattle.range_map.proofs.map.RangeMap.extend_from.Goals as goal
+use Rattle.range_map.proofs.map.RangeMap.insert_each.Goals as goal
 
 pub loop-range-init : goal.loop-range-init
 loop-range-init g c =

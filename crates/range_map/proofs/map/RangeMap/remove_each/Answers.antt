@@ -1,7 +1,7 @@
 use Rattle.range_map.proofs.Common.{AnyRange, Item, IsWithout, error_has_no_value, on_error}
 use Rattle.range_map.proofs.InPlace.{none_without, one_without}
 use Rattle.range_map.proofs.PartWay.{set_out, one_done, stopped}
-use Rattle.range_map.proofs.map.RangeMap.remove_all.Goals as goal
+use Rattle.range_map.proofs.map.RangeMap.remove_each.Goals as goal
 
 pub loop-range-init : goal.loop-range-init
 loop-range-init g c =

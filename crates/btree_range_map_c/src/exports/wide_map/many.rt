@@ -1,0 +1,234 @@
+//! The calls on maps of keys of 128 bits to `u64` values that write to arrays, or read from them.
+ghost use Rattle.std.specs.Prelude.{◌<◌, ◌≤◌, map, take, drop, reverse, length, ◌≡◌, ◌≢◌, ◌⊎◌, [], ◌++◌, true, false, nat_eq, List, ℕ};
+ghost use Rattle.btree_range_map.specs.AnyRange.{AnyRange};
+ghost use Rattle.btree_range_map.specs.MapExtending.{AreBoundAfter};
+ghost use Rattle.address_keys.specs.Addresses.{ipv6_order};
+ghost use Rattle.btree_range_map.specs.Range.{IsEmptyRange};
+ghost use Rattle.btree_range_map.specs.Overlapping.{AreOverlapping};
+ghost use Rattle.btree_range_map.specs.PieceLists.{AreGapsWithin};
+ghost use Rattle.btree_range_map.specs.Pieces.{ArePieces};
+ghost use Rattle.range_ffi.specs.Flags.{from_key, upto_key};
+ghost use Rattle.range_ffi.specs.Wide.{wide_entry_item, wide_key, wide_piece_item, wide_range_of};
+ghost use Rattle.range_handles.specs.Held.{HoldsWideMap, wide_items};
+ghost use Rattle.range_handles.specs.Lists.{WideRanges, WidePieces};
+
+use range_ffi::status::{CLOSED, DONE, NO_MEMORY, OTHER_KIND};
+use range_ffi::wide::{WideBounds, WideEntry, WideKey, WidePiece};
+use range_handles::collection::Collection;
+use range_handles::handle::Handle;
+use range_handles::reads;
+use std::alloc::Global;
+
+/// Writes the stored ranges from the first that ends at the key or after it on, in ascending
+/// order, as many as the array takes, and how many.
+///
+/// Fewer than the array takes are written where there are no more. What lies behind them in the
+/// array stays as it was. Costs one search, and a step for each range.
+#[unsafe(no_mangle)]
+pub extern "C" fn brm_map_u128_read(
+    handle: &mut Handle,
+    key: &WideKey,
+    entries: &mut [WideEntry],
+    count: &mut usize,
+) -> u32
+    ensures unchanged { handle.new.seal.held ≡ handle.old.seal.held }
+    ensures read { result ≡ DONE → (rest : WideRanges)
+        × AreOverlapping ipv6_order (wide_items handle.old.seal.held) (from_key (wide_key key.now))
+        (map wide_entry_item (take count.new entries.new) ++ rest)
+        × (count.new < length entries.old → rest ≡ []) }
+    ensures within { result ≡ DONE → count.new ≤ length entries.old }
+    ensures behind { result ≡ DONE → drop count.new entries.new ≡ drop count.new entries.old }
+    ensures unwritten { result ≢ DONE
+        → (entries.new ≡ entries.old) × (count.new ≡ count.old) }
+    ensures answer { HoldsWideMap handle.old.seal.held → result ≡ DONE }
+    ensures closed { handle.old.is_open ≡ false → result ≡ CLOSED }
+    ensures other { handle.old.is_open ≡ true → (¬ HoldsWideMap handle.old.seal.held)
+        → result ≡ OTHER_KIND }
+{
+    if !handle.is_open {
+        return CLOSED;
+    }
+    match handle.seal.as_mut() {
+        Collection::Wide(kept) => reads::read(kept.as_map(), key.key(), entries, count),
+        _ => OTHER_KIND,
+    }
+}
+
+/// Writes the stored ranges from the last that starts at the key or before it on, in descending
+/// order, as many as the array takes, and how many.
+///
+/// Fewer than the array takes are written where there are no more. What lies behind them in the
+/// array stays as it was. Costs two searches, and a step for each range.
+#[unsafe(no_mangle)]
+pub extern "C" fn brm_map_u128_read_back(
+    handle: &mut Handle,
+    key: &WideKey,
+    entries: &mut [WideEntry],
+    count: &mut usize,
+) -> u32
+    ensures unchanged { handle.new.seal.held ≡ handle.old.seal.held }
+    ensures read { result ≡ DONE → (rest : WideRanges)
+        × AreOverlapping ipv6_order (wide_items handle.old.seal.held) (upto_key (wide_key key.now))
+        (rest ++ reverse (map wide_entry_item (take count.new entries.new)))
+        × (count.new < length entries.old → rest ≡ []) }
+    ensures within { result ≡ DONE → count.new ≤ length entries.old }
+    ensures behind { result ≡ DONE → drop count.new entries.new ≡ drop count.new entries.old }
+    ensures unwritten { result ≢ DONE
+        → (entries.new ≡ entries.old) × (count.new ≡ count.old) }
+    ensures answer { HoldsWideMap handle.old.seal.held → result ≡ DONE }
+    ensures closed { handle.old.is_open ≡ false → result ≡ CLOSED }
+    ensures other { handle.old.is_open ≡ true → (¬ HoldsWideMap handle.old.seal.held)
+        → result ≡ OTHER_KIND }
+{
+    if !handle.is_open {
+        return CLOSED;
+    }
+    match handle.seal.as_mut() {
+        Collection::Wide(kept) => reads::read_back(kept.as_map(), key.key(), entries, count),
+        _ => OTHER_KIND,
+    }
+}
+
+/// Writes the stored ranges that meet the range, whole, in ascending order, as many as the array
+/// takes, and how many.
+///
+/// Fewer than the array takes are written where there are no more. What lies behind them in the
+/// array stays as it was. Costs two searches, and a step for each range.
+#[unsafe(no_mangle)]
+pub extern "C" fn brm_map_u128_overlapping(
+    handle: &mut Handle,
+    range: &WideBounds,
+    entries: &mut [WideEntry],
+    count: &mut usize,
+) -> u32
+    ensures unchanged { handle.new.seal.held ≡ handle.old.seal.held }
+    ensures read { result ≡ DONE → ¬ IsEmptyRange ipv6_order (wide_range_of range.now)
+        → (rest : WideRanges)
+        × AreOverlapping ipv6_order (wide_items handle.old.seal.held) (wide_range_of range.now)
+        (map wide_entry_item (take count.new entries.new) ++ rest)
+        × (count.new < length entries.old → rest ≡ []) }
+    ensures empty { result ≡ DONE → IsEmptyRange ipv6_order (wide_range_of range.now)
+        → count.new ≡ 0 }
+    ensures within { result ≡ DONE → count.new ≤ length entries.old }
+    ensures behind { result ≡ DONE → drop count.new entries.new ≡ drop count.new entries.old }
+    ensures unwritten { result ≢ DONE
+        → (entries.new ≡ entries.old) × (count.new ≡ count.old) }
+    ensures answer { HoldsWideMap handle.old.seal.held → result ≡ DONE }
+    ensures closed { handle.old.is_open ≡ false → result ≡ CLOSED }
+    ensures other { handle.old.is_open ≡ true → (¬ HoldsWideMap handle.old.seal.held)
+        → result ≡ OTHER_KIND }
+{
+    if !handle.is_open {
+        return CLOSED;
+    }
+    match handle.seal.as_mut() {
+        Collection::Wide(kept) => reads::overlapping(kept.as_map(), range.range(), entries, count),
+        _ => OTHER_KIND,
+    }
+}
+
+/// Writes the parts of the range that hold no bound key, in ascending order, as many as the array
+/// takes, and how many.
+///
+/// Fewer than the array takes are written where there are no more. What lies behind them in the
+/// array stays as it was. Costs two searches, and a few steps for each stored range that meets the
+/// range.
+#[unsafe(no_mangle)]
+pub extern "C" fn brm_map_u128_gaps(
+    handle: &mut Handle,
+    range: &WideBounds,
+    ranges: &mut [WideBounds],
+    count: &mut usize,
+) -> u32
+    ensures unchanged { handle.new.seal.held ≡ handle.old.seal.held }
+    ensures gaps { result ≡ DONE → (rest : List (AnyRange Ipv6))
+        × AreGapsWithin ipv6_order (wide_items handle.old.seal.held) (wide_range_of range.now)
+        (map wide_range_of (take count.new ranges.new) ++ rest)
+        × (count.new < length ranges.old → rest ≡ []) }
+    ensures within { result ≡ DONE → count.new ≤ length ranges.old }
+    ensures behind { result ≡ DONE → drop count.new ranges.new ≡ drop count.new ranges.old }
+    ensures unwritten { result ≢ DONE
+        → (ranges.new ≡ ranges.old) × (count.new ≡ count.old) }
+    ensures answer { HoldsWideMap handle.old.seal.held → result ≡ DONE }
+    ensures closed { handle.old.is_open ≡ false → result ≡ CLOSED }
+    ensures other { handle.old.is_open ≡ true → (¬ HoldsWideMap handle.old.seal.held)
+        → result ≡ OTHER_KIND }
+{
+    if !handle.is_open {
+        return CLOSED;
+    }
+    match handle.seal.as_mut() {
+        Collection::Wide(kept) => reads::gaps(kept.as_map(), range.range(), ranges, count),
+        _ => OTHER_KIND,
+    }
+}
+
+/// Writes the parts of the range, in ascending order, with what their keys are bound to, as many as
+/// the array takes, and how many.
+///
+/// A part is what a stored range binds of the range, or what lies between two such parts, bound to
+/// none. Fewer than the array takes are written where there are no more. What lies behind them in
+/// the array stays as it was. Costs two searches, and a few steps for each part.
+#[unsafe(no_mangle)]
+pub extern "C" fn brm_map_u128_pieces(
+    handle: &mut Handle,
+    range: &WideBounds,
+    pieces: &mut [WidePiece],
+    count: &mut usize,
+) -> u32
+    ensures unchanged { handle.new.seal.held ≡ handle.old.seal.held }
+    ensures pieces { result ≡ DONE → (rest : WidePieces)
+        × ArePieces ipv6_order (wide_items handle.old.seal.held) (wide_range_of range.now)
+        (map wide_piece_item (take count.new pieces.new) ++ rest)
+        × (count.new < length pieces.old → rest ≡ []) }
+    ensures within { result ≡ DONE → count.new ≤ length pieces.old }
+    ensures behind { result ≡ DONE → drop count.new pieces.new ≡ drop count.new pieces.old }
+    ensures unwritten { result ≢ DONE
+        → (pieces.new ≡ pieces.old) × (count.new ≡ count.old) }
+    ensures answer { HoldsWideMap handle.old.seal.held → result ≡ DONE }
+    ensures closed { handle.old.is_open ≡ false → result ≡ CLOSED }
+    ensures other { handle.old.is_open ≡ true → (¬ HoldsWideMap handle.old.seal.held)
+        → result ≡ OTHER_KIND }
+{
+    if !handle.is_open {
+        return CLOSED;
+    }
+    match handle.seal.as_mut() {
+        Collection::Wide(kept) => reads::pieces(kept.as_map(), range.range(), pieces, count),
+        _ => OTHER_KIND,
+    }
+}
+
+/// Binds the keys of each range to the value beside it, one range after the other, and tells of how
+/// many: of all, or, with `NO_MEMORY`, of those before one for which there was not enough memory.
+///
+/// Where several ranges hold a key, the last one counts. Costs an insertion for each range, but no
+/// search where the map is empty and the ranges are in order: then it allocates two lists of them.
+#[unsafe(no_mangle)]
+pub extern "C" fn brm_map_u128_insert_many(
+    alloc: Global,
+    handle: &mut Handle,
+    entries: &[WideEntry],
+    count: &mut usize,
+) -> u32
+    ensures bound { HoldsWideMap handle.old.seal.held
+        → AreBoundAfter ipv6_order nat_eq (wide_items handle.old.seal.held)
+        (wide_items handle.new.seal.held) (map wide_entry_item (take count.new entries.now)) }
+    ensures kind { HoldsWideMap handle.old.seal.held → HoldsWideMap handle.new.seal.held }
+    ensures all { result ≡ DONE → count.new ≡ length entries.now }
+    ensures some { result ≡ NO_MEMORY → count.new < length entries.now }
+    ensures refused { (¬ HoldsWideMap handle.old.seal.held)
+        → (handle.new.seal.held ≡ handle.old.seal.held) × (count.new ≡ count.old) }
+    ensures answer { HoldsWideMap handle.old.seal.held → (result ≡ DONE) ⊎ (result ≡ NO_MEMORY) }
+    ensures closed { handle.old.is_open ≡ false → result ≡ CLOSED }
+    ensures other { handle.old.is_open ≡ true → (¬ HoldsWideMap handle.old.seal.held)
+        → result ≡ OTHER_KIND }
+{
+    if !handle.is_open {
+        return CLOSED;
+    }
+    match handle.seal.as_mut() {
+        Collection::Wide(kept) => kept.insert_many(alloc, entries, count),
+        _ => OTHER_KIND,
+    }
+}

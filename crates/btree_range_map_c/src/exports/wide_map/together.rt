@@ -1,0 +1,81 @@
+//! The calls on two maps of keys of 128 bits to `u64` values.
+ghost use Rattle.std.specs.Prelude.{map, ◌≡◌, ◌≢◌, ◌⊎◌, ◌↔◌, [], ◌++◌, true, false, nat_eq};
+ghost use Rattle.btree_range_map.specs.Appending.{LieBefore};
+ghost use Rattle.btree_range_map.specs.Bindings.{BindAlike};
+ghost use Rattle.address_keys.specs.Addresses.{ipv6_order};
+ghost use Rattle.btree_range_map.specs.Splitting.{IsSplitAt};
+ghost use Rattle.range_ffi.specs.Wide.{wide_key};
+ghost use Rattle.range_handles.specs.Held.{HoldsWideMap, wide_items};
+
+use range_ffi::status::{CLOSED, DONE, NO_MEMORY, OTHER_KIND, OUT_OF_ORDER};
+use range_ffi::wide::WideKey;
+use range_handles::collection::Collection;
+use range_handles::handle::Handle;
+
+/// Moves what lies from the key on, the key with it, to the other map, in place of what that held.
+///
+/// A stored range that holds the key is cut there. Allocates what the other map needs. Costs a step
+/// for each range that is moved.
+#[unsafe(no_mangle)]
+pub extern "C" fn brm_raw_map_u128_split_off(
+    handle: &mut Handle,
+    key: &WideKey,
+    other: &mut Handle,
+) -> u32
+    ensures split { result ≡ DONE
+        → IsSplitAt ipv6_order nat_eq (wide_key key.now) (wide_items handle.old.seal.held)
+        (wide_items handle.new.seal.held) (wide_items other.new.seal.held) }
+    ensures kind { result ≡ DONE
+        → HoldsWideMap handle.new.seal.held × HoldsWideMap other.new.seal.held }
+    ensures refused { result ≢ DONE → (handle.new.seal.held ≡ handle.old.seal.held)
+        × (other.new.seal.held ≡ other.old.seal.held) }
+    ensures answer { HoldsWideMap handle.old.seal.held → HoldsWideMap other.old.seal.held
+        → (result ≡ DONE) ⊎ (result ≡ NO_MEMORY) }
+    ensures closed { (handle.old.is_open ≡ false) ⊎ (other.old.is_open ≡ false)
+        → result ≡ CLOSED }
+    ensures other { handle.old.is_open ≡ true → other.old.is_open ≡ true
+        → (¬ HoldsWideMap handle.old.seal.held) ⊎ (¬ HoldsWideMap other.old.seal.held)
+        → result ≡ OTHER_KIND }
+{
+    if !handle.is_open || !other.is_open {
+        return CLOSED;
+    }
+    match (handle.seal.as_mut(), other.seal.as_mut()) {
+        (Collection::Wide(kept), Collection::Wide(rest)) => kept.split_off(key.key(), rest),
+        (_, _) => OTHER_KIND,
+    }
+}
+
+/// Moves all ranges of the other map, with their values, to the end of this one.
+///
+/// Each of them lies after all ranges of this map, or the call answers `OUT_OF_ORDER`. The first
+/// may become one with the last of this map. Costs a step for each range that is moved.
+#[unsafe(no_mangle)]
+pub extern "C" fn brm_raw_map_u128_append(handle: &mut Handle, other: &mut Handle) -> u32
+    ensures bound { result ≡ DONE → BindAlike ipv6_order nat_eq (wide_items handle.new.seal.held)
+        (wide_items handle.old.seal.held ++ wide_items other.old.seal.held) }
+    ensures emptied { result ≡ DONE → wide_items other.new.seal.held ≡ [] }
+    ensures kind { result ≡ DONE
+        → HoldsWideMap handle.new.seal.held × HoldsWideMap other.new.seal.held }
+    ensures out_of_order { HoldsWideMap handle.old.seal.held → HoldsWideMap other.old.seal.held
+        → (result ≡ OUT_OF_ORDER
+        ↔ ¬ LieBefore ipv6_order (wide_items handle.old.seal.held)
+        (wide_items other.old.seal.held)) }
+    ensures refused { result ≢ DONE → (handle.new.seal.held ≡ handle.old.seal.held)
+        × (other.new.seal.held ≡ other.old.seal.held) }
+    ensures answer { HoldsWideMap handle.old.seal.held → HoldsWideMap other.old.seal.held
+        → (result ≡ DONE) ⊎ ((result ≡ NO_MEMORY) ⊎ (result ≡ OUT_OF_ORDER)) }
+    ensures closed { (handle.old.is_open ≡ false) ⊎ (other.old.is_open ≡ false)
+        → result ≡ CLOSED }
+    ensures other { handle.old.is_open ≡ true → other.old.is_open ≡ true
+        → (¬ HoldsWideMap handle.old.seal.held) ⊎ (¬ HoldsWideMap other.old.seal.held)
+        → result ≡ OTHER_KIND }
+{
+    if !handle.is_open || !other.is_open {
+        return CLOSED;
+    }
+    match (handle.seal.as_mut(), other.seal.as_mut()) {
+        (Collection::Wide(kept), Collection::Wide(rest)) => kept.append(rest),
+        (_, _) => OTHER_KIND,
+    }
+}
