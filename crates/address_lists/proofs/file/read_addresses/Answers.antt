@@ -1,9 +1,11 @@
 use Rattle.address_lists.proofs.Files.{lines_unread, none_seen}
 use Rattle.address_lists.proofs.file.read_addresses.Goals as goal
-use Rattle.std.proofs.Common.{arith}
+use Rattle.std.proofs.Common.{arith, false, refl}
 
 pub returns-in-Ok-false-clause-fault : goal.returns-in-Ok-false-clause-fault
-returns-in-Ok-false-clause-fault g c = grind (arith, lines_unread)
+returns-in-Ok-false-clause-fault g c =
+    lines_unread c.args.strict c.args.bad_lines _ _ false c.read_lines.result
+    c.begins_as_json.ensures.kept (grind arith) refl c.read_lines.ensures.fault
 
 pub returns-in-Err-clause-fault : goal.returns-in-Err-clause-fault
 returns-in-Err-clause-fault g c = grind (arith, none_seen)
