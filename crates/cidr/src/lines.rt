@@ -82,7 +82,7 @@ pub fn look_up_lines<R: BufRead + Drop, W: Write>(
 
 /// Writes the lines of a text that hold an address of the list, as the search says, and returns
 /// whether there is one. `before` stands before each.
-pub fn search<R: BufRead + Drop, W: Write>(
+pub fn search_text<R: BufRead + Drop, W: Write>(
     alloc: Global,
     list: &Addresses,
     search: Search,

@@ -21,7 +21,7 @@ mod serve;
 
 use crate::compare::compare;
 use crate::inputs::{Input, ToldInput};
-use crate::lines::{look_up_lines, search};
+use crate::lines::{look_up_lines, search_text};
 use crate::lookup::look_up;
 use crate::output::Noted;
 use crate::serve::{Reading, Source, Stop, read_source, serve};
@@ -148,7 +148,7 @@ fn search_texts<W: Write>(
             _ => format!(in alloc; "{name}:")?,
         };
         let text = source(rt, name)?;
-        match search(alloc, list, search_of(wanted), before.as_str(), text, out) {
+        match search_text(alloc, list, search_of(wanted), before.as_str(), text, out) {
             Ok(found) => found_any |= found,
             Err(stop) => return Ok(Err(stop)),
         }
