@@ -3,6 +3,7 @@ ghost use Rattle.std.specs.Prelude.{◌<◌, ◌≤◌, map, take, drop, reverse
 ghost use Rattle.btree_range_map.specs.AnyRange.{AnyRange};
 ghost use Rattle.btree_range_map.specs.KeySets.{HoldsAllAlso};
 ghost use Rattle.address_keys.specs.Addresses.{ipv6_order};
+ghost use Rattle.address_keys.specs.declared.ipv6.Ipv6.{Ipv6};
 ghost use Rattle.btree_range_map.specs.Overlapping.{AreOverlapping};
 ghost use Rattle.btree_range_map.specs.PieceLists.{AreGapsWithin};
 ghost use Rattle.btree_range_map.specs.Range.{IsEmptyRange};
