@@ -1,5 +1,5 @@
 //! The calls on maps of keys of 128 bits to `u64` values that write to arrays, or read from them.
-ghost use Rattle.std.specs.Prelude.{◌<◌, ◌≤◌, map, take, drop, reverse, length, ◌≡◌, ◌≢◌, ◌⊎◌, [], ◌++◌, true, false, nat_eq, List};
+ghost use Rattle.std.specs.Prelude.{◌<◌, ◌≤◌, map, take, drop, reverse, length, ◌≡◌, ◌≢◌, ◌⊎◌, [], ◌++◌, true, false, nat_eq, List, ℕ};
 ghost use Rattle.btree_range_map.specs.AnyRange.{AnyRange};
 ghost use Rattle.btree_range_map.specs.MapExtending.{AreBoundAfter};
 ghost use Rattle.address_keys.specs.Addresses.{ipv6_order};

@@ -1,5 +1,5 @@
 //! The calls on sets of keys of 128 bits that write to arrays, or read from them.
-ghost use Rattle.std.specs.Prelude.{◌<◌, ◌≤◌, map, take, drop, reverse, length, ◌≡◌, ◌≢◌, ◌⊎◌, [], ◌++◌, true, false, List};
+ghost use Rattle.std.specs.Prelude.{◌<◌, ◌≤◌, map, take, drop, reverse, length, ◌≡◌, ◌≢◌, ◌⊎◌, [], ◌++◌, true, false, List, ℕ};
 ghost use Rattle.btree_range_map.specs.AnyRange.{AnyRange};
 ghost use Rattle.btree_range_map.specs.KeySets.{HoldsAllAlso};
 ghost use Rattle.address_keys.specs.Addresses.{ipv6_order};
