@@ -9,7 +9,7 @@ pub returns-in-Ok : goal.returns-in-Ok
 returns-in-Ok c = (
   λ held. (c.in-Ok.address, c.in-Ok.ensures, c.has.ensures.0 held),
   λ (address, is, held). c.has.ensures.1 (subst (λ a. HasIp c.args.list.now (Ip.V4 a))
-  (IsIpv4Text_unique c.args.text.now address c.in-Ok.address is c.in-Ok.ensures) held),
+      (IsIpv4Text_unique c.args.text.now address c.in-Ok.address is c.in-Ok.ensures) held),
 )
 
 pub returns-in-Err : goal.returns-in-Err
