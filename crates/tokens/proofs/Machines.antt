@@ -1,5 +1,5 @@
 -- A machine that was built of rules.
-use Rattle.std.proofs.Common.{◌≡◌, ◌≢◌, refl, sym, subst, inl, inr, ℕ, ◌++◌, List, length, take, arith}
+use Rattle.std.proofs.Common.{◌≡◌, ◌≢◌, refl, sym, subst, inl, inr, ℕ, ◌++◌, List, length, take, true≢false, arith}
 use Rattle.std.proofs.lemmas.Option.{IfSome_then}
 use Rattle.std.proofs.lemmas.Result.{IfOk-weaker}
 use Rattle.std.specs.Prelude.{Result, Ok, Err, Option, Some, None, IfOk, IfSome, IfNone, IsNone, ⊤}
@@ -85,4 +85,4 @@ no_rule_first path all number rules patterns said taken (before, line, is, here,
 pub all_read : (all : List (List ℕ)) (no_rule : Option ℕ) (rules : List PatternRule)
     → AreRead all no_rule rules → IsNone no_rule → AllZip IsRule (rule_lines all) rules
 all_read all None rules read none = read
-all_read all (Some number) rules read none = absurd none
+all_read all (Some number) rules read none = absurd (true≢false none)

@@ -7,17 +7,17 @@ use Rattle.tokens.proofs.rules.machine_of.Goals as goal
 pub show_bad_rule-requires : goal.show_bad_rule-requires
 show_bad_rule-requires g c = rw c.deref.ensures.value at c.in-Err.ensures.refused
 
-pub returns-in-Ok-in-None-clause-machine : goal.returns-in-Ok-in-None-clause-machine
-returns-in-Ok-in-None-clause-machine g c =
+pub returns-in-None-clause-machine : goal.returns-in-None-clause-machine
+returns-in-None-clause-machine g c =
     found_as c.built.result _ _
     (λ machine same. (
-      rw c.in-None.is tt,
+      rw c.in-None.is refl,
       of_rules _ _ c.in-Ok.lexer _ c.deref.ensures.value same c.in-Ok.ensures.count
           c.in-Ok.ensures.tokens c.in-Ok.ensures.named c.in-Ok.ensures.skips,
     )) c.built.ensures.machine
 
-pub returns-in-Ok-in-None-clause-refused : goal.returns-in-Ok-in-None-clause-refused
-returns-in-Ok-in-None-clause-refused g c = λ all read numbers.
+pub returns-in-None-clause-refused : goal.returns-in-None-clause-refused
+returns-in-None-clause-refused g c = λ all read numbers.
     let lexer = c.in-Ok.lexer in
     let (patterns, of) =
     of_rules _ c.args.rules.now.rules.items lexer lexer c.deref.ensures.value refl
