@@ -1,9 +1,9 @@
 -- The leads of ranges of characters.
-use Rattle.std.proofs.Common.{◌≡◌, ◌↔◌, ◌⊎◌, ℕ, ◌≤◌, min, max, true, List, [], ◌∷◌, arith}
+use Rattle.std.proofs.Common.{◌≡◌, ◌↔◌, ◌⊎◌, ℕ, ◌+◌, ◌≤◌, min, max, true, List, [], ◌∷◌, ◌++◌, arith}
 use Rattle.std.proofs.lemmas.Bool.Decides.{nat_tests}
 use Rattle.std.specs.Char.{IsScalar}
 use Rattle.regex_class.specs.Ranges.{in_range, in_ranges}
-use Rattle.character_leads.specs.Leads.{AnyOf, HasPiece}
+use Rattle.character_leads.specs.Leads.{AnyOf, HasPiece, lead_count, range_lead_count}
 
 module _ (old between new : ℕ → ℕ → Type 0) (first last to low_last high_first high_last : ℕ)
     (is_low : low_last ≡ min last 0xD7FF) (is_high : high_first ≡ max first 0xE000)
@@ -25,3 +25,13 @@ pub in_ranges_any : (rs : List (ℕ × ℕ)) (c q to : ℕ)
 unfolding in_ranges
 in_ranges_any [] c q to = grind arith
 in_ranges_any (r ∷ rs) c q to = grind (arith, in_range_parts r c, in_ranges_any rs c q to)
+
+-- a range more
+counted_more : (rs : List (ℕ × ℕ)) (r : ℕ × ℕ)
+    → lead_count (rs ++ r ∷ []) ≡ lead_count rs + range_lead_count r
+counted_more [] r = omega arith
+counted_more (x ∷ rs) r = omega (arith, counted_more rs r)
+
+pub lead_count-push : (rs more : List (ℕ × ℕ)) (r : ℕ × ℕ) → more ≡ rs ++ r ∷ []
+    → lead_count more ≡ lead_count rs + range_lead_count r
+lead_count-push rs more r is = rw is (counted_more rs r)

@@ -1,3 +1,4 @@
+pub mod Giving
 pub mod Growing
 pub mod Meeting
 pub mod Rows

@@ -1,5 +1,6 @@
 pub mod Budgets
 pub mod Building
+pub mod Given
 pub mod Left
 pub mod Lexers
 pub mod Machines

@@ -26,8 +26,8 @@
 //!
 //! - what the rules of a lexer accept, the token that a text begins with:
 //!   `src/{lexer,scanner}.rt`, `specs/{Lexers,Tokens}.antt`, over `Tokens` of the crate `state_sets`
-//! - the tokens of a text, one after the other: `src/{tokens,cutting}.rt`, `specs/Runs.antt`,
-//!   `proofs/TokenLists.antt`
+//! - the tokens of a text, one after the other: `src/{tokens,cutting}.rt`,
+//!   `specs/{Runs,Given}.antt`, `proofs/{TokenLists,Giving}.antt`
 //! - the machine of a lexer, which finds the same tokens: `src/machine.rt`,
 //!   `specs/{Machines,MachineSteps}.antt`, `proofs/Running.antt`
 //! - how it is built, within a budget of states: `src/{build,states,error}.rt`,

@@ -1,6 +1,11 @@
 //! What finds the tokens of a lexer.
-ghost use Rattle.std.specs.Prelude.{◌≡◌, ◌↔◌, IsTrue, IfOk, OnErr, MatchOption};
+ghost use Rattle.std.specs.Prelude.{◌≡◌, ◌↔◌, List, None, Result, IsTrue, IfOk, OnErr, MatchOption};
+ghost use Rattle.std.specs.Iterator.{YieldsThen};
 ghost use Rattle.lexing.specs.declared.lexer.Lexer.{Lexer};
+ghost use Rattle.lexing.specs.declared.token.Token.{Token};
+ghost use Rattle.lexing.specs.declared.token.LexError.{LexError};
+ghost use Rattle.lexing.specs.Given.{AreGiven, GivesNext};
+ghost use Rattle.lexing.specs.Left.{Left};
 ghost use Rattle.lexing.specs.Lexers.{IsSkipped};
 ghost use Rattle.lexing.specs.Tokens.{IsToken, BeginsWithNone};
 
@@ -30,6 +35,9 @@ pub trait Scanner {
 
     /// The tokens of the text, but for those that are skipped. Allocates as `longest_match`.
     ///
+    /// With what is skipped, and with the characters where no token begins, they are the whole text,
+    /// unless an allocation fails.
+    ///
     /// Each token is the longest piece of the text from its place on that some rule accepts, by the
     /// first such rule. A text of `n` characters costs at most `n * n` steps, where a long piece is
     /// looked at for each short token. It costs about `n` where no rule looks far beyond its
@@ -40,6 +48,9 @@ pub trait Scanner {
         ensures scanner { result.scanner ≡ self.now }
         ensures text { result.text ≡ text.now }
         ensures start { result.place ≡ 0 }
+        ensures whole { (items : List (Result Token LexError)) (last : Left Self)
+            → YieldsThen (GivesNext lexer may_refuse) result items None last
+            → AreGiven (lexer self.now) text.now (may_refuse self.now) 0 items }
     {
         Tokens::new(self, text)
     }

@@ -2,6 +2,7 @@
 ghost use Rattle.std.specs.Prelude.{◌≡◌, ◌-◌, ◌<◌, length, IsTrue, OnSome, MatchResult};
 ghost use Rattle.std.specs.Str.{IsCharBoundary};
 ghost use Rattle.std.specs.Iterator.{at_most};
+ghost use Rattle.lexing.specs.Given.{GivesNext};
 ghost use Rattle.lexing.specs.Runs.{IsNext, IsTokenAt, IsReasonAt, IsBehindOne};
 
 use crate::scanner::Scanner;
@@ -56,8 +57,7 @@ impl<'a, S: Scanner> Tokens<'a, S> {
 impl<'a, S: Scanner> Iterator for Tokens<'a, S> {
     type Item = Result<Token, LexError>;
 
-    ghost next_gives = { λ s item t. (t.scanner ≡ s.scanner) × (t.text ≡ s.text)
-        × IsNext (S.lexer s.scanner) s.text (S.may_refuse s.scanner) s.place item t.place };
+    ghost next_gives = { GivesNext S.lexer S.may_refuse };
 
     ghost remaining = { λ s. at_most (length s.text - s.place) };
 

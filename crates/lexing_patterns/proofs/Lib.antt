@@ -1,6 +1,7 @@
 pub mod Drafting
 pub mod Faults
 pub mod Joining
+pub mod Making
 pub mod Literals
 pub mod Meanings
 pub mod Naming
@@ -8,3 +9,6 @@ pub mod CharacterRanges
 pub mod Pouring
 pub mod Promise
 pub mod Repeating
+pub mod Sizing
+pub mod Spending
+pub mod Totals

@@ -19,7 +19,7 @@ use Rattle.regex_hir.specs.Matches.{Matches}
 use Rattle.lexing_patterns.specs.declared.draft.Draft.{Draft}
 use Rattle.lexing_patterns.specs.Languages.{IsLanguage}
 use Rattle.lexing_patterns.specs.Parts.{HasEdge, Path}
-use Rattle.lexing_patterns.specs.Drafts.{DraftReads, IsDraft}
+use Rattle.lexing_patterns.specs.Drafts.{AreDrafted, DraftReads}
 use Rattle.lexing_patterns.specs.Patterns.{MatchesAll, MatchesFirst, IsLongestMatch, IsPoured}
 
 nothing_left : (cs : List ℕ) → length (encode_utf8_all cs) ≡ 0 → cs ≡ []
@@ -39,8 +39,8 @@ whole_text re L is text utf8 =
 is_character : (c : ℕ) → IsScalar c → IsCharacter c
 is_character c s = grind (arith, nat_tests)
 
-module _ (draft : Draft) (lexer : Lexer) (patterns : List Re) (is : IsDraft draft patterns)
-    (poured : IsPoured draft lexer) where
+module _ (draft : Draft) (lexer : Lexer) (patterns : List Re) (is : AreDrafted draft.edges.items
+    draft.starts.items draft.ends.items draft.builder.next patterns) (poured : IsPoured draft lexer) where
   leads : (p : ℕ) (w : List ℕ) (q : ℕ) → all_scalars w ≡ true
       → LeadsTo (rules_in lexer) p w q ↔ Path (HasEdge draft.edges.items) p w q
   leads p [] q s = (λ h. h, λ h. h)

@@ -1,12 +1,15 @@
 -- The automata of several rules, side by side.
-use Rattle.std.specs.Prelude.{◌≡◌, ℕ, ◌<◌, List, length, Some, slice_get}
+use Rattle.std.specs.Prelude.{◌≡◌, ℕ, ◌+◌, ◌<◌, List, length, Some, slice_get}
+use Rattle.std.specs.List.{AllByRecursion}
 use Rattle.regex_hir.specs.Re.{Re}
 use Rattle.lexing_patterns.specs.declared.part.Edge.{Edge}
 use Rattle.lexing_patterns.specs.declared.draft.End.{End}
 use Rattle.lexing_patterns.specs.declared.draft.Draft.{Draft}
 use Rattle.lexing_patterns.specs.Languages.{IsLanguage}
 use Rattle.character_leads.specs.Leads.{AnyOf}
+use Rattle.lexing_patterns.specs.Leaves.{IsTaken}
 use Rattle.lexing_patterns.specs.Parts.{HasEdge, IsAmong, Path}
+use Rattle.lexing_patterns.specs.Sizes.{step_budget, total_steps}
 
 -- a text of the rule may end in the state
 abbrev pub HasEnd : List End → ℕ → ℕ → Type 0
@@ -31,5 +34,9 @@ pub record AreDrafted (edges : List Edge) (starts : List ℕ) (ends : List End) 
   pub languages : (r : ℕ) (re : Re) → slice_get res r ≡ Some re
       → IsLanguage re (DraftReads edges starts ends r)
 
-abbrev pub IsDraft : Draft → List Re → Type 0
-IsDraft draft = AreDrafted draft.edges.items draft.starts.items draft.ends.items draft.builder.next
+-- these patterns are taken, and the rest of the budget is left
+pub record IsDraft (draft : Draft) (res : List Re) : Type 0 where
+  pub automata : AreDrafted draft.edges.items draft.starts.items draft.ends.items
+      draft.builder.next res
+  pub taken : AllByRecursion IsTaken res
+  pub spent : draft.builder.budget + total_steps res ≡ step_budget

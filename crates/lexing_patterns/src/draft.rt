@@ -3,7 +3,7 @@ ghost use Rattle.std.specs.Prelude.{ℕ, ◌≡◌, ◌↔◌, ◌⊎◌, [], �
 ghost use Rattle.regex_hir.specs.Re.{Re};
 ghost use Rattle.regex_hir.specs.Meaning.{meaning};
 ghost use Rattle.lexing_patterns.specs.Drafts.{HasEnd, IsDraft};
-ghost use Rattle.lexing_patterns.specs.Faults.{IsFaultIn};
+ghost use Rattle.lexing_patterns.specs.Faults.{IsFaultBehind};
 ghost use Rattle.lexing_patterns.specs.Parts.{IsAmong};
 
 use crate::builder::Builder;
@@ -12,7 +12,7 @@ use crate::part::{Edge, Part, link, states_with};
 use regex_hir::Hir;
 use std::alloc::{AllocError, Global};
 
-/// How many steps the patterns of one lexer may take: nodes, ranges and edges.
+/// How many steps the patterns of one lexer may take: states, ranges and edges.
 const BUDGET: usize = 1_000_000;
 
 /// A state in which texts of a rule may end.
@@ -51,7 +51,8 @@ impl Draft {
     pub(crate) fn add(&mut self, hir: &Hir, rule: u32) -> Result<(), PatternError>
         ensures added { OnOk result ((res : List Re) → rule ≡ length res → IsDraft self.old res
             → IsDraft self.new (res ++ meaning hir.now ∷ [])) }
-        ensures refused { IfErr result (IsFaultIn (meaning hir.now)) }
+        ensures refused { (res : List Re) → IsDraft self.old res
+            → IfErr result (IsFaultBehind res (meaning hir.now)) }
     {
         let part = self.builder.part(hir)?;
         let start = self.builder.state()?;

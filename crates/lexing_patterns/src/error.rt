@@ -19,7 +19,8 @@ pub enum PatternError {
     /// It may match bytes that are no UTF-8.
     #[error("bytes that are no UTF-8 are not taken")]
     NotText,
-    /// It is larger than the budget allows, by what it repeats or by how much may follow what.
+    /// With those before it, it takes more steps than the budget has: by what it repeats, or by how
+    /// much may follow what.
     #[error("the pattern is too large")]
     TooLarge,
     /// An allocation failed.

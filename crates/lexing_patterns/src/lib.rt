@@ -18,8 +18,10 @@
 //! - the promise: `src/patterns.rt`, `specs/Patterns.antt`, `proofs/Promise.antt`
 //! - which texts a pattern matches, as a language over characters, form by form:
 //!   `specs/Languages.antt`, `proofs/{Meanings,Literals,Repeating}.antt`
+//! - why a pattern is not taken, and how many steps it takes:
+//!   `specs/{Faults,Leaves,Sizes}.antt`, `proofs/{Faults,Sizing,Spending,Totals}.antt`
 //! - a pattern as a part of an automaton, whose states are each entered by one character or class:
-//!   `src/{trees,builder}.rt`, `specs/Built.antt`
+//!   `src/{trees,builder}.rt`, `specs/Built.antt`, `proofs/Making.antt`
 //! - parts, and how they are put together: `src/part.rt`, `specs/Parts.antt`,
 //!   `proofs/{Joining,CharacterRanges}.antt`
 //! - the automata of several rules side by side, and as those of a lexer: `src/{draft,pour}.rt`,

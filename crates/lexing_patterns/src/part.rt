@@ -1,10 +1,11 @@
 //! Automata in parts, and how parts are put together.
-ghost use Rattle.std.specs.Prelude.{ℕ, ◌≤◌, ◌+◌, ◌≡◌, ◌↔◌, ◌⊎◌, [], ◌∷◌, List, true, IsTrue, IfOk, OnOk};
+ghost use Rattle.std.specs.Prelude.{ℕ, ◌≤◌, ◌<◌, ◌+◌, ◌≡◌, ◌↔◌, ◌⊎◌, [], ◌∷◌, List, length, true, if◌then◌else◌, IsTrue, IfOk, OnOk, vec_len};
 ghost use Rattle.std.specs.Str.{all_scalars};
 ghost use Rattle.regex_class.specs.Ranges.{in_ranges};
 ghost use Rattle.character_leads.specs.Leads.{Leads};
 ghost use Rattle.lexing_patterns.specs.Languages.{InTurn, OneOf, RoundsOf};
 ghost use Rattle.lexing_patterns.specs.Parts.{HasEdge, IsAmong, Reads, IsWithin};
+ghost use Rattle.lexing_patterns.specs.Sizes.{HasSize, Size, choice_size, class_size, empty_size, rounds_size, turn_size};
 
 use character_leads::{Lead, leads_of};
 use regex_class::ClassRange;
@@ -32,6 +33,7 @@ pub(crate) struct Part {
 pub(crate) fn nothing(alloc: Global) -> Part
     ensures reads { (w : List ℕ) → ¬ Reads result w }
     ensures within { (low high : ℕ) → IsWithin result low high }
+    ensures size { HasSize result (class_size []) }
 {
     Part {
         leads: Vec::new(alloc),
@@ -43,9 +45,11 @@ pub(crate) fn nothing(alloc: Global) -> Part
 
 /// Accepts one character of the ranges, which leads to the state.
 pub(crate) fn one_of(alloc: Global, ranges: &[ClassRange], state: u32) -> Result<Part, AllocError>
+    requires { 0 < length ranges.now }
     ensures reads { IfOk result (λ r. (w : List ℕ) → all_scalars w ≡ true
         → Reads r w ↔ OneOf (in_ranges ranges.now) w) }
     ensures within { IfOk result (λ r. IsWithin r state (state + 1)) }
+    ensures size { IfOk result (λ r. HasSize r (class_size ranges.now)) }
 {
     let leads = leads_of(alloc, ranges, state)?;
     let ends = Vec::from_slice(alloc, &[state])?;
@@ -61,6 +65,7 @@ pub(crate) fn one_of(alloc: Global, ranges: &[ClassRange], state: u32) -> Result
 pub(crate) fn or_empty(part: Part) -> Part
     ensures reads { (w : List ℕ) → Reads result w ↔ (Reads part w ⊎ (w ≡ [])) }
     ensures within { (low high : ℕ) → IsWithin part low high → IsWithin result low high }
+    ensures size { (a : Size) → HasSize part a → HasSize result (choice_size a empty_size) }
 {
     let Part {
         leads,
@@ -82,6 +87,8 @@ pub(crate) fn either(one: Part, other: Part) -> Result<Part, AllocError>
         → IsWithin one middle high → (w : List ℕ) → Reads r w ↔ (Reads one w ⊎ Reads other w)) }
     ensures within { IfOk result (λ r. (low middle high : ℕ) → low ≤ middle → middle ≤ high
         → IsWithin other low middle → IsWithin one middle high → IsWithin r low high) }
+    ensures size { IfOk result
+        (λ r. (a b : Size) → HasSize one a → HasSize other b → HasSize r (choice_size a b)) }
 {
     let Part {
         mut leads,
@@ -108,6 +115,8 @@ pub(crate) fn in_turn(front: Part, back: Part) -> Result<Part, AllocError>
         → Reads r w ↔ InTurn (Reads front) (Reads back) w) }
     ensures within { IfOk result (λ r. (low middle high : ℕ) → low ≤ middle → middle ≤ high
         → IsWithin back low middle → IsWithin front middle high → IsWithin r low high) }
+    ensures size { IfOk result
+        (λ r. (a b : Size) → HasSize front a → HasSize back b → HasSize r (turn_size a b)) }
 {
     let Part {
         leads: leads_of_back,
@@ -133,6 +142,7 @@ pub(crate) fn repeated(part: Part) -> Result<Part, AllocError>
     ensures reads { IfOk result (λ r. (w : List ℕ) → Reads r w ↔ RoundsOf (Reads part) w) }
     ensures within { IfOk result (λ r. (low high : ℕ) → IsWithin part low high
         → IsWithin r low high) }
+    ensures size { IfOk result (λ r. (a : Size) → HasSize part a → HasSize r (rounds_size a)) }
 {
     let Part {
         leads,
@@ -151,8 +161,10 @@ pub(crate) fn repeated(part: Part) -> Result<Part, AllocError>
 
 /// The leads, with others behind them where these are wanted.
 fn leads_with(mut leads: Vec<Lead>, more: &[Lead], wanted: bool) -> Result<Vec<Lead>, AllocError>
-    ensures { IfOk result (λ r. (c q : ℕ) → Leads r.items c q
+    ensures members { IfOk result (λ r. (c q : ℕ) → Leads r.items c q
         ↔ (Leads leads.items c q ⊎ (IsTrue wanted × Leads more.now c q))) }
+    ensures len { IfOk result
+        (λ r. vec_len r ≡ vec_len leads + (if wanted then length more.now else 0)) }
 {
     if wanted {
         leads.extend_from_slice(more)?;
@@ -166,8 +178,10 @@ pub(crate) fn states_with(
     more: &[u32],
     wanted: bool,
 ) -> Result<Vec<u32>, AllocError>
-    ensures { IfOk result (λ r. (q : ℕ) → IsAmong q r.items
+    ensures members { IfOk result (λ r. (q : ℕ) → IsAmong q r.items
         ↔ (IsAmong q states.items ⊎ (IsTrue wanted × IsAmong q more.now))) }
+    ensures len { IfOk result
+        (λ r. vec_len r ≡ vec_len states + (if wanted then length more.now else 0)) }
 {
     if wanted {
         states.extend_from_slice(more)?;

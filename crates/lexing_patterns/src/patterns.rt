@@ -1,11 +1,12 @@
 //! A lexer of several patterns.
-ghost use Rattle.std.specs.Prelude.{ℕ, ◌≡◌, ◌≢◌, ◌⊎◌, ◌↔◌, ◌∷◌, [], ◌++◌, List, length, IfErr, IfOk, OnOk};
+ghost use Rattle.std.specs.Prelude.{ℕ, ◌≤◌, ◌≡◌, ◌≢◌, ◌⊎◌, ◌↔◌, ◌∷◌, [], ◌++◌, List, length, IfErr, IfOk, OnOk};
 ghost use Rattle.regex_hir.specs.Re.{Re};
 ghost use Rattle.lexing.specs.Lexers.{Accepts, rules_in, rule_count};
 ghost use Rattle.regex_syntax.specs.declared.error.ErrorKind.TheVariants.{OutOfMemory};
 ghost use Rattle.lexing_patterns.specs.Drafts.{IsDraft};
-ghost use Rattle.lexing_patterns.specs.Faults.{IsFault, IsRefusal};
+ghost use Rattle.lexing_patterns.specs.Faults.{AreTaken, IsFault, IsRefusal};
 ghost use Rattle.lexing_patterns.specs.Patterns.{IsReadAs, AreReadAs, IsPoured, IsLexerOf, HasNamesOf, SkipsAs};
+ghost use Rattle.lexing_patterns.specs.Sizes.{step_budget};
 ghost use Rattle.lexing_patterns.specs.declared.error.PatternError.TheVariants.{Memory, Syntax};
 
 use crate::draft::Draft;
@@ -29,7 +30,8 @@ pub struct PatternRule<'a> {
 /// Each token is the longest piece of the text from its place on that one of the patterns matches,
 /// by the first such pattern. The patterns are those of the crate `regex_syntax`, without
 /// assertions. The rules are numbered from 0, as they stand. An error names the first rule that is
-/// not taken, and why.
+/// not taken, and why. The patterns together may take a million steps: one for each state, range and
+/// edge of their automata.
 ///
 /// Costs a state for each character or class of the patterns, after `{m,n}` is written out.
 /// Allocates.
@@ -38,6 +40,7 @@ pub fn lexer(alloc: Global, rules: &[PatternRule]) -> Result<Lexer, RuleError>
     ensures named { IfOk result (HasNamesOf rules.now) }
     ensures skips { IfOk result (SkipsAs rules.now) }
     ensures tokens { IfOk result (IsLexerOf rules.now) }
+    ensures taken { IfOk result (λ lexer. (patterns : List Re) × AreTaken rules.now patterns) }
     ensures refused { IfErr result (IsRefusal rules.now) }
 {
     let draft = draft_of(alloc, rules)?;
@@ -73,13 +76,13 @@ fn add_pattern(
     pattern: &str,
     number: usize,
 ) -> Result<(), PatternError>
+    requires { number ≤ step_budget }
     ensures added { OnOk result ((res : List Re) → number ≡ length res → IsDraft draft.old res
         → (re : Re) × IsReadAs pattern.now re × IsDraft draft.new (res ++ re ∷ [])) }
-    ensures refused { IfErr result (IsFault pattern.now) }
+    ensures refused { (res : List Re) → IsDraft draft.old res
+        → IfErr result (IsFault res pattern.now) }
 {
-    let Ok(rule) = u32::try_from(number) else {
-        return Err(PatternError::TooLarge);
-    };
+    let rule = number as u32;
     match regex_syntax::parse(alloc, pattern, &Config::default()) {
         Ok(parsed) => draft.add(&parsed.hir, rule),
         Err(error) => Err(fault(error)),

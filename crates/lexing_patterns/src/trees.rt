@@ -1,10 +1,11 @@
 //! The parts of patterns, from their trees.
-ghost use Rattle.std.specs.Prelude.{ℕ, ◌≤◌, ◌≡◌, Bool, map, IfErr, IfOk};
+ghost use Rattle.std.specs.Prelude.{ℕ, ◌≤◌, ◌+◌, ◌≡◌, Bool, map, IfErr, IfOk, OnOk};
 ghost use Rattle.std.specs.Str.{chars};
 ghost use Rattle.regex_hir.specs.Re.{Re, literal};
 ghost use Rattle.regex_hir.specs.Meaning.{meaning, repeat, copies, up_to, cat_all, alt_all};
 ghost use Rattle.lexing_patterns.specs.Built.{IsBuilt};
-ghost use Rattle.lexing_patterns.specs.Faults.{IsFaultIn, IsTooMuch};
+ghost use Rattle.lexing_patterns.specs.Faults.{IsFaultIn};
+ghost use Rattle.lexing_patterns.specs.Sizes.{step_count};
 
 use crate::builder::Builder;
 use crate::error::PatternError;
@@ -18,11 +19,12 @@ impl Builder {
     pub(crate) fn part(&mut self, hir: &Hir) -> Result<Part, PatternError>
         ensures built { IfOk result (λ r. IsBuilt (meaning hir.now) r self.old.next self.new.next) }
         ensures grows { self.old.next ≤ self.new.next }
-        ensures refused { IfErr result (IsFaultIn (meaning hir.now)) }
+        ensures spent { OnOk result
+            (self.old.budget ≡ self.new.budget + step_count (meaning hir.now)) }
+        ensures refused { IfErr result (IsFaultIn self.old.budget (meaning hir.now)) }
     {
-        self.spend(1)?;
         match hir {
-            Hir::Empty => Ok(self.empty()),
+            Hir::Empty => self.empty(),
             Hir::Literal(bytes) => self.literal(bytes),
             Hir::Bytes(class) => self.byte(class),
             Hir::Chars(class) => self.character(&class.ranges),
@@ -40,9 +42,12 @@ impl Builder {
         ensures built { IfOk result
             (λ r. IsBuilt (cat_all (map meaning subs.now)) r self.old.next self.new.next) }
         ensures grows { self.old.next ≤ self.new.next }
-        ensures refused { IfErr result (IsFaultIn (cat_all (map meaning subs.now))) }
+        ensures spent { OnOk result
+            (self.old.budget ≡ self.new.budget + step_count (cat_all (map meaning subs.now))) }
+        ensures refused { IfErr result
+            (IsFaultIn self.old.budget (cat_all (map meaning subs.now))) }
     {
-        let mut all = self.empty();
+        let mut all = self.empty()?;
         for i in (0..subs.len()).rev() {
             let front = self.part(&subs[i])?;
             all = self.in_turn(front, all)?;
@@ -55,9 +60,12 @@ impl Builder {
         ensures built { IfOk result
             (λ r. IsBuilt (alt_all (map meaning subs.now)) r self.old.next self.new.next) }
         ensures grows { self.old.next ≤ self.new.next }
-        ensures refused { IfErr result (IsFaultIn (alt_all (map meaning subs.now))) }
+        ensures spent { OnOk result
+            (self.old.budget ≡ self.new.budget + step_count (alt_all (map meaning subs.now))) }
+        ensures refused { IfErr result
+            (IsFaultIn self.old.budget (alt_all (map meaning subs.now))) }
     {
-        let mut any = self.nothing();
+        let mut any = self.nothing()?;
         for i in (0..subs.len()).rev() {
             let one = self.part(&subs[i])?;
             any = self.either(one, any)?;
@@ -70,8 +78,10 @@ impl Builder {
         ensures built { IfOk result (λ r. (greedy : Bool)
             → IsBuilt (repeat min max greedy (meaning sub.now)) r self.old.next self.new.next) }
         ensures grows { self.old.next ≤ self.new.next }
+        ensures spent { OnOk result ((greedy : Bool) → self.old.budget
+            ≡ self.new.budget + step_count (repeat min max greedy (meaning sub.now))) }
         ensures refused { IfErr result (λ error. (greedy : Bool)
-            → IsFaultIn (repeat min max greedy (meaning sub.now)) error) }
+            → IsFaultIn self.old.budget (repeat min max greedy (meaning sub.now)) error) }
     {
         match max {
             Some(max) => {
@@ -82,7 +92,7 @@ impl Builder {
                 let once = self.part(sub)?;
                 let rest = self.repeated(once)?;
                 if min == 0 {
-                    return Ok(self.optional(rest));
+                    return self.optional(rest);
                 }
                 self.copies(min - 1, sub, rest)
             }
@@ -96,8 +106,12 @@ impl Builder {
             → IsBuilt re rest low self.old.next
             → IsBuilt (copies count (meaning sub.now) re) r low self.new.next) }
         ensures grows { self.old.next ≤ self.new.next }
-        ensures refused { IfErr result
-            (λ error. (re : Re) → IsFaultIn (copies count (meaning sub.now) re) error) }
+        ensures spent { OnOk result ((re : Re) (low : ℕ) → low ≤ self.old.next
+            → IsBuilt re rest low self.old.next → self.old.budget + step_count re
+            ≡ self.new.budget + step_count (copies count (meaning sub.now) re)) }
+        ensures refused { IfErr result (λ error. (re : Re) (low : ℕ) → low ≤ self.old.next
+            → IsBuilt re rest low self.old.next → IsFaultIn (self.old.budget + step_count re)
+            (copies count (meaning sub.now) re) error) }
     {
         let mut all = rest;
         for done in 0..count {
@@ -113,14 +127,16 @@ impl Builder {
         ensures built { IfOk result (λ r. (greedy : Bool)
             → IsBuilt (up_to greedy most (meaning sub.now)) r self.old.next self.new.next) }
         ensures grows { self.old.next ≤ self.new.next }
+        ensures spent { OnOk result ((greedy : Bool) → self.old.budget
+            ≡ self.new.budget + step_count (up_to greedy most (meaning sub.now))) }
         ensures refused { IfErr result (λ error. (greedy : Bool)
-            → IsFaultIn (up_to greedy most (meaning sub.now)) error) }
+            → IsFaultIn self.old.budget (up_to greedy most (meaning sub.now)) error) }
     {
-        let mut all = self.empty();
+        let mut all = self.empty()?;
         for done in 0..most {
             let front = self.part(sub)?;
             let some = self.in_turn(front, all)?;
-            all = self.optional(some);
+            all = self.optional(some)?;
         }
         Ok(all)
     }
@@ -129,13 +145,15 @@ impl Builder {
     fn literal(&mut self, bytes: &[u8]) -> Result<Part, PatternError>
         ensures built { IfOk result (λ r. IsBuilt (literal bytes.now) r self.old.next self.new.next) }
         ensures grows { self.old.next ≤ self.new.next }
-        ensures refused { IfErr result (IsFaultIn (literal bytes.now)) }
+        ensures spent { OnOk result
+            (self.old.budget ≡ self.new.budget + step_count (literal bytes.now)) }
+        ensures refused { IfErr result (IsFaultIn self.old.budget (literal bytes.now)) }
     {
         let Ok(text) = std::str::from_utf8(bytes) else {
             return Err(PatternError::NotText);
         };
         let characters = characters(self.alloc, text)?;
-        let mut all = self.empty();
+        let mut all = self.empty()?;
         for i in (0..characters.len()).rev() {
             let c = characters[i] as u32;
             let front = self.character(&[(c, c)])?;

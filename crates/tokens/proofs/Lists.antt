@@ -1,5 +1,6 @@
 -- What stands at an index of a list, and of two lists side by side.
-use Rattle.std.proofs.Common.{◌≡◌, refl, ap, subst, ◌∙◌, ℕ, zero, suc, ◌+◌, ◌<◌, List, [], ◌∷◌, ◌++◌, length, get_or, drop, map, Some, append_assoc, arith}
+use Rattle.std.proofs.Common.{◌≡◌, ◌⊎◌, refl, ap, subst, ◌∙◌, ℕ, zero, suc, ◌+◌, ◌<◌, List, [], ◌∷◌, ◌++◌, length, get_or, drop, map, Some, append_assoc, arith}
+use Rattle.std.proofs.lemmas.Grind.{common_steps}
 use Rattle.std.proofs.lemmas.List.{drop_more}
 use Rattle.std.proofs.lemmas.Slice.Zip.{AllZip-left}
 use Rattle.std.proofs.lemmas.Option.{slice_get-map}
@@ -31,6 +32,13 @@ module _ {X Y : Type 0} (R : X → Y → Type 0) where
 pub some_at : {X : Type 0} (xs : List X) (i : ℕ) → i < length xs
     → (x : X) × (slice_get xs i ≡ Some x)
 some_at xs i h = grind (arith, slice_get_cases xs i)
+
+-- what stands at an index of a list with an item more
+pub push_at : {X : Type 0} (xs : List X) (x : X) (i : ℕ) (y : X)
+    → slice_get (xs ++ x ∷ []) i ≡ Some y
+    → ((slice_get xs i ≡ Some y) × (i < length xs)) ⊎ ((i ≡ length xs) × (x ≡ y))
+push_at xs x i y at =
+    grind (arith, common_steps, slice_get_cases xs i, slice_get_cases (xs ++ x ∷ []) i)
 
 pub append_four : (a b c d : List ℕ) → a ++ b ++ c ++ d ≡ a ++ (b ++ (c ++ d))
 append_four a b c d = append_assoc (a ++ b) c d ∙ append_assoc a b (c ++ d)

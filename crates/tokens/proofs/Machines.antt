@@ -1,9 +1,9 @@
 -- A machine that was built of rules.
-use Rattle.std.proofs.Common.{◌≡◌, refl, sym, subst, ℕ, ◌++◌, List, length}
-use Rattle.std.proofs.Common.{arith}
+use Rattle.std.proofs.Common.{◌≡◌, ◌≢◌, refl, sym, subst, inl, inr, ℕ, ◌++◌, List, length, take, true≢false, arith}
 use Rattle.std.proofs.lemmas.Option.{IfSome_then}
 use Rattle.std.proofs.lemmas.Result.{IfOk-weaker}
-use Rattle.std.specs.Prelude.{Result, Ok, Err, Option, Some, None, IfOk, IfSome, IfNone, ⊤}
+use Rattle.std.specs.Prelude.{Result, Ok, Err, Option, Some, None, IfOk, IfSome, IfNone, IsNone, ⊤}
+use Rattle.std.specs.List.{slice_get, AllZip}
 use Rattle.std.specs.Io.KnownBytes.{Appends}
 use Rattle.line_program.specs.Listing.{Writes}
 use Rattle.line_program.proofs.Listing.{appends_then}
@@ -11,10 +11,14 @@ use Rattle.lexing.specs.declared.lexer.Lexer.{Lexer}
 use Rattle.lexing.specs.declared.machine.Machine.{Machine}
 use Rattle.lexing.specs.Lexers.{rule_count}
 use Rattle.lexing_patterns.specs.declared.patterns.PatternRule.{PatternRule}
+use Rattle.lexing_patterns.specs.declared.error.PatternError.TheVariants.{Memory}
+use Rattle.lexing_patterns.specs.declared.error.RuleError.{RuleError}
+use Rattle.lexing_patterns.specs.Faults.{AreTaken, IsRefusal}
 use Rattle.lexing_patterns.specs.Patterns.{IsLexerOf, HasNamesOf, SkipsAs}
 use Rattle.regex_hir.specs.Re.{Re}
 use Rattle.tokens.specs.Printing.{IsOfRules}
-use Rattle.tokens.specs.Rules.{line_place, TellsOfLine}
+use Rattle.tokens.specs.Complaints.{IsBadLine, TellsOfFirst}
+use Rattle.tokens.specs.Rules.{AreNumbered, AreRead, IsNumbered, IsRule, line_place, rule_lines, TellsOfLine}
 
 -- what holds of a machine that is found, if one is
 pub found_as : {E : Type 0} (r : Result (Option Machine) E) (P Q : Machine → Type 0)
@@ -44,3 +48,41 @@ pub of_rules : (given rules : List PatternRule) (lexer built : Lexer) → given 
     → (patterns : List Re) × IsOfRules rules patterns built
 of_rules given rules lexer built same is counted tokens named skips =
     rw (← same, is) (tokens.0, grind (arith, counted, tokens.1, tokens.2, named, skips))
+
+-- the rule that is not taken is that of the first such line
+pub first_fault : (all : List (List ℕ)) (rules : List PatternRule) (numbers : List ℕ)
+    (bad : RuleError) (number : ℕ) (rule : PatternRule) → AreNumbered all numbers rules
+    → slice_get numbers bad.rule ≡ Some number → slice_get rules bad.rule ≡ Some rule
+    → bad.error ≢ Memory → IsRefusal rules bad
+    → (patterns : List Re) × AreTaken (take bad.rule rules) patterns
+    × IsNumbered (IsBadLine patterns) all number (take bad.rule rules)
+first_fault all rules numbers bad number rule are at there not_memory (inl memory) =
+    absurd (not_memory memory)
+first_fault all rules numbers bad number rule are at there not_memory
+    (inr (other, stands, patterns, taken, fault)) =
+    let same : other ≡ rule = cc in
+    let (before, line, is, here, front, is_rule) = are bad.rule number rule at there in (
+      patterns,
+      taken,
+      (
+        before,
+        line,
+        is,
+        here,
+        front,
+        inr (rule, bad.error, is_rule, not_memory, rw same at fault),
+      ),
+    )
+
+-- the line that is no rule is the first
+pub no_rule_first : (path : List ℕ) (all : List (List ℕ)) (number : ℕ) (rules : List PatternRule)
+    (patterns : List Re) (said : List ℕ) → AreTaken rules patterns
+    → AreRead all (Some number) rules → TellsOfLine path number said → TellsOfFirst path all said
+no_rule_first path all number rules patterns said taken (before, line, is, here, front, none) tells =
+    (number, rules, patterns, tells, taken, (before, line, is, here, front, inl none))
+
+-- without a line that is no rule the rules are those of all lines
+pub all_read : (all : List (List ℕ)) (no_rule : Option ℕ) (rules : List PatternRule)
+    → AreRead all no_rule rules → IsNone no_rule → AllZip IsRule (rule_lines all) rules
+all_read all None rules read none = read
+all_read all (Some number) rules read none = absurd (true≢false none)

@@ -1,49 +1,83 @@
 -- Lines of rules, read one after the other.
-use Rattle.std.proofs.Common.{◌≡◌, refl, ℕ, ◌+◌, Bool, true, false, List, [], ◌∷◌, ◌++◌, length, get_or, drop, not, cond, Some, append-nil, append_assoc, arith}
+use Rattle.std.proofs.Common.{◌≡◌, refl, sym, ◌∙◌, ℕ, ◌+◌, ◌<◌, Bool, true, false, List, [], ◌∷◌, ◌++◌, length, inl, inr, get_or, take, take_all, not, cond, Some, append-nil, append_assoc, arith}
 use Rattle.std.proofs.lemmas.Bool.Decides.{nat_tests}
-use Rattle.std.proofs.lemmas.List.{drop_all}
+use Rattle.std.proofs.lemmas.List.{take_more, take-append-le}
+use Rattle.std.proofs.lemmas.Option.{slice_get_cases, slice_get_within}
 use Rattle.std.specs.List.{slice_get, AllZip}
 use Rattle.std.specs.Str.{trim}
 use Rattle.lexing_patterns.specs.declared.patterns.PatternRule.{PatternRule}
-use Rattle.tokens.specs.Rules.{says_nothing, IsRule, rule_lines}
-use Rattle.tokens.proofs.Lists.{item_drop}
+use Rattle.tokens.specs.Rules.{says_nothing, AreNumbered, AreRulesUpTo, IsNumbered, IsRule, rule_lines}
+use Rattle.tokens.proofs.Lists.{push_at, zip_more}
+
+-- the lines of rules, with a line more
+nothing_more : (all : List (List ℕ)) (line : List ℕ) → says_nothing (trim line) ≡ true
+    → rule_lines (all ++ line ∷ []) ≡ rule_lines all
+nothing_more [] line is = rw is refl
+nothing_more (x ∷ all) line is = rw (nothing_more all line is) refl
+
+rule_more : (all : List (List ℕ)) (line : List ℕ) → says_nothing (trim line) ≡ false
+    → rule_lines (all ++ line ∷ []) ≡ rule_lines all ++ trim line ∷ []
+rule_more [] line is = rw is refl
+rule_more (x ∷ all) line is = rw (rule_more all line is) (pulled (says_nothing (trim x)))
+  where
+    pulled : (says : Bool) → cond (not says) (trim x ∷ (rule_lines all ++ trim line ∷ []))
+        (rule_lines all ++ trim line ∷ [])
+        ≡ cond (not says) (trim x ∷ rule_lines all) (rule_lines all) ++ trim line ∷ []
+    pulled true = refl
+    pulled false = refl
 
 module _ (all : List (List ℕ)) where
-  -- these are the rules of the lines up to the place
-  pub record HasRead (at : ℕ) (rules : List PatternRule) : Type 0 where
-    pub goes_on : (more : List PatternRule) → AllZip IsRule (rule_lines (drop at all)) more
-        → AllZip IsRule (rule_lines all) (rules ++ more)
+  line_more : (at : ℕ) (line : List ℕ) → slice_get all at ≡ Some line
+      → take (at + 1) all ≡ take at all ++ line ∷ []
+  line_more at line there = grind (arith, take_more all at line, slice_get_cases all at)
 
-  pub read_none : HasRead 0 []
-  read_none = record { goes_on = λ more rest. rest }
-
-  lines_from : (at : ℕ) (line : List ℕ) (says : Bool) → slice_get all at ≡ Some line
-      → says_nothing (trim line) ≡ says
-      → rule_lines (drop at all)
-      ≡ cond (not says) (trim line ∷ rule_lines (drop (at + 1) all)) (rule_lines (drop (at + 1) all))
-  lines_from at line says there is = rw (item_drop all at line there, is) refl
+  pub read_none : AreRulesUpTo all 0 []
+  read_none = tt
 
   pub read_nothing : (at : ℕ) (line : List ℕ) (rules : List PatternRule)
-      → slice_get all at ≡ Some line → says_nothing (trim line) ≡ true → HasRead at rules
-      → HasRead (at + 1) rules
-  read_nothing at line rules there nothing was = record {
-    goes_on = λ more rest. was.goes_on more (rw (lines_from at line true there nothing) rest);
-  }
+      → slice_get all at ≡ Some line → says_nothing (trim line) ≡ true
+      → AreRulesUpTo all at rules → AreRulesUpTo all (at + 1) rules
+  read_nothing at line rules there nothing was =
+      rw (line_more at line there, nothing_more (take at all) line nothing) was
 
   pub read_rule : (at : ℕ) (line : List ℕ) (rules after : List PatternRule) (rule : PatternRule)
       → slice_get all at ≡ Some line → IsRule (trim line) rule → after ≡ rules ++ rule ∷ []
-      → HasRead at rules → HasRead (at + 1) after
-  read_rule at line rules after rule there is pushed was = record {
-    goes_on = λ more rest.
-        rw (pushed, append_assoc)
-        (was.goes_on (rule ∷ more) (rw (lines_from at line false there is.says) (is, rest)));
-  }
+      → AreRulesUpTo all at rules → AreRulesUpTo all (at + 1) after
+  read_rule at line rules after rule there is pushed was =
+      rw (line_more at line there, rule_more (take at all) line is.says, pushed)
+      (zip_more IsRule (rule_lines (take at all)) rules (trim line) rule was is)
 
-  pub read_all : (at : ℕ) (rules : List PatternRule) → at ≡ length all → HasRead at rules
+  pub read_all : (at : ℕ) (rules : List PatternRule) → at ≡ length all → AreRulesUpTo all at rules
       → AllZip IsRule (rule_lines all) rules
-  read_all at rules ended was =
-      rw (append-nil rules)
-      at (was.goes_on [] (rw (drop_all at all (omega (arith, ended))) tt))
+  read_all at rules ended was = rw (take_all at all (omega (arith, ended))) at was
+
+  pub numbered_none : AreNumbered all [] []
+  numbered_none i number rule at there = grind (arith, slice_get_within [] i number at)
+
+  -- a rule more, with its number
+  pub numbered_more : (numbers : List ℕ) (rules : List PatternRule) (number : ℕ) (rule : PatternRule)
+      → length numbers ≡ length rules → AreNumbered all numbers rules
+      → IsNumbered (λ line. IsRule line rule) all number rules
+      → AreNumbered all (numbers ++ number ∷ []) (rules ++ rule ∷ [])
+  numbered_more numbers rules number rule same was new i n r at there =
+      elim (push_at numbers number i n at) [
+        | inl (old, within) ↦ elim (push_at rules rule i r there) [
+          | inl (stood, inside) ↦
+              rw (take-append-le i rules (rule ∷ []) (omega (arith, inside))) (was i n r old stood)
+          | inr (last, is) ↦ absurd (omega (arith, within, last, same))
+        ]
+        | inr (last, is) ↦ elim (push_at rules rule i r there) [
+          | inl (stood, inside) ↦ absurd (omega (arith, inside, last, same))
+          | inr (end, is_rule) ↦
+              rw (
+                ← is,
+                ← is_rule,
+                end,
+                take-append-le (length rules) rules (rule ∷ []) (omega arith),
+                take_all (length rules) rules (omega arith),
+              ) new
+        ]
+      ]
 
 -- the first byte of a line tells whether it says nothing
 pub nothing_of : (line : List ℕ) (starts : Bool) → ¬ (length line ≡ 0)

@@ -1,3 +1,4 @@
+pub mod Complaints
 pub mod Counts
 pub mod Escaping
 pub mod Faults

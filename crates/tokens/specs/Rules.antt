@@ -1,5 +1,5 @@
 -- The rules of a text: a line each.
-use Rattle.std.specs.Prelude.{◌≡◌, ◌↔◌, ◌⊎◌, ℕ, ◌+◌, Bool, true, false, not, ◌==◌, List, [], ◌∷◌, ◌++◌, Some, slice_get, IsTrue, filter, map, codes, decimal}
+use Rattle.std.specs.Prelude.{◌≡◌, ◌↔◌, ℕ, ◌+◌, Bool, true, false, not, ◌==◌, List, [], ◌∷◌, ◌++◌, Option, Some, None, take, slice_get, IsTrue, filter, map, codes, decimal}
 use Rattle.std.specs.List.{AllZip}
 use Rattle.std.specs.Str.{trim}
 use Rattle.std.specs.Str.Lines.{lines}
@@ -31,14 +31,26 @@ rule_lines all = filter (λ line. not (says_nothing line)) (map trim all)
 abbrev pub AreRulesOf : List ℕ → List PatternRule → Type 0
 AreRulesOf text rules = AllZip IsRule (rule_lines (lines text)) rules
 
--- the line of this number, from 1, is such, without the spaces around it
-abbrev pub IsNumbered : (List ℕ → Type 0) → List (List ℕ) → ℕ → Type 0
-IsNumbered P all number = (before : ℕ) × (line : List ℕ) × (number ≡ before + 1)
-    × (slice_get all before ≡ Some line) × P (trim line)
+-- the first lines, so many of them, say these rules
+abbrev pub AreRulesUpTo : List (List ℕ) → ℕ → List PatternRule → Type 0
+AreRulesUpTo all count rules = AllZip IsRule (rule_lines (take count all)) rules
 
--- the line of this number is the rule
-abbrev pub IsNumberOf : List (List ℕ) → ℕ → PatternRule → Type 0
-IsNumberOf all number rule = IsNumbered (λ line. IsRule line rule) all number
+-- the line of this number, from 1, is such without the spaces around it, and the lines before it say
+-- these rules
+abbrev pub IsNumbered : (List ℕ → Type 0) → List (List ℕ) → ℕ → List PatternRule → Type 0
+IsNumbered P all number rules = (before : ℕ) × (line : List ℕ) × (number ≡ before + 1)
+    × (slice_get all before ≡ Some line) × AreRulesUpTo all before rules × P (trim line)
+
+-- the lines say the rules, up to the first line that is no rule, if there is one
+abbrev pub AreRead : List (List ℕ) → Option ℕ → List PatternRule → Type 0
+AreRead all None rules = AllZip IsRule (rule_lines all) rules
+AreRead all (Some number) rules = IsNumbered IsNoRule all number rules
+
+-- each rule is the line of its number, behind the rules before it
+abbrev pub AreNumbered : List (List ℕ) → List ℕ → List PatternRule → Type 0
+AreNumbered all numbers rules = (i number : ℕ) (rule : PatternRule)
+    → slice_get numbers i ≡ Some number → slice_get rules i ≡ Some rule
+    → IsNumbered (λ line. IsRule line rule) all number (take i rules)
 
 abbrev pub line_place : List ℕ → ℕ → List ℕ
 line_place path number = path ++ codes ":" ++ decimal number ++ codes ": "
@@ -47,15 +59,6 @@ line_place path number = path ++ codes ":" ++ decimal number ++ codes ": "
 abbrev pub TellsOfLine : List ℕ → ℕ → List ℕ → Type 0
 TellsOfLine path number said = (more : List ℕ) × (said ≡ line_place path number ++ more)
 
--- what is said tells of a line that is a rule, or is none
-abbrev pub NamesLine : List ℕ → List (List ℕ) → List ℕ → Type 0
-NamesLine path all said = (number : ℕ) × TellsOfLine path number said
-    × (IsNumbered IsNoRule all number ⊎ ((rule : PatternRule) × IsNumberOf all number rule))
-
 abbrev pub too_many_states : List ℕ → List ℕ
 too_many_states path =
     path ++ codes ": the rules need more than " ++ decimal 10000 ++ codes " states\n"
-
--- what is said where there is no machine
-abbrev pub IsComplaint : List ℕ → List (List ℕ) → List ℕ → Type 0
-IsComplaint path all said = NamesLine path all said ⊎ (said ≡ too_many_states path)

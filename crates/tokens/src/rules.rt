@@ -1,16 +1,19 @@
 //! Files of rules.
-ghost use Rattle.std.specs.Prelude.{◌≡◌, ◌∷◌, ◌++◌, [], List, ℕ, ⊤, IfOk, IfErr, IfSome, IfNone, OnOk, map};
-ghost use Rattle.std.specs.List.{AllZip};
+ghost use Rattle.std.specs.Prelude.{◌≡◌, ◌∷◌, ◌++◌, [], List, ℕ, ⊤, IfOk, IfSome, IfNone, IsNone, OnOk, map};
 ghost use Rattle.std.specs.Str.Lines.{lines};
 ghost use Rattle.std.specs.Io.KnownBytes.{Appends};
 ghost use Rattle.line_program.specs.Listing.{Writes};
+ghost use Rattle.lexing.specs.declared.error.BuildError.TheVariants.{TooLarge};
+ghost use Rattle.lexing.specs.Budgets.{IsBuildReason};
+ghost use Rattle.lexing.specs.Lexers.{rules_in};
 ghost use Rattle.lexing.specs.MachineSteps.{lexer_of};
+ghost use Rattle.lexing_patterns.specs.Faults.{IsRefusal};
 ghost use Rattle.lexing_patterns.specs.declared.patterns.PatternRule.{PatternRule};
 ghost use Rattle.regex_hir.specs.Re.{Re};
-ghost use Rattle.tokens.specs.declared.rules.BadText.TheVariants.{Memory};
 ghost use Rattle.tokens.specs.Printing.{IsOfRules};
-ghost use Rattle.tokens.specs.Rules.{AreRulesOf, IsNumberOf, NamesLine, IsComplaint, TellsOfLine, line_place, says_nothing, too_many_states};
-ghost use Rattle.tokens.specs.Reading.{IsBadText, Says};
+ghost use Rattle.tokens.specs.Complaints.{IsComplaint, TellsOfFirst};
+ghost use Rattle.tokens.specs.Rules.{AreNumbered, AreRead, AreRulesOf, TellsOfLine, line_place, says_nothing, too_many_states};
+ghost use Rattle.tokens.specs.Reading.{Says};
 
 use crate::fault::mark;
 use lexing::{BuildError, Lexer, Machine};
@@ -22,19 +25,12 @@ use std::io::{self, ErrorKind, Write};
 /// How many states the machine of some rules may have.
 const STATES: u32 = 10_000;
 
-/// Rules, and the number of the line of each.
+/// Rules, and the number of the line of each, up to the first line that is none, if there is one.
 #[derive(Drop)]
 pub(crate) struct Rules<'a> {
     rules: Vec<PatternRule<'a>>,
     numbers: Vec<usize>,
-}
-
-/// Why a text is no list of rules.
-#[derive(Clone, Copy, Drop)]
-pub(crate) enum BadText {
-    /// The line of this number is no rule.
-    NoRule(usize),
-    Memory,
+    no_rule: Option<usize>,
 }
 
 /// What a line says.
@@ -43,14 +39,6 @@ enum Line<'a> {
     Nothing,
     Rule(PatternRule<'a>),
     Bad,
-}
-
-impl From<AllocError> for BadText {
-    ghost from_gives = { λ _ e. e ≡ Memory };
-
-    fn from(_error: AllocError) -> BadText {
-        BadText::Memory
-    }
 }
 
 /// Whether the line is blank or a comment.
@@ -83,12 +71,12 @@ fn lines_of(alloc: Global, text: &str) -> Result<Vec<&str>, AllocError>
     text.lines().collect(alloc)
 }
 
-/// The rules of a text: a line `NAME PATTERN` each.
-fn rules_in(alloc: Global, text: &str) -> Result<Rules, BadText>
-    ensures rules { IfOk result (λ found. AreRulesOf text.now found.rules.items) }
+/// The rules of a text, a line `NAME PATTERN` each, up to the first line that is no rule.
+fn rules_in(alloc: Global, text: &str) -> Result<Rules, AllocError>
+    ensures rules { IfOk result
+        (λ found. AreRead (lines text.now) found.no_rule found.rules.items) }
     ensures numbers { IfOk result
-        (λ found. AllZip (IsNumberOf (lines text.now)) found.numbers.items found.rules.items) }
-    ensures bad { IfErr result (IsBadText (lines text.now)) }
+        (λ found. AreNumbered (lines text.now) found.numbers.items found.rules.items) }
 {
     let lines = lines_of(alloc, text)?;
     let mut rules = Vec::new(alloc);
@@ -100,10 +88,20 @@ fn rules_in(alloc: Global, text: &str) -> Result<Rules, BadText>
                 push_copy(&mut rules, rule)?;
                 push_copy(&mut numbers, at + 1)?;
             }
-            Line::Bad => return Err(BadText::NoRule(at + 1)),
+            Line::Bad => {
+                return Ok(Rules {
+                    rules,
+                    numbers,
+                    no_rule: Some(at + 1),
+                });
+            }
         }
     }
-    Ok(Rules { rules, numbers })
+    Ok(Rules {
+        rules,
+        numbers,
+        no_rule: None,
+    })
 }
 
 fn push_copy<T: Copy + Drop>(items: &mut Vec<T>, item: T) -> Result<(), AllocError>
@@ -154,7 +152,7 @@ fn show_pattern<E: Write>(
     }
 }
 
-/// Says which rule is bad, and why. Where memory ran out, that is the error.
+/// Says which rule is not taken, and why. Where memory ran out, that is the error.
 fn show_bad_rule<E: Write>(
     alloc: Global,
     path: &str,
@@ -162,9 +160,11 @@ fn show_bad_rule<E: Write>(
     bad: RuleError,
     err: &mut E,
 ) -> io::Result<()>
+    requires { IsRefusal rules.now.rules.items bad }
     ensures { (all : List (List ℕ))
-        → AllZip (IsNumberOf all) rules.now.numbers.items rules.now.rules.items
-        → OnOk result (Writes (E.contents err.old) (E.contents err.new) (NamesLine path.now all)) }
+        → AreNumbered all rules.now.numbers.items rules.now.rules.items
+        → OnOk result (Writes (E.contents err.old) (E.contents err.new)
+        (TellsOfFirst path.now all)) }
 {
     match (rules.numbers.get(bad.rule), rules.rules.get(bad.rule)) {
         (Some(number), Some(rule)) if bad.error != PatternError::Memory => {
@@ -175,7 +175,7 @@ fn show_bad_rule<E: Write>(
     }
 }
 
-/// The machine of the rules, or none where one of them is bad, or where it has too many states,
+/// The machine of the rules, or none where a line is not taken or it would have too many states,
 /// which is said.
 fn machine_of<E: Write>(
     alloc: Global,
@@ -183,15 +183,21 @@ fn machine_of<E: Write>(
     rules: &Rules,
     err: &mut E,
 ) -> io::Result<Option<Machine>>
-    ensures machine { IfOk result (λ found. IfSome found (λ machine. (patterns : List Re)
-        × IsOfRules rules.now.rules.items patterns (lexer_of machine))) }
-    ensures refused { (all : List (List ℕ))
-        → AllZip (IsNumberOf all) rules.now.numbers.items rules.now.rules.items
+    ensures machine { IfOk result (λ found. IfSome found (λ machine. IsNone rules.now.no_rule
+        × (patterns : List Re) × IsOfRules rules.now.rules.items patterns (lexer_of machine))) }
+    ensures refused { (all : List (List ℕ)) → AreRead all rules.now.no_rule rules.now.rules.items
+        → AreNumbered all rules.now.numbers.items rules.now.rules.items
         → IfOk result (λ found. IfNone found
         (Writes (E.contents err.old) (E.contents err.new) (IsComplaint path.now all))) }
 {
     match lexer(alloc, &rules.rules) {
-        Ok(lexer) => built(alloc, path, lexer, err),
+        Ok(lexer) => match rules.no_rule {
+            None => built(alloc, path, lexer, err),
+            Some(number) => {
+                show_no_rule(path, number, err)?;
+                Ok(None)
+            }
+        },
         Err(bad) => {
             show_bad_rule(alloc, path, rules, bad, err)?;
             Ok(None)
@@ -208,7 +214,8 @@ fn built<E: Write>(
 ) -> io::Result<Option<Machine>>
     ensures machine { IfOk result (λ found. IfSome found (λ machine. lexer_of machine ≡ lexer)) }
     ensures refused { IfOk result (λ found. IfNone found
-        (Appends (E.contents err.old) (E.contents err.new) (too_many_states path.now))) }
+        (Appends (E.contents err.old) (E.contents err.new) (too_many_states path.now)
+        × IsBuildReason (rules_in lexer) 10000 TooLarge)) }
 {
     match Machine::build(alloc, lexer, STATES) {
         Ok(machine) => Ok(Some(machine)),
@@ -220,8 +227,8 @@ fn built<E: Write>(
     }
 }
 
-/// The machine of the rules of a text, or none where one of them is bad or the machine would have
-/// too many states, which is said.
+/// The machine of the rules of a text, or none where a line is not taken or the machine would have
+/// too many states, which is said. It is the first line that is not taken.
 ///
 /// A line is `NAME PATTERN`, or `skip PATTERN` for what is left out. Blank lines and lines that
 /// begin with `#` say nothing, and spaces around a line or a pattern are none of it.
@@ -237,12 +244,6 @@ pub(crate) fn read<E: Write>(
     ensures refused { IfOk result (λ found. IfNone found (Writes (E.contents err.old)
         (E.contents err.new) (IsComplaint path.now (lines text.now)))) }
 {
-    match rules_in(alloc, text) {
-        Ok(rules) => machine_of(alloc, path, &rules, err),
-        Err(BadText::NoRule(number)) => {
-            show_no_rule(path, number, err)?;
-            Ok(None)
-        }
-        Err(BadText::Memory) => Err(io::Error::from(ErrorKind::OutOfMemory)),
-    }
+    let rules = rules_in(alloc, text)?;
+    machine_of(alloc, path, &rules, err)
 }

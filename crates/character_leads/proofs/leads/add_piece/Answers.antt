@@ -1,8 +1,12 @@
 use Rattle.std.proofs.Common.{arith}
+use Rattle.std.proofs.lemmas.Bool.Decides.{nat_tests}
 use Rattle.character_leads.specs.Leads.{LeadsBy}
 use Rattle.character_leads.proofs.Any.{any-push}
 use Rattle.character_leads.proofs.leads.add_piece.Goals as goal
 
-pub returns-in_ok-push : goal.returns-in_ok-push
-returns-in_ok-push c =
+pub returns-in_ok-push-clause-members : goal.returns-in_ok-push-clause-members
+returns-in_ok-push-clause-members c =
     λ d q. grind (arith, any-push (LeadsBy d q) _ _ _ c.in_ok-push.ensures.items)
+
+pub returns-in_ok-push-clause-count : goal.returns-in_ok-push-clause-count
+returns-in_ok-push-clause-count c = grind (arith, nat_tests)

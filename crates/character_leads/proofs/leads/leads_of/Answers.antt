@@ -2,7 +2,7 @@ use Rattle.std.proofs.Common.{ℕ, ◌≤◌, length, arith, take_all}
 use Rattle.std.proofs.lemmas.List.{take_more}
 use Rattle.character_leads.specs.Leads.{HasPiece}
 use Rattle.character_leads.proofs.Any.{any-push}
-use Rattle.character_leads.proofs.Ranges.{in_ranges_any}
+use Rattle.character_leads.proofs.Ranges.{in_ranges_any, lead_count-push}
 use Rattle.character_leads.proofs.leads.leads_of.Goals as goal
 
 pub loop-range-preserved : goal.loop-range-preserved
@@ -16,6 +16,12 @@ loop-range-preserved c =
           let with_it = any-push (λ (r : ℕ × ℕ). HasPiece r.0 r.1 c.args.to d q) _ _ _ more in
           grind (arith, was.members d q s, new.members d q s);
       one = λ d q h. grind (arith, was.one d q, new.one d q h);
+      count = omega (
+        arith,
+        was.count,
+        new.count,
+        lead_count-push _ _ _ more,
+      );
     }
 
 pub returns-clause-members : goal.returns-clause-members
@@ -24,3 +30,8 @@ returns-clause-members c =
     let all : length c.args.ranges.now ≤ c.loop-range.range-index = omega arith in
     let held = rw take_all at (c.loop-range.invariant.members d q s) in
     grind (arith, in_ranges_any c.args.ranges.now d q c.args.to)
+
+pub returns-clause-count : goal.returns-clause-count
+returns-clause-count c =
+    let all : length c.args.ranges.now ≤ c.loop-range.range-index = omega arith in
+    rw take_all at c.loop-range.invariant.count

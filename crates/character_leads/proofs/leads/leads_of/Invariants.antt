@@ -1,6 +1,6 @@
-use Rattle.std.proofs.Common.{ℕ, ◌≡◌, ◌↔◌, take}
+use Rattle.std.proofs.Common.{ℕ, ◌≡◌, ◌↔◌, take, vec_len}
 use Rattle.std.specs.Char.{IsScalar}
-use Rattle.character_leads.specs.Leads.{AnyOf, Leads, HasPiece}
+use Rattle.character_leads.specs.Leads.{AnyOf, Leads, HasPiece, lead_count}
 use Rattle.character_leads.proofs.leads.leads_of.Given as goal
 
 abbrev pub invariant-loop-range : goal.invariant-loop-range
@@ -8,4 +8,5 @@ invariant-loop-range l = record {
   members : (c q : ℕ) → IsScalar c → Leads l.leads.items c q
       ↔ AnyOf (λ r. HasPiece r.0 r.1 l.to c q) (take l.range-index l.ranges);
   one : (c q : ℕ) → Leads l.leads.items c q → q ≡ l.to;
+  count : vec_len l.leads ≡ lead_count (take l.range-index l.ranges);
 }

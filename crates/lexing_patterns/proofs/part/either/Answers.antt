@@ -4,6 +4,7 @@ use Rattle.lexing_patterns.specs.declared.part.Part.{Part}
 use Rattle.lexing_patterns.specs.Parts.{HasEdge, IsAmong}
 use Rattle.character_leads.proofs.Any.{any-append}
 use Rattle.lexing_patterns.proofs.Joining.{either_reads, either_within, has_edge-append, is_among-append}
+use Rattle.lexing_patterns.proofs.Sizing.{choice_sized}
 use Rattle.lexing_patterns.proofs.part.either.Goals as goal
 
 pub returns : goal.returns
@@ -31,4 +32,6 @@ returns c =
       within = λ low middle high below above back front.
           either_within one other both low middle high front back leads ends edges (grind arith)
           below above;
+      size = λ a b first second. choice_sized one other both a b first second
+          (grind arith) (grind arith) (grind arith);
     }

@@ -3,5 +3,5 @@ use Rattle.character_leads.specs.Leads.{LeadsBy}
 use Rattle.character_leads.proofs.Any.{any-append}
 use Rattle.lexing_patterns.proofs.part.leads_with.Goals as goal
 
-pub returns : goal.returns
-returns c = λ d q. grind (arith, any-append (LeadsBy d q) c.args.leads.items c.args.more.now)
+pub returns-clause-members : goal.returns-clause-members
+returns-clause-members c = λ d q. grind (arith, any-append (LeadsBy d q) c.args.leads.items c.args.more.now)

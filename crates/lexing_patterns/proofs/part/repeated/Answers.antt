@@ -20,4 +20,5 @@ returns c =
         edges = λ p d q h.
             grind (arith, edges p d q, is.edges p d q, is.ends p, is.leads d q);
       };
+      size = λ a is. record { leads = is.leads; ends = is.ends; nullable = is.nullable };
     }

@@ -1,20 +1,19 @@
-use Rattle.std.proofs.Common.{subst, inl}
-use Rattle.std.proofs.Common.{arith}
 use Rattle.std.specs.Str.Lines.{lines}
-use Rattle.tokens.specs.Reading.{IsBadText}
-use Rattle.tokens.specs.Rules.{TellsOfLine}
-use Rattle.tokens.proofs.Machines.{found_as}
+use Rattle.tokens.proofs.Machines.{all_read, found_as}
 use Rattle.tokens.proofs.rules.read.Goals as goal
 
-pub returns-in-Ok-clause-machine : goal.returns-in-Ok-clause-machine
-returns-in-Ok-clause-machine g c =
-    grind (arith, found_as)
+pub returns-clause-machine : goal.returns-clause-machine
+returns-clause-machine g c =
+    let rules = c.in_ok-rules.rules in
+    found_as c.machine_of.result _ _
+    (λ machine (none, patterns, of). (
+      rules.rules.items,
+      patterns,
+      all_read (lines c.args.text.now) rules.no_rule rules.rules.items c.in_ok-rules.ensures.rules none,
+      of,
+    )) c.machine_of.ensures.machine
 
-pub returns-in-Ok-clause-refused : goal.returns-in-Ok-clause-refused
-returns-in-Ok-clause-refused g c =
-    c.machine_of.ensures.refused (lines c.args.text.now) c.in-Ok.ensures.numbers
-
-pub returns-in_ok-show_no_rule-in-Err-NoRule-clause-refused :
-    goal.returns-in_ok-show_no_rule-in-Err-NoRule-clause-refused
-returns-in_ok-show_no_rule-in-Err-NoRule-clause-refused g c =
-    grind arith
+pub returns-clause-refused : goal.returns-clause-refused
+returns-clause-refused g c =
+    c.machine_of.ensures.refused (lines c.args.text.now) c.in_ok-rules.ensures.rules
+    c.in_ok-rules.ensures.numbers

@@ -1,3 +1,4 @@
+use Rattle.lexing_patterns.specs.Sizes.{size_of}
 use Rattle.lexing_patterns.proofs.Meanings.{language_same, language_plus}
 use Rattle.lexing_patterns.proofs.builder.Builder.repeated.Goals as goal
 
@@ -8,4 +9,6 @@ returns-clause-built c =
     record {
       language = language_same (λ w _. made.reads w) (language_plus once.language);
       within = made.within low high once.within;
+      size = made.size (size_of a) once.size;
+      taken = once.taken;
     }
