@@ -10,11 +10,11 @@ show_bad_rule-requires g c = rw c.deref.ensures.value at c.in-Err.ensures.refuse
 pub returns-in-None-clause-machine : goal.returns-in-None-clause-machine
 returns-in-None-clause-machine g c =
     found_as c.built.result _ _
-    (λ machine same. (
-      rw c.in-None.is refl,
-      of_rules _ _ c.in-Ok.lexer _ c.deref.ensures.value same c.in-Ok.ensures.count
-          c.in-Ok.ensures.tokens c.in-Ok.ensures.named c.in-Ok.ensures.skips,
-    )) c.built.ensures.machine
+    (λ machine same.
+    let (patterns, of) =
+    of_rules _ _ c.in-Ok.lexer _ c.deref.ensures.value same c.in-Ok.ensures.count
+    c.in-Ok.ensures.tokens c.in-Ok.ensures.named c.in-Ok.ensures.skips in
+    (rw c.in-None.is refl, patterns, of)) c.built.ensures.machine
 
 pub returns-in-None-clause-refused : goal.returns-in-None-clause-refused
 returns-in-None-clause-refused g c = λ all read numbers.
