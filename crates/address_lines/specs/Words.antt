@@ -48,10 +48,13 @@ module _ (list : Addresses) where
   abbrev pub HasPart : List ℕ → Type 0
   HasPart word = HasSuch is_colon (λ part. HasIpv4 (strip_last 46 part)) word
 
-  -- a word with a colon is an address of IPv6, but for a mark at its end, or a part is one of IPv4
+  -- a word with a colon is an address of IPv6, but for a dot or a mark at its end, or a part is one
+  -- of IPv4
   abbrev pub Counts : List ℕ → Type 0
   Counts word =
-      (HasByte is_colon word × (HasIpv6 word ⊎ HasIpv6 (without_mark word))) ⊎ HasPart word
+      (HasByte is_colon word
+      × (HasIpv6 word ⊎ (HasIpv6 (strip_last 46 word) ⊎ HasIpv6 (without_mark word))))
+      ⊎ HasPart word
 
   -- one of the words of the line counts
   abbrev pub HoldsAddress : List ℕ → Type 0

@@ -1,6 +1,6 @@
 //! Whether a line of any text holds an address of a list.
 
-ghost use Rattle.std.specs.Prelude.{◌≡◌, ◌↔◌, IsTrue, MatchOption, position};
+ghost use Rattle.std.specs.Prelude.{◌≡◌, ◌↔◌, ◌⊎◌, IsTrue, MatchOption, position};
 ghost use Rattle.std.specs.Io.BufRead.{strip_last};
 ghost use Rattle.std.specs.List.{after_first, before_first};
 ghost use Rattle.address_text.specs.Lines.{HasByte};
@@ -89,6 +89,15 @@ fn is_ipv6(list: &Addresses, text: &[u8]) -> bool
     }
 }
 
+/// Whether the text without a dot at its end, or without a mark there, is an address of IPv6 that
+/// the list has.
+fn is_marked_ipv6(list: &Addresses, text: &[u8]) -> bool
+    ensures { IsTrue result
+        ↔ (HasIpv6 list.now (strip_last 46 text.now) ⊎ HasIpv6 list.now (without_mark text.now)) }
+{
+    is_ipv6(list, without_dot(text)) || is_ipv6(list, without_mark(text))
+}
+
 /// Whether a part of a word between colons counts as an address of IPv4.
 fn has_part(list: &Addresses, word: &[u8]) -> bool
     ensures { IsTrue result ↔ HasPart list.now word.now }
@@ -111,7 +120,7 @@ fn counts(list: &Addresses, word: &[u8]) -> bool
         return true;
     }
     match colon_in(word) {
-        Some(_) => is_ipv6(list, word) || is_ipv6(list, without_mark(word)),
+        Some(_) => is_ipv6(list, word) || is_marked_ipv6(list, word),
         None => false,
     }
 }
