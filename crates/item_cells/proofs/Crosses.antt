@@ -1,4 +1,4 @@
--- The parts of a buffer may cross threads as its items and its allocator may.
+-- The parts of a block may cross threads as its items and its allocator may.
 use Rattle.std.specs.Prelude.{ℕ, ◌+◌, List, [], ◌∷◌, Option, Some, None}
 use Rattle.std.specs.Mem.{type_size}
 use base.Fraction.{full_share}

@@ -3,7 +3,7 @@ use Prim.Native.Nat.{ℕ, ◌+◌}
 use Rattle.std.specs.Prelude.{List, [], ◌∷◌, Option, Some, None}
 use Rattle.std.specs.Mem.{type_size}
 use seplogic.Ra.Ura.{Ura}
-use base.Fml.{Lft, Incl, ftrue}
+use base.Fml.{Lft, Incl, ftrue, ffalse}
 use types.Logic.{Logic}
 use denote.RattleType.{RattleType, RowLaws}
 use denote.Param.Laws.{Laws}
@@ -11,8 +11,8 @@ use denote.RawPtr.{Ptr, block_ptr, null_ptr}
 use denote.Sharing.{ShrLaws, said}
 use denote.SharingLaws.{beside_shr_laws, nothing_shr_laws, said_shr_laws}
 use denote.Shares.{Shares-less}
-use denote.Struct.Lending.{Lends, Lends-both, Lends-nothing, Lends-said}
-use Rattle.item_cells.specs.Ownership.{slot, slots, slot_lent, slots_lent, fit, none_there, cells_own, cells_lent}
+use denote.Struct.Lending.{Lends, Lends-both, Lends-nothing, Lends-said, Lends-false}
+use Rattle.item_cells.specs.Ownership.{slot, slots, slot_lent, slots_lent, fit, cells_own, cells_lent}
 
 module _ (R : RattleType) (L : RowLaws R) where
   slot_lent_laws : (b o : ℕ) (c : Option R.Denot) → ShrLaws (slot_lent R b o c)
@@ -25,7 +25,7 @@ module _ (R : RattleType) (L : RowLaws R) where
 
   pub cells_lent_laws : (p : Ptr) (cs : List (Option R.Denot)) → ShrLaws (cells_lent R p cs)
   cells_lent_laws (block_ptr b o) cs = beside_shr_laws _ _ (said_shr_laws (fit R cs) tt) (slots_lent_laws b o cs)
-  cells_lent_laws null_ptr cs = said_shr_laws (none_there R cs) tt
+  cells_lent_laws null_ptr cs = said_shr_laws ffalse tt
 
 module _ {M : Type 1} {𝓤 : Ura M} (𝓛 : Logic 𝓤) (l : Lft) (R : RattleType) (L : Laws R) (inc : Incl l R.lives) where
   Lends-slot : (b o : ℕ) (c : Option R.Denot) → Lends 𝓛 (slot R b o c) (slot_lent R b o c) l
@@ -39,4 +39,4 @@ module _ {M : Type 1} {𝓤 : Ura M} (𝓛 : Logic 𝓤) (l : Lft) (R : RattleTy
 
   pub Lends-cells : (p : Ptr) (cs : List (Option R.Denot)) → Lends 𝓛 (cells_own R p cs) (cells_lent R p cs) l
   Lends-cells (block_ptr b o) cs = Lends-both 𝓛 (fit R cs) (slots R b o cs) (said (fit R cs)) (slots_lent R b o cs) l (Lends-said 𝓛 (fit R cs) tt l) (Lends-slots b o cs)
-  Lends-cells null_ptr cs = Lends-said 𝓛 (none_there R cs) tt l
+  Lends-cells null_ptr cs = Lends-false 𝓛 (said ffalse) l

@@ -2,7 +2,7 @@
 use Rattle.std.specs.Prelude.{ℕ, ◌+◌, ◌*◌, ◌^◌, List, [], ◌∷◌, length, Option, Some, None}
 use Rattle.std.specs.Mem.{type_size}
 use base.Fraction.{full_share}
-use base.Fml.{Lft, Fml, ftrue, fsep, flt, froom}
+use base.Fml.{Lft, Fml, ftrue, ffalse, fsep, flt, froom}
 use mir.Syntax.{Ty, ty_array}
 use mir.Raw.{raw}
 use denote.RattleType.{RattleType}
@@ -33,17 +33,13 @@ module _ (R : RattleType) where
   abbrev pub fit : List (Option R.Denot) → Fml
   fit cs = flt (length cs * type_size R) (2 ^ 63)
 
-  -- there is no place
-  abbrev pub none_there : List (Option R.Denot) → Fml
-  none_there cs = flt (length cs) 1
-
   abbrev pub cells_own : Ptr → List (Option R.Denot) → Fml
   cells_own (block_ptr b o) cs = fsep (fit cs) (slots b o cs)
-  cells_own null_ptr cs = none_there cs
+  cells_own null_ptr cs = ffalse
 
   abbrev pub cells_lent : Ptr → List (Option R.Denot) → Lft → Fml
   cells_lent (block_ptr b o) cs = beside (said (fit cs)) (slots_lent b o cs)
-  cells_lent null_ptr cs = said (none_there cs)
+  cells_lent null_ptr cs = said ffalse
 
   -- the allocator's token for a block of n places
   abbrev pub deed_owns : (Ty → Ptr → Fml) → Ptr → ℕ → Fml

@@ -1,9 +1,9 @@
 //! A block of cells as its callers see it.
-ghost use Rattle.std.specs.Prelude.{◌≡◌, ℕ, suc, ◌+◌, ◌<◌, ◌≤◌, ◌⊎◌, [], length, map, take, drop, replicate, slice_set, Some, None, IfOk};
+ghost use Rattle.std.specs.Prelude.{◌≡◌, ℕ, suc, ◌<◌, ◌≤◌, length, map, take, drop, replicate, slice_set, Some, None, IfOk};
 ghost use Rattle.std.specs.Borrow.{Lends, sem};
 ghost use Rattle.item_cells.specs.Places.{cell, IsFilled, IsRun, AreFilled, AreEmpty, SameOutside};
 
-use crate::cells::{Base, Cells, Deed, allocate, deallocate, forget, nothing};
+use crate::cells::{Base, Cells, Deed, allocate, deallocate};
 use std::alloc::{AllocError, Global};
 use std::marker::Model;
 use std_alloc::room::may_hold;
@@ -14,9 +14,8 @@ use std_alloc::room::may_hold;
 /// released.
 pub struct Block<T> {
     base: Base<T>,
-    len: usize,
     cells: Cells<T>,
-    deed: Option<Deed<T, Global>>,
+    deed: Deed<T, Global>,
 }
 
 impl<T> Model for Block<T> {
@@ -31,63 +30,29 @@ impl<T> Model for Block<T> {
 
     ghost view = { λ b. b.cells.slots };
 
-    ghost invariant = { λ b. IsBlock b.base b.len b.cells b.deed };
+    ghost invariant = { λ b. IsBlock b.base b.cells b.deed };
 }
 
 impl<T> Block<T> {
     ghost use Rattle.item_cells.specs.contracts.block.Block.{the_row};
 
-    /// No cells. Allocates nothing.
-    pub fn new() -> Self
-        ensures { result ≡ [] }
-    {
-        let (base, cells) = nothing();
-        Block {
-            base,
-            len: 0,
-            cells,
-            deed: None,
-        }
-    }
-
-    /// So many empty cells, of which there is one. Fails where there is no memory for them.
-    pub fn with_len(alloc: Global, len: usize) -> Result<Self, AllocError>
-        requires { 0 < len }
+    /// So many empty cells. Fails where there is no memory for them.
+    pub fn new(alloc: Global, len: usize) -> Result<Self, AllocError>
         ensures { IfOk result (λ block. block ≡ replicate len None) }
     {
         if !may_hold::<T>(len) {
             return Err(AllocError);
         }
         let (base, cells, deed) = allocate(&alloc, len)?;
-        Ok(Block {
-            base,
-            len,
-            cells,
-            deed: Some(deed),
-        })
+        Ok(Block { base, cells, deed })
     }
 
-    /// Frees a block of which each cell is empty.
-    pub fn release(self, alloc: Global)
-        requires { self ≡ replicate (length self) None }
+    /// Frees a block of so many cells, of which each is empty.
+    pub fn release(self, alloc: Global, len: usize)
+        requires { self ≡ replicate len None }
     {
-        let Block {
-            base,
-            len,
-            cells,
-            deed,
-        } = self;
-        match deed {
-            Some(deed) => deallocate(&alloc, base, len, cells, deed),
-            None => forget(cells),
-        }
-    }
-
-    /// How many cells there are.
-    pub fn len(&self) -> usize
-        ensures { result ≡ length self.now }
-    {
-        self.len
+        let Block { base, cells, deed } = self;
+        deallocate(&alloc, base, len, cells, deed);
     }
 
     /// The item in a cell.
@@ -109,11 +74,10 @@ impl<T> Block<T> {
         self.cells.get_mut(self.base, index)
     }
 
-    /// The items of so many cells from one on, of which there is one.
+    /// The items of so many cells from one on.
     #[inline(always)]
     pub fn items(&self, start: usize, len: usize) -> &[T]
-        requires run { IsRun self.now start len }
-        requires some { 0 < len }
+        requires { IsRun self.now start len }
         ensures { take len (drop start self.now) ≡ map Some result.now }
     {
         self.cells.slice(self.base, start, len)
@@ -173,46 +137,6 @@ impl<T> Block<T> {
         for at in start..end {
             let item = self.take(at + 1);
             self.put(at, item);
-        }
-    }
-
-    /// Moves the items of so many cells to as many others, which are empty.
-    #[inline(always)]
-    pub fn move_items(&mut self, from: usize, to: usize, count: usize)
-        requires source { from + count ≤ length self.old }
-        requires target { to + count ≤ length self.old }
-        requires apart { (from + count ≤ to) ⊎ (to + count ≤ from) }
-        requires filled { AreFilled self.old from (from + count) }
-        requires empty { AreEmpty self.old to (to + count) }
-        ensures moved { (k : ℕ) → k < count → cell self.new (to + k) ≡ cell self.old (from + k) }
-        ensures left { AreEmpty self.new from (from + count) }
-        ensures others { (k : ℕ) → (k < from) ⊎ (from + count ≤ k) → (k < to) ⊎ (to + count ≤ k)
-            → cell self.new k ≡ cell self.old k }
-        ensures len { length self.new ≡ length self.old }
-    {
-        // For the proof: the number of cells is a `usize`.
-        let _len = self.len();
-        for index in 0..count {
-            let item = self.take(from + index);
-            self.put(to + index, item);
-        }
-    }
-
-    /// Moves the items of so many cells to the same cells of another block, which are empty.
-    pub fn move_items_to(&mut self, other: &mut Self, start: usize, end: usize)
-        requires order { start ≤ end }
-        requires source { end ≤ length self.old }
-        requires target { end ≤ length other.old }
-        requires filled { AreFilled self.old start end }
-        requires empty { AreEmpty other.old start end }
-        ensures moved { (k : ℕ) → start ≤ k → k < end → cell other.new k ≡ cell self.old k }
-        ensures left { AreEmpty self.new start end }
-        ensures others { SameOutside self.old self.new start end }
-        ensures theirs { SameOutside other.old other.new start end }
-    {
-        for index in start..end {
-            let item = self.take(index);
-            other.put(index, item);
         }
     }
 }

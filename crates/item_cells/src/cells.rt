@@ -1,5 +1,5 @@
 //! The memory of a block, and who owns it. All that reads or writes through a pointer is here.
-ghost use Rattle.std.specs.Prelude.{◌≡◌, ℕ, ◌<◌, List, [], Option, Some, None, map, length, take, drop, replicate, get_or, slice_set, IfOk, ⊤};
+ghost use Rattle.std.specs.Prelude.{◌≡◌, ℕ, ◌<◌, List, Option, Some, None, map, length, take, drop, replicate, get_or, slice_set, IfOk, ⊤};
 ghost use Rattle.std.specs.Borrow.{sem};
 ghost use Rattle.std.specs.Vec.Ownership.{FitsInBlock};
 ghost use base.Fml.{ftrue};
@@ -10,7 +10,6 @@ ghost use Rattle.item_cells.specs.Ownership.{cells_own, cells_lent, deed_owns};
 use std::alloc::{AllocError, Allocator};
 use std::marker::{Model, PhantomData, Send, Sync};
 use std::mem::{align_of, size_of};
-use std::ptr::null_mut;
 use std::slice;
 
 /// Where the block begins. It owns nothing.
@@ -70,21 +69,6 @@ unsafe impl<T, A: Allocator + Send> Send for Deed<T, A> {}
 // A `&` to it holds nothing.
 unsafe impl<T, A: Allocator> Sync for Deed<T, A> {}
 
-/// No places, which have no block.
-pub(crate) fn nothing<T>() -> (Base<T>, Cells<T>)
-    ensures { (result.1.at ≡ result.0.ptr) × (result.1.slots ≡ []) }
-{
-    let base = Base { ptr: null_mut() };
-    (base, Cells { mark: PhantomData })
-}
-
-/// Ends the owner of no places.
-pub(crate) fn forget<T>(cells: Cells<T>)
-    requires { cells.slots ≡ [] }
-{
-    let Cells { mark: _ } = cells;
-}
-
 pub(crate) fn allocate<T, A: Allocator>(
     alloc: &A,
     len: usize,
@@ -114,7 +98,7 @@ pub(crate) fn deallocate<T, A: Allocator>(
     cells: Cells<T>,
     deed: Deed<T, A>,
 )
-    requires { (cells.at ≡ base.ptr) × (cells.slots ≡ replicate len None) × (deed.at ≡ base.ptr) × (deed.len ≡ len) × (deed.alloc ≡ alloc.now) × (0 < len) }
+    requires { (cells.at ≡ base.ptr) × (cells.slots ≡ replicate len None) × (deed.at ≡ base.ptr) × (deed.len ≡ len) × (deed.alloc ≡ alloc.now) }
 {
     let Cells { mark: _ } = cells;
     let Deed { mark: _ } = deed;
@@ -156,9 +140,9 @@ impl<T> Cells<T> {
         unsafe { &mut *base.ptr.add(index) }
     }
 
-    /// The `len` items from `from` on, of which there is one.
+    /// The `len` items from `from` on.
     pub(crate) fn slice(&self, base: Base<T>, from: usize, len: usize) -> &[T]
-        requires { (base.ptr ≡ self.now.at) × IsRun self.now.slots from len × (0 < len) }
+        requires { (base.ptr ≡ self.now.at) × IsRun self.now.slots from len }
         ensures { take len (drop from self.now.slots) ≡ map Some result.now }
     {
         unsafe { slice::from_raw_parts(base.ptr.add(from), len) }

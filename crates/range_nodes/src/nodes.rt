@@ -114,10 +114,10 @@ impl<T: Drop> Nodes<T> {
             return Ok(());
         }
         self.slab.reserve(missing)?;
-        self.rows.reserve(self.slab.capacity())?;
         self.spares
             .reserve(self.slab.len() - self.spares.len() + missing)?;
         for _ in 0..missing {
+            self.rows.reserve(alloc, self.slab.vacant_key() + 1)?;
             let number = self.slab.insert_reserved(Node::new());
             self.spares.push_back_reserved(number);
         }
@@ -132,11 +132,10 @@ impl<T: Drop> Nodes<T> {
         self.rows.row_len(number)
     }
 
-    /// The items of a node that has one.
+    /// The items of a node.
     #[inline(always)]
     pub fn items(&self, number: usize) -> &[T]
-        requires present { HasNode self.now number }
-        requires some { 0 < length (node_items self.now number) }
+        requires { HasNode self.now number }
         ensures items { result.now ≡ node_items self.now number }
         ensures fits { length result.now ≤ CAPACITY }
     {

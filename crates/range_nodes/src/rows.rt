@@ -1,24 +1,21 @@
-//! The items of all nodes in one block of memory: a row of cells under each number.
-ghost use Rattle.std.specs.Prelude.{◌≡◌, ◌≢◌, ℕ, ◌+◌, ◌-◌, ◌*◌, ◌<◌, ◌≤◌, [], ◌∷◌, ◌++◌, length, take, drop, replicate, slice_index_or, slice_set, insert, remove, OnOk, None};
+//! The items of all nodes: a row of them under each number.
+ghost use Rattle.std.specs.Prelude.{◌≡◌, ◌≢◌, ℕ, ◌+◌, ◌-◌, ◌<◌, ◌≤◌, [], ◌∷◌, ◌++◌, length, take, drop, slice_index_or, slice_set, insert, remove, OnOk};
 ghost use Rattle.std.specs.Borrow.{Lends, sem};
 ghost use Rattle.std.specs.Vec.Iter.{into_iter_items};
-ghost use Rattle.item_cells.specs.Places.{cell};
-ghost use Rattle.range_nodes.specs.Rows.{row_of, IsRows};
+ghost use Rattle.range_nodes.specs.Rows.{row_of};
 
 use crate::nodes::{CAPACITY, HALF};
-use item_cells::Block;
+use crate::segment::{ROWS, Segment};
 use std::alloc::{AllocError, Global};
 use std::marker::Model;
-use std::mem;
 use std::vec::IntoIter;
 
 /// Up to `CAPACITY` items under each number from 0 on.
+#[derive(Drop)]
 pub struct Rows<T> {
-    // `CAPACITY` cells for each row, of which the first have its items.
-    cells: Block<T>,
-    // How many items each row has: a byte each, so that these are at hand before a row is read.
-    lens: Vec<u8>,
-    alloc: Global,
+    // Row `n` is row `n % ROWS` of segment `n / ROWS`. Rows never move, so that more of them cost no
+    // copy of the items, and memory for no more than `ROWS` rows is to spare.
+    segments: Vec<Segment<T>>,
 }
 
 impl<T> Model for Rows<T> {
@@ -29,51 +26,11 @@ impl<T> Model for Rows<T> {
 
     ghost coded = { coded_list (coded_list T.code) };
 
-    ghost use Rattle.std.specs.Prelude.{length};
-    ghost use Rattle.range_nodes.specs.Rows.{rows_in, IsRows};
+    ghost use Rattle.range_nodes.specs.Rows.{joined, AreSegments};
 
-    ghost view = { λ s. rows_in (length s.lens.items) s.cells };
+    ghost view = { λ s. joined s.segments.items };
 
-    ghost invariant = { λ s. IsRows s.lens.items s.cells };
-}
-
-/// Drops each item once.
-impl<T: Drop> Drop for Rows<T> {
-    fn drop(self) {
-        let Rows {
-            mut cells,
-            lens,
-            alloc,
-        } = self;
-        drop_rows(&mut cells, lens.as_slice());
-        cells.release(alloc);
-    }
-}
-
-// Drops the items of rows with so many items each.
-fn drop_rows<T: Drop>(cells: &mut Block<T>, lens: &[u8])
-    requires { IsRows lens.now cells.old }
-    ensures { cells.new ≡ replicate (length cells.new) None }
-{
-    for number in 0..lens.len() {
-        let start = CAPACITY * number;
-        cells.drop_items(start, start + usize::from(lens[number]));
-    }
-}
-
-// Moves the items of rows with so many items each to the same rows of a block of empty cells.
-fn move_rows<T>(cells: &mut Block<T>, lens: &[u8], larger: &mut Block<T>)
-    requires rows { IsRows lens.now cells.old }
-    requires room { CAPACITY * length lens.now ≤ length larger.old }
-    requires empty { larger.old ≡ replicate (length larger.old) None }
-    ensures left { cells.new ≡ replicate (length cells.new) None }
-    ensures len { length larger.new ≡ length larger.old }
-    ensures moved { (k : ℕ) → cell larger.new k ≡ cell cells.old k }
-{
-    for number in 0..lens.len() {
-        let start = CAPACITY * number;
-        cells.move_items_to(larger, start, start + usize::from(lens[number]));
-    }
+    ghost invariant = { λ s. AreSegments s.segments.items };
 }
 
 // The next item, of which there is one.
@@ -92,29 +49,20 @@ impl<T: Drop> Rows<T> {
         ensures { result ≡ [] }
     {
         Rows {
-            cells: Block::new(),
-            lens: Vec::new(alloc),
-            alloc,
+            segments: Vec::new(alloc),
         }
     }
 
-    /// Adds empty rows, until there are so many.
-    pub fn reserve(&mut self, many: usize) -> Result<(), AllocError>
+    /// Adds empty rows, until there are so many. Where it fails, those that it added stay.
+    pub fn reserve(&mut self, alloc: Global, many: usize) -> Result<(), AllocError>
         ensures there { OnOk result (many ≤ length self.new) }
         ensures no_less { length self.old ≤ length self.new }
         ensures kept { (k : ℕ) → row_of self.new k ≡ row_of self.old k }
     {
-        let missing = many.saturating_sub(self.lens.len());
-        if missing == 0 {
-            return Ok(());
-        }
-        self.lens.reserve(missing)?;
-        let len = many.checked_mul(CAPACITY).ok_or(AllocError)?;
-        let mut larger = Block::with_len(self.alloc, len)?;
-        move_rows(&mut self.cells, self.lens.as_slice(), &mut larger);
-        mem::replace(&mut self.cells, larger).release(self.alloc);
+        let missing = many.div_ceil(ROWS).saturating_sub(self.segments.len());
+        self.segments.reserve(missing)?;
         for _ in 0..missing {
-            self.lens.push_reserved(0);
+            self.segments.push_reserved(Segment::new(alloc)?);
         }
         Ok(())
     }
@@ -126,18 +74,17 @@ impl<T: Drop> Rows<T> {
         ensures len { result ≡ length (row_of self.now number) }
         ensures fits { result ≤ CAPACITY }
     {
-        usize::from(self.lens[number])
+        self.segments[number / ROWS].row_len(number % ROWS)
     }
 
-    /// The items of a row that has one.
+    /// The items of a row.
     #[inline(always)]
     pub fn items(&self, number: usize) -> &[T]
-        requires number { number < length self.now }
-        requires some { 0 < length (row_of self.now number) }
+        requires { number < length self.now }
         ensures items { result.now ≡ row_of self.now number }
         ensures fits { length result.now ≤ CAPACITY }
     {
-        self.cells.items(CAPACITY * number, self.row_len(number))
+        self.segments[number / ROWS].items(number % ROWS)
     }
 
     /// The item of a row at an index.
@@ -146,7 +93,7 @@ impl<T: Drop> Rows<T> {
         requires within { index < length (row_of self.now number) }
         ensures { result.now ≡ slice_index_or (row_of self.now number) index result.now }
     {
-        self.cells.get(CAPACITY * number + index)
+        self.segments[number / ROWS].item_at(number % ROWS, index)
     }
 
     /// The item of a row at an index, to be changed where it stands.
@@ -157,36 +104,29 @@ impl<T: Drop> Rows<T> {
             (λ item. slice_set self.old number (slice_set (row_of self.old number) index item))) }
         ensures value { result.now ≡ slice_index_or (row_of self.old number) index result.now }
     {
-        self.cells.get_mut(CAPACITY * number + index)
+        self.segments[number / ROWS].item_mut(number % ROWS, index)
     }
 
     /// Puts an item before the one at an index of a row that is not full.
+    #[inline(always)]
     pub fn put(&mut self, number: usize, index: usize, item: T)
         requires number { number < length self.old }
         requires within { index ≤ length (row_of self.old number) }
         requires room { length (row_of self.old number) < CAPACITY }
         ensures { self.new ≡ slice_set self.old number (insert (row_of self.old number) index item) }
     {
-        let len = self.row_len(number);
-        let start = CAPACITY * number;
-        self.cells.shift_up(start + index, start + len);
-        self.cells.put(start + index, item);
-        self.lens[number] = (len + 1) as u8;
+        self.segments[number / ROWS].put(number % ROWS, index, item);
     }
 
     /// Takes the item at an index out of a row.
+    #[inline(always)]
     pub fn take(&mut self, number: usize, index: usize) -> T
         requires number { number < length self.old }
         requires within { index < length (row_of self.old number) }
         ensures item { result ≡ slice_index_or (row_of self.old number) index result }
         ensures rest { self.new ≡ slice_set self.old number (remove (row_of self.old number) index) }
     {
-        let last = self.row_len(number) - 1;
-        let start = CAPACITY * number;
-        let item = self.cells.take(start + index);
-        self.cells.shift_down(start + index, start + last);
-        self.lens[number] = last as u8;
-        item
+        self.segments[number / ROWS].take(number % ROWS, index)
     }
 
     /// Puts the next so many items into an empty row.
@@ -217,12 +157,13 @@ impl<T: Drop> Rows<T> {
             (slice_set self.old from (take start (row_of self.old from))) to
             (row_of self.old to ++ drop start (row_of self.old from)) }
     {
-        let count = self.row_len(from) - start;
         let end = self.row_len(to);
-        self.cells
-            .move_items(CAPACITY * from + start, CAPACITY * to + end, count);
-        self.lens[from] = start as u8;
-        self.lens[to] = (end + count) as u8;
+        let mut left = self.row_len(from);
+        while left > start {
+            let item = self.take(from, left - 1);
+            self.put(to, end, item);
+            left -= 1;
+        }
     }
 
     /// Puts an item into a full row, whose first half stays; the rest but the item between, which

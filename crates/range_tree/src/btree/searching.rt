@@ -27,12 +27,12 @@ fn ask_ahead<T, P: Probe<T>>(items: &[T], low: usize, end: usize, probe: &mut P)
     low + (end - low) * usize::from(probe.ask(&items[end - 1]))
 }
 
-// How many of the items of a node pass, by halves.
+// How many of fewer than `MIN_LEN` items pass, as only a root has so few.
 #[inline(always)]
-fn count_by_halves<T, P: Probe<T>>(items: &[T], probe: &mut P) -> usize
+fn count_few<T, P: Probe<T>>(items: &[T], probe: &mut P) -> usize
     requires falls { Falls (P.test probe.old) items.now }
     requires some { 0 < length items.now }
-    requires few { length items.now ≤ CAPACITY }
+    requires few { length items.now < MIN_LEN }
     ensures count { result ≡ count_by (P.test probe.old) items.now }
     ensures kept { P.test probe.new ≡ P.test probe.old }
     ensures asked { AddsSteps (P.steps_taken probe.old) (P.steps_taken probe.new) 1 MAX_ASKS }
@@ -47,13 +47,32 @@ fn count_by_halves<T, P: Probe<T>>(items: &[T], probe: &mut P) -> usize
     low
 }
 
-// Whether each item that an ask may come to is marked, if the first ask is of the item before
+// How many of `MIN_LEN` items or more pass: four asks are enough, whatever they answer, so many items
+// at a time that the next steps reach each of those between. The second asks the same item whatever
+// the first answers, so that a processor reads both at once.
+#[inline(always)]
+fn count_many<T, P: Probe<T>>(items: &[T], first: usize, probe: &mut P) -> usize
+    requires falls { Falls (P.test probe.old) items.now }
+    requires some { 0 < first }
+    requires low { first ≤ 4 }
+    requires before { first + 4 ≤ length items.now }
+    requires near { length items.now ≤ first + 7 }
+    ensures count { result ≡ count_by (P.test probe.old) items.now }
+    ensures kept { P.test probe.new ≡ P.test probe.old }
+    ensures asked { AddsSteps (P.steps_taken probe.old) (P.steps_taken probe.new) 1 MAX_ASKS }
+{
+    let low = ask_ahead(items, 0, first, probe);
+    let low = ask_ahead(items, low, items.len() - 3, probe);
+    let low = ask_ahead(items, low, low + 2, probe);
+    ask_ahead(items, low, low + 1, probe)
+}
+
+// Whether the items that an ask may come to are marked, where the first ask is of the item before
 // `first`. It reads them all, so that the lines of memory in which they lie come together, and not
 // one after the other as they are asked.
 #[inline(always)]
 fn are_marked<T, P: Probe<T>>(items: &[T], first: usize, probe: &P) -> bool
-    requires enough { MIN_LEN ≤ length items.now }
-    requires within { first + 2 < length items.now }
+    requires { first + 4 ≤ length items.now }
 {
     let len = items.len();
     probe.mark(&items[0])
@@ -66,31 +85,26 @@ fn are_marked<T, P: Probe<T>>(items: &[T], first: usize, probe: &P) -> bool
         & probe.mark(&items[len - 1])
 }
 
-// How many of the items of a node pass. Of `MIN_LEN` or more, four asks are enough, whatever they
-// answer: so many items at a time that the next steps reach each of those between. The second asks
-// the same item whatever the first answers, so that a processor reads both at once. Whether all are
-// marked makes no difference to what is counted.
+// How many of the items of a node pass. Of many, the first ask may be of one of several items: the
+// marks say which, and all count the same.
 #[inline(always)]
 pub fn count_passing<T, P: Probe<T>>(items: &[T], probe: &mut P) -> usize
     requires falls { Falls (P.test probe.old) items.now }
     requires some { 0 < length items.now }
-    requires few { length items.now ≤ CAPACITY }
+    requires fits { length items.now ≤ CAPACITY }
     ensures count { result ≡ count_by (P.test probe.old) items.now }
     ensures kept { P.test probe.new ≡ P.test probe.old }
     ensures asked { AddsSteps (P.steps_taken probe.old) (P.steps_taken probe.new) 1 MAX_ASKS }
 {
     let len = items.len();
     if len < MIN_LEN {
-        return count_by_halves(items, probe);
+        return count_few(items, probe);
     }
     let first = len.max(8) - 7;
     if are_marked(items, first, probe) {
-        return count_by_halves(items, probe);
+        return count_many(items, len.min(8) - 4, probe);
     }
-    let low = ask_ahead(items, 0, first, probe);
-    let low = ask_ahead(items, low, len - 3, probe);
-    let low = ask_ahead(items, low, low + 2, probe);
-    ask_ahead(items, low, low + 1, probe)
+    count_many(items, first, probe)
 }
 
 // The edge after the items below a node that pass, by one path down to a leaf.

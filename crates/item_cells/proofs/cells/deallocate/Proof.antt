@@ -41,7 +41,7 @@ use Rattle.std.specs.Prelude.{None}
 use Rattle.core.proofs.mem.Param.{El, R, elτ}
 use Rattle.std_alloc.proofs.RawLayout.{as_raw}
 use Rattle.item_cells.specs.Ownership.{cells_own}
-use Rattle.item_cells.proofs.Memory.{none_owned, Cr, Bs, sz, Place, mark, mark_had, word_had}
+use Rattle.item_cells.proofs.Memory.{Cr, Bs, sz, Place, mark, mark_had, word_had}
 use base.Fml.{Incl-trans}
 use lib.Dec.{T}
 use lib.ListN.{replicate, length-replicate}
@@ -60,7 +60,7 @@ use denote.Triple.Call.{calls_at_last}
 use Rattle.core.proofs.alloc.Calls.{Al, second, token, gives_key, Gives, at_gives, Gives-goes, Gives-Gives}
 use Rattle.core.proofs.slots.Leases.{uncapped, block_ty, block_size, block_align, args, P}
 use Rattle.item_cells.specs.Ownership.{deed_owns}
-use Rattle.item_cells.proofs.Memory.{none_owned, to_room}
+use Rattle.item_cells.proofs.Memory.{to_room}
 use Rattle.item_cells.specs.contracts.cells.Deed as D-type
 use Rattle.item_cells.specs.contracts.cells.deallocate as F
 use Rattle.item_cells.specs.contracts.cells.deallocate.Key.{name as #self}
@@ -84,7 +84,7 @@ module _ (E : El) (Z : Al) where
   stayed = (stay_dropped (RefOf (0 ∷ []) tt (plain (λ _. P E Z)) (λ _. tt)) yes, (stay_dropped (plain (λ _. Bs E)) no, (stay_dropped (plain (λ _. usize)) yes, (stay_dropped (plain (λ _. Cr E)) no, (stay_dropped (plain (λ _. Dd)) no, tt)))))
 
   abbrev Asks : Z.row.Denot → (Bs E).Denot → ℕ → (Cr E).Denot → Dd.Denot → Type 0
-  Asks a base len cells deed = (cells.at ≡ base.ptr) × (cells.slots ≡ replicate len None) × (deed.at ≡ base.ptr) × (deed.len ≡ len) × (deed.alloc ≡ a) × (0 < len)
+  Asks a base len cells deed = (cells.at ≡ base.ptr) × (cells.slots ≡ replicate len None) × (deed.at ≡ base.ptr) × (deed.len ≡ len) × (deed.alloc ≡ a)
 
 module _ (E : El) (Z : Al) {M : Type 1} {𝓤 : Ura M} (𝓛 : Logic 𝓤) (at_mem : Memory → SProp 𝓤) (run : Routine → Fun 𝓤) (C : Calls 𝓤 𝓛.H) (Λ : Loops 𝓤 𝓛.H) (fm : FmC 𝓤 𝓛.H 𝓛.laws C)
     (callee : Triple 𝓤 (C (gives_key Z)) (Gives Z 𝓛 at_mem run)) (κ κ₁ κ₂ : Lft) (q q₁ q₂ : Share) (short : κ ⊑ κ₂) (within : κ₂ ⊑ Z.row.lives) (rb ro : ℕ) (a : Z.row.Denot) (base : (Bs E).Denot) (len : ℕ) (cells : (Cr E).Denot) (deed : (Dd E Z).Denot) (us0 us1 us2 us3 us4 : List Val) where
@@ -119,7 +119,7 @@ module _ (E : El) (Z : Al) {M : Type 1} {𝓤 : Ura M} (𝓛 : Logic 𝓤) (at_m
       let En : Env 𝓤 H = env (function E Z).locals l in
       let s = sz E in let al : ℕ = capped (align (elτ E)) in
       rewrite ! 0 (λ (c : Ptr × List (Place E)). ‵ (cells_own (R E) c.0 c.1)) (λ i. (asked.0 i, asked.1 i)) refl $
-      in_a_block ! base.ptr (λ p. cells_own (R E) p (replicate len None)) (none_owned E 𝓛 (replicate len None) (omega (arith, length-replicate {A = Place E} len None, asked.5))) (λ b o e. fsplit ! $ flt_l ! (λ fit.
+      in_a_block ! base.ptr (λ p. cells_own (R E) p (replicate len None)) (id⊢ 𝓤 (never 𝓤)) (λ b o e. fsplit ! $ flt_l ! (λ fit.
       let small : len * s < 2 ^ 63 = subst (λ k. k * s < 2 ^ 63) (length-replicate len None) fit in let bytes : len * s < 2 ^ 64 = omega arith in
       let y : (Gives Z 𝓛 at_mem run).Ghost = at_gives Z 𝓛 at_mem run κ q (rb, ro) a b o (len * s) al (block_ty E len) in
       rewrite ! 1 (λ (d : Z.row.Denot × Ptr × ℕ). ‵ (deed_owns (R E) (token Z d.0) d.1 d.2)) (λ i. (asked.4 i, (asked.2 ∙ e) i, asked.3 i)) refl $

@@ -47,7 +47,7 @@ use Rattle.core.proofs.mem.Param.{El, R, args, elτ}
 use Rattle.core.proofs.ptr.Rows.{times_below, one_below}
 use Rattle.std_alloc.proofs.RawLayout.{as_written}
 use Rattle.item_cells.specs.Ownership.{slot, slots, cells_own}
-use Rattle.item_cells.proofs.Memory.{none_owned, Cr, Bs, sz, Place, word_had, value_in, tells, Besides, slot_out, slot_in}
+use Rattle.item_cells.proofs.Memory.{Cr, Bs, sz, Place, word_had, value_in, tells, Besides, slot_out, slot_in}
 use Rattle.item_cells.specs.contracts.cells.Cells.write.Key.{name as #self}
 use Rattle.item_cells.proofs.cells.Cells.write.Statement as stated
 use Rattle.item_cells.proofs.cells.Cells.write.Code as code
@@ -99,7 +99,7 @@ module _ (E : El) {M : Type 1} {𝓤 : Ura M} (𝓛 : Logic 𝓤) (C : Calls �
       qed 𝓛 (Had v_item) ∵ enter ! C Λ (function E) (vptr rb ro ∷ word base.ptr ∷ vint w64 index ∷ v_item ∷ []) _ $ alloc_all ! (λ l. pass_all ! refl ((tt, tt), (word-Good [] base.ptr, ((tt, record { fits = fits_index }), (good_item, tt)))) $
       let En : Env 𝓤 H = env (function E).locals l in
       opens ! tt (Cr E) {h = d} rb ro (λ vs. move ! (1 ∷ []) $ fsplit ! $ move ! (1 ∷ []) $
-      in_a_block ! d.at (λ p. cells_own (R E) p d.slots) (none_owned E 𝓛 d.slots (omega (arith, within))) (λ b o e. fsplit ! $ flt_l ! (λ small.
+      in_a_block ! d.at (λ p. cells_own (R E) p d.slots) (id⊢ 𝓤 (never 𝓤)) (λ b o e. fsplit ! $ flt_l ! (λ small.
       let s = sz E in let tiny : s < 2 ^ 64 = omega (arith, one_below (length d.slots) s (2 ^ 63) (omega arith) small) in
       let far : index * s < 2 ^ 64 = omega (arith, times_below index (length d.slots) s (2 ^ 63) (omega arith) small) in
       take_at ! 2 $ rewrite ! 0 (λ (p : Ptr). ‵ (fat full_share (layout (Bs E)) (l 2) 0 (word p))) (asked.0 ∙ e) refl $ give_at ! 2 $ first ! $ blocks ! $
