@@ -75,7 +75,7 @@ pub place : (many n : ℕ) → n < ROWS * many → Place many n
 place many n less =
     let is = div-add-mod n ROWS in
     let row : n % ROWS < ROWS = mod-lt n {ROWS} (omega arith) in
-    record { segment = omega (arith, less, is, row); row = row; is = is; }
+    record { segment = omega (arith, less, is, row); row = row; is = is }
 
 module _ {T : Type 0} {segments : List (List (List T))} (all : AreSegments segments) (n : ℕ)
     (less : n < length (joined segments)) where

@@ -25,7 +25,7 @@ pub spot : (many k : ℕ) → k < CAPACITY * many → Spot many k
 spot zero k within = absurd (omega (arith, within))
 spot (suc many) k within =
     elim (cases_lt k CAPACITY) [
-      | inl less ↦ record { row = 0; index = k; is = omega arith; below = less; there = omega arith; }
+      | inl less ↦ record { row = 0; index = k; is = omega arith; below = less; there = omega arith }
       | inr past ↦
           let rest = spot many (k - CAPACITY) (omega (arith, within, past)) in
           record {
@@ -100,7 +100,7 @@ module _ {T : Type 0} where
       → lens ≡ map length now → length now ≡ ROWS
       → IsSegment lens cells × (rows_in ROWS cells ≡ now)
   made {lens} {cells} {now} laid lens_are many = (
-    record { rows = now; laid = laid; lens_are = lens_are; many = many; },
+    record { rows = now; laid = laid; lens_are = lens_are; many = many },
     rows_are laid ROWS (sym many),
   )
 

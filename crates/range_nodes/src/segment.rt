@@ -48,7 +48,7 @@ impl<T: Drop> Drop for Segment<T> {
             lens,
             alloc,
         } = self;
-        drop_rows(&mut cells, &lens);
+        drop_rows(&mut cells, lens.as_slice());
         cells.release(alloc, CELLS);
     }
 }
