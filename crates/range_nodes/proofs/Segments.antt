@@ -357,3 +357,57 @@ module _ {T : Type 0} where
       (λ k within.
       let less : k < many = omega (arith, within, len) in
       none k less ∙ sym (get_or-replicate many k None None less))
+
+-- the items of one row came to be as many others
+pub lens_same : {T : Type 0} (rows : List (List T)) (n : ℕ) (items : List T)
+    → length items ≡ length (row_of rows n) → map length (set rows n items) ≡ map length rows
+lens_same [] n items many = refl
+lens_same (xs ∷ rows) zero items many = ap (λ k. k ∷ map length rows) many
+lens_same (xs ∷ rows) (suc n) items many = ap (λ l. length xs ∷ l) (lens_same rows n items many)
+
+module _ {T : Type 0} {lens : List ℕ} {cells : List (Option T)} {now : List (List T)}
+    (s : Seen lens cells now) (n i : ℕ) where
+  -- an item was replaced where it lies
+  pub item_written : (x : T) → n < ROWS → i < length (row_of now n)
+      → IsSegment lens (set cells (CAPACITY * n + i) (Some x))
+      × (rows_in ROWS (set cells (CAPACITY * n + i) (Some x)) ≡ set now n (set (row_of now n) i x))
+  item_written x less within =
+      let xs = row_of now n in
+      made
+      (set_laid s.laid n i x (omega (arith, less, s.many)) within)
+      (s.lens_are ∙ sym (lens_same now n (set xs i x) (length-set xs i x)))
+      (length-set now n (set xs i x) ∙ s.many)
+
+  -- an item came to a row: those after it moved one cell on, and it was put between
+  pub item_put : {moved : List (Option T)} (x : T) (many : ℕ) → n < ROWS
+      → i ≤ length (row_of now n) → length (row_of now n) < CAPACITY
+      → many ≡ length (row_of now n) + 1
+      → ((k : ℕ) → CAPACITY * n + i ≤ k → k < CAPACITY * n + length (row_of now n)
+      → cell moved (suc k) ≡ cell cells k)
+      → SameOutside cells moved (CAPACITY * n + i) (suc (CAPACITY * n + length (row_of now n)))
+      → IsSegment (set lens n many) (set moved (CAPACITY * n + i) (Some x))
+      × (rows_in ROWS (set moved (CAPACITY * n + i) (Some x)) ≡ set now n (insert (row_of now n) i x))
+  item_put x many less within space is up others =
+      let xs = row_of now n in
+      made
+      (put_laid s.laid n i x (omega (arith, less, s.many)) within space up others)
+      (lens_written s.lens_are n (insert xs i x) many
+      (omega (arith, is, length-insert xs i x within)))
+      (length-set now n (insert xs i x) ∙ s.many)
+
+  -- an item was taken from a row: those after it moved one cell back
+  pub item_taken : {new : List (Option T)} (last : ℕ) → n < ROWS → i < length (row_of now n)
+      → last + 1 ≡ length (row_of now n)
+      → ((k : ℕ) → CAPACITY * n + i ≤ k → k < CAPACITY * n + last
+      → cell new k ≡ cell (set cells (CAPACITY * n + i) None) (suc k))
+      → cell new (CAPACITY * n + last) ≡ None
+      → SameOutside (set cells (CAPACITY * n + i) None) new (CAPACITY * n + i)
+      (suc (CAPACITY * n + last))
+      → IsSegment (set lens n last) new × (rows_in ROWS new ≡ set now n (remove (row_of now n) i))
+  item_taken last less within end down left others =
+      let xs = row_of now n in
+      made
+      (take_laid s.laid n i last (omega (arith, less, s.many)) within end down left others)
+      (lens_written s.lens_are n (remove xs i) last
+      (omega (arith, end, length-remove xs i within)))
+      (length-set now n (remove xs i) ∙ s.many)
