@@ -143,3 +143,11 @@ module _ {T : Type 0} (segments : List (List (List T))) (all : AreSegments segme
             ∙ no_row (k - length (joined segments))
             ∙ sym (get_or_past (joined segments) k [] past)
       ]
+
+module _ {A : Type 0} where
+  abbrev no_segments : List (List A)
+  no_segments = []
+
+  pub joined_none : joined no_segments ≡ []
+  unfolding joined
+  joined_none = refl

@@ -182,10 +182,10 @@ module _ {T : Type 0} where
       }
 
   -- the items of one row came to be others, and so did their number
-  pub lens_written : {rows : List (List T)} {lens : List ℕ} → lens ≡ map length rows → (n : ℕ)
+  pub lens_written : (rows : List (List T)) {lens : List ℕ} → lens ≡ map length rows → (n : ℕ)
       → (items : List T) → (many : ℕ) → many ≡ length items
       → set lens n many ≡ map length (set rows n items)
-  lens_written {rows} lens_are n items many is =
+  lens_written rows lens_are n items many is =
       ap (λ l. set l n many) lens_are ∙ ap (set (map length rows) n) is
       ∙ sym (map-set length rows n items)
 
@@ -334,16 +334,22 @@ module _ {T : Type 0} where
         | inr high ↦ omega (arith, is, high, within, few)
       ]))
 
+  abbrev no_items : List T
+  no_items = []
+
+  abbrev no_item : Option T
+  no_item = None
+
   -- rows without an item
-  pub fresh : IsLaid (replicate ROWS ([] {A = T})) (replicate (CAPACITY * ROWS) None)
+  pub fresh : IsLaid (replicate ROWS no_items) (replicate (CAPACITY * ROWS) None)
   fresh =
-      let bare : (n : ℕ) → row_of (replicate ROWS ([] {A = T})) n ≡ [] =
+      let bare : (n : ℕ) → row_of (replicate ROWS no_items) n ≡ [] =
       λ n. all_alike ROWS [] n in
       record {
         len = omega (
           arith,
-          length-replicate (CAPACITY * ROWS) (None {A = T}),
-          length-replicate ROWS ([] {A = T}),
+          length-replicate (CAPACITY * ROWS) no_item,
+          length-replicate ROWS no_items,
         );
         fits = λ n. rw (bare n) (omega arith);
         held = λ n i small. rw (bare n) (all_alike (CAPACITY * ROWS) None (CAPACITY * n + i));
@@ -391,7 +397,7 @@ module _ {T : Type 0} {lens : List ℕ} {cells : List (Option T)} {now : List (L
       let xs = row_of now n in
       made
       (put_laid s.laid n i x (omega (arith, less, s.many)) within space up others)
-      (lens_written s.lens_are n (insert xs i x) many
+      (lens_written now s.lens_are n (insert xs i x) many
       (omega (arith, is, length-insert xs i x within)))
       (length-set now n (insert xs i x) ∙ s.many)
 
@@ -408,6 +414,23 @@ module _ {T : Type 0} {lens : List ℕ} {cells : List (Option T)} {now : List (L
       let xs = row_of now n in
       made
       (take_laid s.laid n i last (omega (arith, less, s.many)) within end down left others)
-      (lens_written s.lens_are n (remove xs i) last
+      (lens_written now s.lens_are n (remove xs i) last
       (omega (arith, end, length-remove xs i within)))
       (length-set now n (remove xs i) ∙ s.many)
+
+-- a segment whose rows have no item
+module _ {T : Type 0} where
+  abbrev empty_cells : List (Option T)
+  empty_cells = replicate (CAPACITY * ROWS) None
+
+  abbrev empty_rows : List (List T)
+  empty_rows = replicate ROWS []
+
+  pub fresh_made : IsSegment (replicate ROWS 0) empty_cells × (rows_in ROWS empty_cells ≡ empty_rows)
+  fresh_made = made fresh refl (length-replicate ROWS [])
+
+-- how many items a row has
+pub lens_at : {T : Type 0} {lens : List ℕ} {cells : List (Option T)} (segment : IsSegment lens cells)
+    (n : ℕ) → get_or lens n 0 ≡ length (row_of segment.rows n)
+lens_at segment n =
+    ap (λ l. get_or l n 0) segment.lens_are ∙ map_get_or length segment.rows n []
