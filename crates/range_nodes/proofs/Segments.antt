@@ -427,7 +427,7 @@ module _ {T : Type 0} where
   empty_rows = replicate ROWS []
 
   pub fresh_made : IsSegment (replicate ROWS 0) empty_cells × (rows_in ROWS empty_cells ≡ empty_rows)
-  fresh_made = made fresh refl (length-replicate ROWS [])
+  fresh_made = made fresh refl (length-replicate {A = List T} ROWS [])
 
 -- how many items a row has
 pub lens_at : {T : Type 0} {lens : List ℕ} {cells : List (Option T)} (segment : IsSegment lens cells)
