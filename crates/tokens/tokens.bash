@@ -1,2 +1,2 @@
 # Completion of tokens for bash.
-complete -o default -W "--raw --json --count --help --version" tokens
+complete -o default -W "--raw --json --count --table --help --version" tokens

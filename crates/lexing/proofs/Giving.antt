@@ -1,15 +1,17 @@
 -- What the calls of `next` give, one after the other.
-use Rattle.std.proofs.Common.{◌≡◌, refl, sym, subst, ℕ, List, [], ◌∷◌, length, Some, None, Ok, Err}
+use Rattle.std.proofs.Common.{◌≡◌, refl, sym, subst, ℕ, List, [], ◌∷◌, length, map, Some, None, Ok, Err}
 use Rattle.std.specs.Prelude.{Result}
 use Rattle.std.specs.Iterator.{Yields, YieldsThen}
 use Rattle.std.specs.List.{AllByRecursion}
 use Rattle.lexing.specs.declared.lexer.Lexer.{Lexer}
+use Rattle.lexing.specs.declared.placed.Placed.{Placed}
 use Rattle.lexing.specs.declared.token.Token.{Token}
 use Rattle.lexing.specs.declared.token.LexError.{LexError}
 use Rattle.lexing.specs.declared.token.LexError.TheVariants.{NoToken, Memory}
 use Rattle.lexing.specs.Given.{AreGiven, At_end, GivesNext, Given_token, Refused_memory, Single_character, Skipped_token}
 use Rattle.lexing.specs.Left.{Left}
 use Rattle.lexing.specs.Lexers.{IsSkipped}
+use Rattle.lexing.specs.Places.{GivesPlaced}
 use Rattle.lexing.specs.Runs.{AreSkipped, AreTokens, IsNext}
 
 module _ (lexer : Lexer) (text : List ℕ) (may_refuse : Type 0) where
@@ -56,3 +58,13 @@ given_by_calls lexer may_refuse (item ∷ items) left last (end, (next, step, ca
     let rest = given_by_calls lexer may_refuse items next last (end, calls, stop) in
     given_more (lexer left.scanner) left.text (may_refuse left.scanner) left.place next.place item
     items step.2 (rw (step.0, step.1) at rest)
+
+-- what all calls give with places are the tokens, without these
+pub placed_by_calls : {S : Type 0} (lexer : S → Lexer) (may_refuse : S → Type 0)
+    (items : List Placed) (left last : Left S)
+    → YieldsThen (GivesPlaced lexer may_refuse) left items None last
+    → YieldsThen (GivesNext lexer may_refuse) left (map (λ placed. placed.token) items) None last
+placed_by_calls lexer may_refuse [] left last (end, same, step) = (end, same, step)
+placed_by_calls lexer may_refuse (item ∷ items) left last (end, (next, step, calls), stop) =
+    let (rest, more, behind) = placed_by_calls lexer may_refuse items next last (end, calls, stop) in
+    (rest, (next, step.0, more), behind)

@@ -1,6 +1,9 @@
 pub mod Giving
 pub mod Growing
+pub mod Leads
 pub mod Meeting
+pub mod Places
 pub mod Rows
 pub mod Running
+pub mod Tables
 pub mod TokenLists

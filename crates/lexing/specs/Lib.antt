@@ -5,5 +5,7 @@ pub mod Left
 pub mod Lexers
 pub mod Machines
 pub mod MachineSteps
+pub mod Places
 pub mod Runs
+pub mod Tables
 pub mod Tokens

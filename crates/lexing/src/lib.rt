@@ -32,6 +32,8 @@
 //!   `specs/{Machines,MachineSteps}.antt`, `proofs/Running.antt`
 //! - how it is built, within a budget of states: `src/{build,states,error}.rt`,
 //!   `specs/{Building,Budgets}.antt`, `proofs/{Rows,Growing,Meeting}.antt`
+//! - lines and columns: `src/{place,placed}.rt`, `specs/Places.antt`, `proofs/Places.antt`
+//! - a machine as a table: `src/table.rt`, `specs/Tables.antt`, `proofs/{Tables,Leads}.antt`
 #![tactic(auto)]
 
 mod build;
@@ -39,8 +41,11 @@ mod cutting;
 mod error;
 mod lexer;
 mod machine;
+mod place;
+mod placed;
 mod scanner;
 mod states;
+mod table;
 mod token;
 mod tokens;
 
@@ -48,7 +53,10 @@ pub use cutting::cut;
 pub use error::BuildError;
 pub use lexer::Lexer;
 pub use machine::Machine;
+pub use place::Place;
+pub use placed::{Placed, PlacedTokens};
 pub use scanner::Scanner;
 pub use state_sets::Match;
+pub use table::{Lead, Table, TableState};
 pub use token::{LexError, Token};
 pub use tokens::Tokens;

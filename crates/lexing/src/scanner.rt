@@ -1,14 +1,17 @@
 //! What finds the tokens of a lexer.
-ghost use Rattle.std.specs.Prelude.{◌≡◌, ◌↔◌, List, None, Result, IsTrue, IfOk, OnErr, MatchOption};
+ghost use Rattle.std.specs.Prelude.{◌≡◌, ◌↔◌, List, None, Result, IsTrue, IfOk, OnErr, MatchOption, map};
 ghost use Rattle.std.specs.Iterator.{YieldsThen};
 ghost use Rattle.lexing.specs.declared.lexer.Lexer.{Lexer};
+ghost use Rattle.lexing.specs.declared.placed.Placed.{Placed};
 ghost use Rattle.lexing.specs.declared.token.Token.{Token};
 ghost use Rattle.lexing.specs.declared.token.LexError.{LexError};
 ghost use Rattle.lexing.specs.Given.{AreGiven, GivesNext};
 ghost use Rattle.lexing.specs.Left.{Left};
 ghost use Rattle.lexing.specs.Lexers.{IsSkipped};
+ghost use Rattle.lexing.specs.Places.{GivesPlaced};
 ghost use Rattle.lexing.specs.Tokens.{IsToken, BeginsWithNone};
 
+use crate::placed::PlacedTokens;
 use crate::tokens::Tokens;
 use btree_range_map::MapError;
 use state_sets::Match;
@@ -53,5 +56,28 @@ pub trait Scanner {
             → AreGiven (lexer self.now) text.now (may_refuse self.now) 0 items }
     {
         Tokens::new(self, text)
+    }
+
+    /// What `tokens` gives, each with the line and the column where it begins.
+    ///
+    /// ```
+    /// // of a lexer of words and numbers
+    /// for placed in machine.placed_tokens(text) {
+    ///     let Place { line, column } = placed.place;
+    ///     println!(rt; "{line}:{column} {:?}", placed.token)?;
+    /// }
+    /// ```
+    final fn placed_tokens<'a>(&'a self, text: &'a str) -> PlacedTokens<'a, Self>
+    where
+        Self: Sized,
+        ensures scanner { result.scanner ≡ self.now }
+        ensures text { result.text ≡ text.now }
+        ensures start { result.place ≡ 0 }
+        ensures whole { (items : List Placed) (last : Left Self)
+            → YieldsThen (GivesPlaced lexer may_refuse) result items None last
+            → AreGiven (lexer self.now) text.now (may_refuse self.now) 0
+            (map (λ placed. placed.token) items) }
+    {
+        PlacedTokens::new(self, text)
     }
 }

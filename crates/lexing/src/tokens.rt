@@ -1,8 +1,9 @@
 //! The tokens of a text, one after the other.
-ghost use Rattle.std.specs.Prelude.{◌≡◌, ◌-◌, ◌<◌, length, IsTrue, OnSome, MatchResult};
+ghost use Rattle.std.specs.Prelude.{◌≡◌, ◌-◌, ◌<◌, ◌≤◌, length, IsTrue, IfSome, OnSome, MatchResult};
 ghost use Rattle.std.specs.Str.{IsCharBoundary};
 ghost use Rattle.std.specs.Iterator.{at_most};
 ghost use Rattle.lexing.specs.Given.{GivesNext};
+ghost use Rattle.lexing.specs.Places.{BeginsAt};
 ghost use Rattle.lexing.specs.Runs.{IsNext, IsTokenAt, IsReasonAt, IsBehindOne};
 
 use crate::scanner::Scanner;
@@ -70,17 +71,22 @@ impl<'a, S: Scanner> Iterator for Tokens<'a, S> {
 
 impl<'a, S: Scanner> FusedIterator for Tokens<'a, S> {}
 
-/// What comes next, and the place after it.
+/// What comes next, the place where it begins, and the place after it.
 #[derive(Drop)]
-struct Step {
-    item: Option<Result<Token, LexError>>,
-    after: usize,
+pub(crate) struct Step {
+    pub(crate) item: Option<Result<Token, LexError>>,
+    pub(crate) begin: usize,
+    pub(crate) after: usize,
 }
 
-fn next_from<S: Scanner>(scanner: &S, text: &str, start: usize) -> Step
+pub(crate) fn next_from<S: Scanner>(scanner: &S, text: &str, start: usize) -> Step
     requires { IsCharBoundary text.now start }
     ensures next { IsNext (S.lexer scanner.now) text.now (S.may_refuse scanner.now) start
         result.item result.after }
+    ensures begins { IfSome result.item (λ item. BeginsAt item result.begin) }
+    ensures order { start ≤ result.begin }
+    ensures behind { result.begin ≤ result.after }
+    ensures within { result.after ≤ length text.now }
     ensures boundary { IsCharBoundary text.now result.after }
     ensures further { OnSome result.item (start < result.after) }
 {
@@ -92,6 +98,7 @@ fn next_from<S: Scanner>(scanner: &S, text: &str, start: usize) -> Step
                 if !scanner.is_skipped(token.rule) {
                     return Step {
                         item: Some(Ok(token)),
+                        begin: token.start,
                         after: at,
                     };
                 }
@@ -99,12 +106,14 @@ fn next_from<S: Scanner>(scanner: &S, text: &str, start: usize) -> Step
             Err(LexError::NoToken(place)) => {
                 return Step {
                     item: Some(Err(LexError::NoToken(place))),
+                    begin: at,
                     after: behind_one(text, at),
                 };
             }
             Err(LexError::Memory) => {
                 return Step {
                     item: Some(Err(LexError::Memory)),
+                    begin: at,
                     after: text.len(),
                 };
             }
@@ -112,6 +121,7 @@ fn next_from<S: Scanner>(scanner: &S, text: &str, start: usize) -> Step
     }
     Step {
         item: None,
+        begin: at,
         after: at,
     }
 }

@@ -1,10 +1,11 @@
 pub mod CountLines
+pub mod Counting
 pub mod Escapes
 pub mod FaultLines
-pub mod Counting
 pub mod Lists
 pub mod Machines
-pub mod Places
 pub mod RuleLines
 pub mod Steps
+pub mod TableLines
+pub mod Warned
 pub mod Written

@@ -14,7 +14,7 @@ use Rattle.lexing_patterns.specs.Patterns.{AreReadAs, IsLongestMatch}
 use Rattle.regex_hir.specs.Re.{Re}
 use Rattle.tokens.specs.declared.form.Form.{Form}
 use Rattle.tokens.specs.Lines.{token_line}
-use Rattle.tokens.specs.Places.{place_at}
+use Rattle.lexing.specs.Places.{place_at}
 use Rattle.tokens.specs.Printing.{Shown, IsOfRules, IsPiece, WritesToken, ShowsToken, ShowsNone, printed_token}
 
 rule_there : (rules : List PatternRule) (patterns : List Re) (i : ℕ) (re : Re)

@@ -1,5 +1,6 @@
 -- What is said of rules from which no machine is made.
-use Rattle.std.specs.Prelude.{◌≡◌, ◌≢◌, ◌⊎◌, ℕ, List, Option, None}
+use Rattle.std.specs.Prelude.{◌≡◌, ◌≢◌, ◌⊎◌, ℕ, true, List, ◌++◌, codes, Option, None}
+use Rattle.std.specs.Str.Lines.{lines}
 use Rattle.lexing.specs.declared.error.BuildError.TheVariants.{TooLarge}
 use Rattle.lexing.specs.declared.lexer.Lexer.{Lexer}
 use Rattle.lexing.specs.Budgets.{IsBuildReason}
@@ -10,6 +11,7 @@ use Rattle.lexing_patterns.specs.declared.patterns.PatternRule.{PatternRule}
 use Rattle.lexing_patterns.specs.Faults.{AreTaken, IsFault}
 use Rattle.regex_hir.specs.Re.{Re}
 use Rattle.tokens.specs.Printing.{IsOfRules}
+use Rattle.tokens.specs.Texts.{begins_with_mark}
 use Rattle.tokens.specs.Rules.{AreRead, IsNoRule, IsNumbered, IsRule, TellsOfLine, too_many_states}
 
 -- why a line is not taken behind these patterns: it is no rule, or there is a fault in its pattern
@@ -30,7 +32,15 @@ NeedsMoreStates all = (rules : List PatternRule) × (patterns : List Re) × (lex
     × AreRead all None rules × IsOfRules rules patterns lexer
     × IsBuildReason (rules_in lexer) 10000 TooLarge
 
--- what is said where there is no machine
+-- what is said of lines of which there is no machine
 abbrev pub IsComplaint : List ℕ → List (List ℕ) → List ℕ → Type 0
 IsComplaint path all said = TellsOfFirst path all said
     ⊎ ((said ≡ too_many_states path) × NeedsMoreStates all)
+
+-- what is said where there is no machine of a text: it begins with a byte order mark, or its lines
+-- have none
+abbrev pub IsRefused : List ℕ → List ℕ → List ℕ → Type 0
+IsRefused path text said =
+    ((begins_with_mark text ≡ true)
+    × (said ≡ path ++ codes ":1:1: a byte order mark stands before the rules\n"))
+    ⊎ IsComplaint path (lines text) said

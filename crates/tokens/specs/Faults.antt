@@ -2,7 +2,8 @@
 use Rattle.std.specs.Prelude.{◌≡◌, ◌⊎◌, ℕ, ◌==◌, List, ◌∷◌, ◌++◌, map, codes, decimal, if◌then◌else◌}
 use Rattle.std.specs.Str.{chars}
 use Rattle.line_program.specs.Lines.{Lacks}
-use Rattle.tokens.specs.declared.place.Place.{Place}
+use Rattle.lexing.specs.declared.place.Place.{Place}
+use Rattle.tokens.specs.Texts.{begins_with_mark}
 
 -- the line is the last of the text
 abbrev pub EndsWithLine : List ℕ → List ℕ → Type 0
@@ -22,10 +23,12 @@ blank_below c = if c == 9 then 9 else 32
 abbrev pub mark_below : List ℕ → List ℕ
 mark_below before = codes "  " ++ map blank_below (chars before) ++ codes "^\n"
 
-abbrev pub fault_place : List ℕ → Place → List ℕ
-fault_place path place =
+-- the place, and that no token begins with what stands there
+abbrev pub fault_place : List ℕ → Place → List ℕ → List ℕ
+fault_place path place rest =
     path ++ codes ":" ++ decimal place.line ++ codes ":" ++ decimal place.column
-    ++ codes ": no token begins here\n"
+    ++ (if begins_with_mark rest then codes ": no token begins with this byte order mark\n"
+    else codes ": no token begins here\n")
 
 abbrev pub shown_line : List ℕ → List ℕ → List ℕ
 shown_line before behind = codes "  " ++ before ++ behind ++ codes "\n"
@@ -35,4 +38,4 @@ shown_line before behind = codes "  " ++ before ++ behind ++ codes "\n"
 abbrev pub ShowsFault : List ℕ → Place → List ℕ → List ℕ → List ℕ → Type 0
 ShowsFault path place front rest shown = (before : List ℕ) × (behind : List ℕ)
     × EndsWithLine front before × BeginsWithLine rest behind
-    × (shown ≡ fault_place path place ++ shown_line before behind ++ mark_below before)
+    × (shown ≡ fault_place path place rest ++ shown_line before behind ++ mark_below before)

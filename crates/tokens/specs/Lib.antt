@@ -7,3 +7,6 @@ pub mod Places
 pub mod Printing
 pub mod Reading
 pub mod Rules
+pub mod TableTexts
+pub mod Texts
+pub mod Warnings

@@ -4,7 +4,7 @@ use Rattle.serde_json.specs.Data.{string}
 use Rattle.serde_json.specs.Written.{compact_text}
 use Rattle.tokens.specs.declared.form.Form.{Form}
 use Rattle.tokens.specs.declared.form.Form.TheVariants.{Plain, Raw, Json, Silent}
-use Rattle.tokens.specs.declared.place.Place.{Place}
+use Rattle.lexing.specs.declared.place.Place.{Place}
 use Rattle.tokens.specs.Escaping.{escaped}
 
 -- the text as a string of JSON

@@ -9,9 +9,9 @@ use Rattle.lexing_patterns.specs.declared.patterns.PatternRule.{PatternRule}
 use Rattle.lexing_patterns.specs.Patterns.{AreReadAs, HasNamesOf, SkipsAs, IsLongestMatch}
 use Rattle.regex_hir.specs.Re.{Re}
 use Rattle.tokens.specs.declared.form.Form.{Form}
-use Rattle.tokens.specs.declared.place.Place.{Place}
+use Rattle.lexing.specs.declared.place.Place.{Place}
 use Rattle.tokens.specs.Lines.{token_line}
-use Rattle.tokens.specs.Places.{place_at}
+use Rattle.lexing.specs.Places.{place_at}
 
 -- the lexer is that of the rules, which are read as these patterns
 pub record IsOfRules (rules : List PatternRule) (patterns : List Re) (lexer : Lexer) : Type 0 where

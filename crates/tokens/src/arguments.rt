@@ -1,13 +1,15 @@
 //! What a command line asks for.
 
 use crate::form::Form;
+use crate::language::{C, Language, RUST};
 
 /// What is shown of a command line that asks for nothing.
 pub(crate) const USAGE: &str =
-    "usage: tokens [--raw|--json|--count] RULES [FILE..]\n       tokens --help\n";
+    "usage: tokens [--raw|--json|--count] RULES [FILE..]\n       tokens --table c|rust RULES\n       tokens --help\n";
 
 /// What `--help` prints.
 pub(crate) const HELP: &str = "usage: tokens [--raw|--json|--count] RULES [FILE..]
+       tokens --table c|rust RULES
 
 Cuts files into tokens by a file of rules, and prints a line for each token: LINE:COLUMN NAME TEXT.
 With no file, or for -, it reads standard input.
@@ -16,6 +18,7 @@ With no file, or for -, it reads standard input.
              a backslash is \\\\
   --json     prints a JSON object for each token
   --count    prints how many tokens each rule has
+  --table    prints a source file that finds the tokens of these rules, in C or Rust
   --help     prints this
   --version  prints the version
 
@@ -37,6 +40,11 @@ pub(crate) enum Request<'a> {
         rules: &'a str,
         paths: &'a [String],
     },
+    /// The rules at the path as a table of the language.
+    Table {
+        language: &'a Language,
+        rules: &'a str,
+    },
     Wrong,
 }
 
@@ -52,6 +60,19 @@ fn cut_by(form: Form, words: &[String]) -> Request {
     }
 }
 
+/// What the words behind that which asks for a table ask for.
+fn table_by(words: &[String]) -> Request {
+    let [language, rules] = words else {
+        return Request::Wrong;
+    };
+    let rules = rules.as_str();
+    match language.as_str() {
+        "c" => Request::Table { language: &C, rules },
+        "rust" => Request::Table { language: &RUST, rules },
+        _ => Request::Wrong,
+    }
+}
+
 /// What the arguments ask for.
 pub(crate) fn request_of(words: &[String]) -> Request {
     let [first, rest @ ..] = words else {
@@ -63,6 +84,7 @@ pub(crate) fn request_of(words: &[String]) -> Request {
         "--raw" => cut_by(Form::Raw, rest),
         "--json" => cut_by(Form::Json, rest),
         "--count" => cut_by(Form::Silent, rest),
+        "--table" => table_by(rest),
         _ => cut_by(Form::Plain, words),
     }
 }

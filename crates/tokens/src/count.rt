@@ -1,5 +1,5 @@
 //! How many tokens each rule has.
-ghost use Rattle.std.specs.Prelude.{◌≡◌, ◌+◌, ◌<◌, ◌^◌, ◌∷◌, [], ◌++◌, List, Ok, true, length, IfOk, IfSome, OnOk, ℕ};
+ghost use Rattle.std.specs.Prelude.{◌≡◌, ◌+◌, ◌<◌, ◌^◌, ◌∷◌, [], ◌++◌, List, Ok, true, length, IfOk, IfErr, IfSome, OnOk, ℕ};
 ghost use Rattle.std.specs.Io.KnownBytes.{Appends};
 ghost use Rattle.line_program.specs.Listing.{Writes};
 ghost use Rattle.lexing_patterns.specs.declared.patterns.PatternRule.{PatternRule};
@@ -7,10 +7,11 @@ ghost use Rattle.regex_hir.specs.Re.{Re};
 ghost use Rattle.tokens.specs.declared.form.Form.TheVariants.{Silent};
 ghost use Rattle.tokens.specs.Printing.{AreNumbers, IsOfRules};
 ghost use Rattle.tokens.specs.Counts.{AreCounts, IsCounted, WritesCount, count_lines, numbers_of};
+ghost use Rattle.tokens.specs.Texts.{TellsFault};
 
 use crate::pieces::{Piece, piece_at};
 use crate::printing::{Printer, both, print_tokens};
-use crate::serve::Stop;
+use crate::texts::{Stop, bytes_of, text_in};
 use lexing::Scanner;
 use std::io::{self, ErrorKind, Read, Write};
 
@@ -146,13 +147,13 @@ pub fn serve_counts<S: Scanner, R: Read + Drop, W: Write, E: Write>(
         → IfOk result (λ is_whole. IfSome (R.remaining input)
         (λ bytes. Writes (W.contents out.old) (W.contents out.new)
         (IsCounted rules patterns bytes is_whole))) }
+    ensures no_text { IfErr result (λ stop. IfSome (R.remaining input)
+        (λ bytes. TellsFault bytes stop)) }
     ensures silent { result ≡ Ok true → err.new ≡ err.old }
 {
-    let text = match io::read_to_string(printer.alloc, input) {
-        Ok(text) => text,
-        Err(error) => return Err(Stop::Unreadable(error)),
-    };
-    match print_counts(printer, path, text.as_str(), out, err) {
+    let bytes = bytes_of(printer.alloc, input)?;
+    let text = text_in(&bytes)?;
+    match print_counts(printer, path, text, out, err) {
         Ok(is_whole) => Ok(is_whole),
         Err(error) => Err(Stop::Unwritable(error)),
     }

@@ -4,7 +4,8 @@ ghost use Rattle.std.specs.Io.KnownBytes.{Appends};
 ghost use Rattle.line_program.specs.Listing.{Writes};
 ghost use Rattle.tokens.specs.Faults.{BeginsWithLine, EndsWithLine, ShowsFault, blank_below, fault_place, mark_below, shown_line};
 
-use crate::place::Place;
+use crate::texts::begins_with_mark;
+use lexing::Place;
 use line_program::line::split_at;
 use std::io::{self, Write};
 
@@ -49,12 +50,16 @@ fn first_line(text: &str) -> &str
 }
 
 /// Says that no token begins at the place.
-fn show_place<E: Write>(path: &str, place: Place, err: &mut E) -> io::Result<()>
+fn show_place<E: Write>(path: &str, place: Place, rest: &str, err: &mut E) -> io::Result<()>
     ensures { OnOk result (Appends (E.contents err.old) (E.contents err.new)
-        (fault_place path.now place)) }
+        (fault_place path.now place rest.now)) }
 {
     let Place { line, column } = place;
-    writeln!(err, "{path}:{line}:{column}: no token begins here")
+    if begins_with_mark(rest) {
+        writeln!(err, "{path}:{line}:{column}: no token begins with this byte order mark")
+    } else {
+        writeln!(err, "{path}:{line}:{column}: no token begins here")
+    }
 }
 
 /// Shows a line of two parts.
@@ -78,7 +83,7 @@ pub(crate) fn show_fault<E: Write>(
 {
     let before = last_line(front);
     let behind = first_line(rest);
-    show_place(path, place, err)?;
+    show_place(path, place, rest, err)?;
     show_parts(before, behind, err)?;
     mark(before, err)
 }

@@ -5,7 +5,7 @@ ghost use Rattle.tokens.specs.Lines.{json_string, token_line};
 ghost use Rattle.tokens.specs.declared.form.Form.TheVariants.{Plain, Raw, Json};
 
 use crate::escaping::write_escaped;
-use crate::place::Place;
+use lexing::Place;
 use serde_json::Value;
 use std::alloc::{AllocError, Global};
 use std::io::{self, Write};

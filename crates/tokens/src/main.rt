@@ -15,19 +15,20 @@
 //!
 //! - what is printed, by rules: `src/{serve,printing}.rt`, `specs/Printing.antt`,
 //!   `proofs/{Steps,Written}.antt`
-//! - how a token is written, and its place: `src/{form,escaping,place}.rt`,
-//!   `specs/{Lines,Escaping,Places}.antt`, `proofs/Places.antt`
-//! - the words of a command line: `src/arguments.rt`
-//! - files of rules: `src/rules.rt`, `proofs/Machines.antt`; faults shown: `src/fault.rt`; counts:
-//!   `src/count.rt`
+//! - how a token is written: `src/{form,escaping}.rt`, `specs/{Lines,Escaping}.antt`
+//! - the words of a command line: `src/arguments.rt`; bytes that are no text: `src/texts.rt`
+//! - files of rules: `src/rules.rt`, `proofs/Machines.antt`; rules of which there is no token:
+//!   `src/warnings.rt`, `specs/Warnings.antt`
+//! - machines written as tables: `src/{tables,language}.rt`, `specs/TableTexts.antt`
+//! - faults shown: `src/fault.rt`; counts: `src/count.rt`
 #![tactic(auto)]
 
 ghost use Rattle.std.specs.Prelude.{◌≡◌};
 ghost use Rattle.lexing.specs.MachineSteps.{lexer_of};
 
-use lexing::Machine;
+use lexing::{Machine, Place};
 use line_program::streams::words;
-use std::fs::{self, File};
+use std::fs::File;
 use std::io::{self, BufWriter, ErrorKind, Read, Write};
 use std::process::ExitCode;
 
@@ -36,17 +37,23 @@ mod count;
 mod escaping;
 mod fault;
 mod form;
+mod language;
 mod pieces;
-mod place;
 mod printing;
 mod rules;
 mod serve;
+mod tables;
+mod texts;
+mod warnings;
 
 use arguments::{HELP, Request, USAGE, VERSION, request_of};
 use count::serve_counts;
 use form::Form;
+use language::Language;
 use printing::Printer;
-use serve::Stop;
+use serve::serve;
+use tables::write_table;
+use texts::{Stop, bytes_of, text_in};
 
 const BUFFER_BYTES: usize = 65536;
 
@@ -64,15 +71,25 @@ fn print_input<R: Read + Drop, W: Write, E: Write>(
         Err(error) => Err(Stop::Unreadable(error)),
         Ok(input) => match printer.form {
             Form::Silent => serve_counts(printer, name, input, out, err),
-            _ => serve::serve(printer, name, input, out, err),
+            _ => serve(printer, name, input, out, err),
         },
     };
     match done {
         Ok(is_whole) => Ok(is_whole),
-        Err(Stop::Unwritable(error)) => Err(error),
-        Err(Stop::Unreadable(error)) => {
-            writeln!(err, "{name}: {error}")?;
+        Err(stop) => {
+            tell(name, stop, err)?;
             Ok(false)
+        }
+    }
+}
+
+/// Says why the text was not read to its end. Where that is not the reason, it is the error.
+fn tell<E: Write>(name: &str, stop: Stop, err: &mut E) -> io::Result<()> {
+    match stop {
+        Stop::Unwritable(error) => Err(error),
+        Stop::Unreadable(error) => writeln!(err, "{name}: {error}"),
+        Stop::NoText(Place { line, column }) => {
+            writeln!(err, "{name}:{line}:{column}: from here on it is no UTF-8")
         }
     }
 }
@@ -117,12 +134,27 @@ fn print_files<W: Write, E: Write>(
     Ok(is_whole)
 }
 
+/// The bytes of a file.
+fn file_of(rt: &HostRuntime, path: &str) -> Result<Vec<u8>, Stop> {
+    match File::open(rt, path) {
+        Ok(file) => bytes_of(rt.alloc(), file),
+        Err(error) => Err(Stop::Unreadable(error)),
+    }
+}
+
 /// The machine of a file of rules, or none where it cannot be read or is bad, which is shown.
 fn machine_of<E: Write>(rt: &HostRuntime, path: &str, err: &mut E) -> io::Result<Option<Machine>> {
-    match fs::read_to_string(rt, path) {
-        Ok(text) => rules::read(rt.alloc(), path, text.as_str(), err),
-        Err(error) => {
-            writeln!(err, "{path}: {error}")?;
+    let bytes = match file_of(rt, path) {
+        Ok(bytes) => bytes,
+        Err(stop) => {
+            tell(path, stop, err)?;
+            return Ok(None);
+        }
+    };
+    match text_in(&bytes) {
+        Ok(text) => rules::read(rt.alloc(), path, text, err),
+        Err(stop) => {
+            tell(path, stop, err)?;
             Ok(None)
         }
     }
@@ -146,6 +178,17 @@ fn cut(rt: &HostRuntime, form: Form, rules: &str, paths: &[String]) -> io::Resul
     Ok(if is_whole { 0 } else { 1 })
 }
 
+/// Prints the rules as a table of the language.
+fn print_table(rt: &HostRuntime, language: &Language, rules: &str) -> io::Result<u8> {
+    let Some(machine) = machine_of(rt, rules, &mut rt.stderr())? else {
+        return Ok(1);
+    };
+    let mut out = BufWriter::with_capacity(rt.alloc(), BUFFER_BYTES, rt.stdout())?;
+    write_table(rt.alloc(), language, &machine, &mut out)?;
+    out.flush()?;
+    Ok(0)
+}
+
 fn run(rt: &HostRuntime) -> io::Result<u8> {
     let words = words(rt)?;
     let words = match words.as_slice() {
@@ -166,6 +209,7 @@ fn run(rt: &HostRuntime) -> io::Result<u8> {
             Ok(2)
         }
         Request::Cut { form, rules, paths } => cut(rt, form, rules, paths),
+        Request::Table { language, rules } => print_table(rt, language, rules),
     }
 }
 

@@ -4,14 +4,13 @@ ghost use Rattle.std.specs.Str.{IsCharBoundary};
 ghost use Rattle.line_program.specs.Listing.{Writes};
 ghost use Rattle.lexing_patterns.specs.declared.patterns.PatternRule.{PatternRule};
 ghost use Rattle.regex_hir.specs.Re.{Re};
-ghost use Rattle.tokens.specs.Places.{place_at};
+ghost use Rattle.lexing.specs.Places.{place_at};
 ghost use Rattle.tokens.specs.Printing.{IsOfRules, IsPiece, IsPrinted, IsStep, WritesToken, printed_token};
 
 use crate::fault::show_fault;
 use crate::form::{Form, write_token};
 use crate::pieces::{Piece, piece_at};
-use crate::place::{Place, further};
-use lexing::{Lexer, Scanner};
+use lexing::{Lexer, Place, Scanner};
 use std::alloc::Global;
 use std::io::{self, ErrorKind, Write};
 
@@ -110,7 +109,7 @@ pub(crate) fn print_tokens<S: Scanner, W: Write, E: Write>(
         let piece = piece_at(printer.scanner, text, at)?;
         let is_token = print_piece(printer, path, text, at, piece, place, out, err)?;
         is_whole = both(is_whole, is_token);
-        place = further(text, place, at, piece.end);
+        place = place.behind(&text.as_bytes()[at..piece.end]);
         at = piece.end;
     }
     Ok(is_whole)

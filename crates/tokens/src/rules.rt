@@ -1,5 +1,5 @@
 //! Files of rules.
-ghost use Rattle.std.specs.Prelude.{◌≡◌, ◌∷◌, ◌++◌, [], List, ℕ, ⊤, IfOk, IfSome, IfNone, IsNone, OnOk, map};
+ghost use Rattle.std.specs.Prelude.{◌≡◌, ◌∷◌, ◌++◌, [], List, ℕ, ⊤, IfOk, IfSome, IfNone, IsNone, OnOk, map, vec_len};
 ghost use Rattle.std.specs.Str.Lines.{lines};
 ghost use Rattle.std.specs.Io.KnownBytes.{Appends};
 ghost use Rattle.line_program.specs.Listing.{Writes};
@@ -11,11 +11,14 @@ ghost use Rattle.lexing_patterns.specs.Faults.{IsRefusal};
 ghost use Rattle.lexing_patterns.specs.declared.patterns.PatternRule.{PatternRule};
 ghost use Rattle.regex_hir.specs.Re.{Re};
 ghost use Rattle.tokens.specs.Printing.{IsOfRules};
-ghost use Rattle.tokens.specs.Complaints.{IsComplaint, TellsOfFirst};
+ghost use Rattle.tokens.specs.Complaints.{IsComplaint, IsRefused, TellsOfFirst};
 ghost use Rattle.tokens.specs.Rules.{AreNumbered, AreRead, AreRulesOf, TellsOfLine, line_place, says_nothing, too_many_states};
 ghost use Rattle.tokens.specs.Reading.{Says};
+ghost use Rattle.tokens.specs.Warnings.{AreWarnings};
 
 use crate::fault::mark;
+use crate::texts::begins_with_mark;
+use crate::warnings::warn;
 use lexing::{BuildError, Lexer, Machine};
 use lexing_patterns::{PatternError, PatternRule, RuleError, lexer};
 use line_program::line::split_at;
@@ -28,8 +31,8 @@ const STATES: u32 = 10_000;
 /// Rules, and the number of the line of each, up to the first line that is none, if there is one.
 #[derive(Drop)]
 pub(crate) struct Rules<'a> {
-    rules: Vec<PatternRule<'a>>,
-    numbers: Vec<usize>,
+    pub(crate) rules: Vec<PatternRule<'a>>,
+    pub(crate) numbers: Vec<usize>,
     no_rule: Option<usize>,
 }
 
@@ -75,6 +78,7 @@ fn lines_of(alloc: Global, text: &str) -> Result<Vec<&str>, AllocError>
 fn rules_in(alloc: Global, text: &str) -> Result<Rules, AllocError>
     ensures rules { IfOk result
         (λ found. AreRead (lines text.now) found.no_rule found.rules.items) }
+    ensures count { IfOk result (λ found. vec_len found.numbers ≡ vec_len found.rules) }
     ensures numbers { IfOk result
         (λ found. AreNumbered (lines text.now) found.numbers.items found.rules.items) }
 {
@@ -185,6 +189,7 @@ fn machine_of<E: Write>(
 ) -> io::Result<Option<Machine>>
     ensures machine { IfOk result (λ found. IfSome found (λ machine. IsNone rules.now.no_rule
         × (patterns : List Re) × IsOfRules rules.now.rules.items patterns (lexer_of machine))) }
+    ensures silent { IfOk result (λ found. IfSome found (λ machine. err.new ≡ err.old)) }
     ensures refused { (all : List (List ℕ)) → AreRead all rules.now.no_rule rules.now.rules.items
         → AreNumbered all rules.now.numbers.items rules.now.rules.items
         → IfOk result (λ found. IfNone found
@@ -213,6 +218,7 @@ fn built<E: Write>(
     err: &mut E,
 ) -> io::Result<Option<Machine>>
     ensures machine { IfOk result (λ found. IfSome found (λ machine. lexer_of machine ≡ lexer)) }
+    ensures silent { IfOk result (λ found. IfSome found (λ machine. err.new ≡ err.old)) }
     ensures refused { IfOk result (λ found. IfNone found
         (Appends (E.contents err.old) (E.contents err.new) (too_many_states path.now)
         × IsBuildReason (rules_in lexer) 10000 TooLarge)) }
@@ -228,10 +234,12 @@ fn built<E: Write>(
 }
 
 /// The machine of the rules of a text, or none where a line is not taken or the machine would have
-/// too many states, which is said. It is the first line that is not taken.
+/// too many states, which is said. It is the first line that is not taken. Of a machine it is said
+/// which rules have no token.
 ///
 /// A line is `NAME PATTERN`, or `skip PATTERN` for what is left out. Blank lines and lines that
-/// begin with `#` say nothing, and spaces around a line or a pattern are none of it.
+/// begin with `#` say nothing, and spaces around a line or a pattern are none of it. A byte order
+/// mark is not taken.
 pub(crate) fn read<E: Write>(
     alloc: Global,
     path: &str,
@@ -241,9 +249,19 @@ pub(crate) fn read<E: Write>(
     ensures machine { IfOk result (λ found. IfSome found (λ machine. (rules : List PatternRule)
         × (patterns : List Re) × AreRulesOf text.now rules
         × IsOfRules rules patterns (lexer_of machine))) }
+    ensures warned { IfOk result (λ found. IfSome found (λ machine. Writes (E.contents err.old)
+        (E.contents err.new) (AreWarnings path.now text.now (lexer_of machine)))) }
     ensures refused { IfOk result (λ found. IfNone found (Writes (E.contents err.old)
-        (E.contents err.new) (IsComplaint path.now (lines text.now)))) }
+        (E.contents err.new) (IsRefused path.now text.now))) }
 {
+    if begins_with_mark(text) {
+        writeln!(err, "{path}:1:1: a byte order mark stands before the rules")?;
+        return Ok(None);
+    }
     let rules = rules_in(alloc, text)?;
-    machine_of(alloc, path, &rules, err)
+    let machine = machine_of(alloc, path, &rules, err)?;
+    if let Some(machine) = &machine {
+        warn(path, &machine.table(alloc)?, &rules, err)?;
+    }
+    Ok(machine)
 }

@@ -2,7 +2,7 @@ use Rattle.std.proofs.Common.{◌≡◌, ◌-◌, true, List, length}
 use Rattle.std.specs.Str.{IsCharBoundary}
 use Rattle.lexing_patterns.specs.declared.patterns.PatternRule.{PatternRule}
 use Rattle.regex_hir.specs.Re.{Re}
-use Rattle.tokens.specs.Places.{place_at}
+use Rattle.lexing.specs.Places.{place_at}
 use Rattle.tokens.specs.Printing.{IsOfRules, printed_token}
 use Rattle.tokens.proofs.Written.{HasPrinted}
 use Rattle.tokens.proofs.printing.print_tokens.Given as goal

@@ -1,5 +1,6 @@
 use Rattle.std.specs.Str.Lines.{lines}
-use Rattle.tokens.proofs.Machines.{all_read, found_as}
+use Rattle.std.proofs.Common.{inr}
+use Rattle.tokens.proofs.Machines.{all_read, found_as, none_as}
 use Rattle.tokens.proofs.rules.read.Goals as goal
 
 pub returns-clause-machine : goal.returns-clause-machine
@@ -15,5 +16,7 @@ returns-clause-machine g c =
 
 pub returns-clause-refused : goal.returns-clause-refused
 returns-clause-refused g c =
-    c.machine_of.ensures.refused (lines c.args.text.now) c.in_ok-rules.ensures.rules
-    c.in_ok-rules.ensures.numbers
+    none_as c.machine_of.result _ _
+    (λ (said, complaint, appended). (said, inr complaint, appended))
+    (c.machine_of.ensures.refused (lines c.args.text.now) c.in_ok-rules.ensures.rules
+    c.in_ok-rules.ensures.numbers)
