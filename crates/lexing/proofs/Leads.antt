@@ -3,6 +3,9 @@ use Rattle.std.proofs.Common.{◌≡◌, refl, sym, subst, ap, ◌∙◌, append
 use Rattle.std.specs.List.{slice_get, AllByRecursion, AllZip}
 use Rattle.std.specs.Str.{chars, IsUtf8}
 use Rattle.std.proofs.Math.Utf8.{encodes, scalars}
+use Rattle.std.specs.Cmp.{ranked}
+use Rattle.std.specs.declared.cmp.Ordering.TheVariants.{Less}
+use Rattle.std.proofs.lemmas.Bool.{and_parts}
 use Rattle.std.proofs.lemmas.Bool.Decides.{nat_tests}
 use Rattle.std.proofs.lemmas.List.{append-nil, length-take-le}
 use Rattle.std.proofs.lemmas.Str.{encodes-chars, scalars-chars, IsUtf8-take}
@@ -53,7 +56,7 @@ is_at_most : (a b : ℕ) → NotAbove character_order a b → a ≤ b
 is_at_most a b h = grind (arith, nat_tests)
 
 is_below : (a b : ℕ) → Below character_order a b → a < b
-is_below a b h = grind (arith, nat_tests)
+is_below a b h = ranked a b Less (sym h)
 
 module _ (entry : Entry) (lead : Lead) (is : IsLeadOf entry lead) where
   pub held_by_lead : (c : ℕ) → IsCharacter c → lead.first ≤ c → c ≤ lead.last
@@ -77,7 +80,7 @@ module _ (entry : Entry) (lead : Lead) (is : IsLeadOf entry lead) where
   binds_by entries leads c character later false test = behind (lead_at leads c) later
     where
       out : ¬ Holds character_order entry.key c
-      out holds = let (low, high) = lead_holds c character holds in absurd (grind (arith, nat_tests))
+      out holds = let (low, high) = lead_holds c character holds in grind (arith, nat_tests)
 
       behind : (found : Option ℕ) → Binds character_order nat_eq entries c found
           → Binds character_order nat_eq (entry ∷ entries) c found
@@ -142,7 +145,7 @@ leads_all all left leads ended coarse was =
 pub any_at : {X : Type 0} (P : X → Type 0) (xs : List X) (i : ℕ) (x : X) → slice_get xs i ≡ Some x
     → P x → Any P xs
 any_at P [] i x at holds = absurd cc
-any_at P (y ∷ xs) zero x at holds = inl (grind arith)
+any_at P (y ∷ xs) zero x at holds = let same : y ≡ x = cc in inl (subst P (sym same) holds)
 any_at P (y ∷ xs) (suc i) x at holds = inr (any_at P xs i x at holds)
 
 pub none_of_all : {X : Type 0} (P : X → Type 0) (xs : List X)
@@ -153,38 +156,52 @@ none_of_all P (x ∷ xs) none (inr there) = none_of_all P xs (λ i y at. none (s
 
 -- a run along a text that is not empty ends by a lead
 module _ (table : List TableState) (rule : ℕ) where
-  lead_there : (leads : List Lead) (c n : ℕ) → lead_at leads c ≡ Some n → rule_at table (Some n) ≡ Some rule
-      → LeadsToRuleFrom table rule leads
-  lead_there [] c n at is = absurd cc
-  lead_there (lead ∷ leads) c n at is = by_test _ refl at
-    where
-      by_test : (b : Bool) → (nat_le lead.first c && nat_le c lead.last) ≡ b
-          → cond b (Some lead.next) (lead_at leads c) ≡ Some n
-          → LeadsToRuleFrom table rule (lead ∷ leads)
-      by_test true test same = inl (grind arith)
-      by_test false test same = inr (lead_there leads c n same is)
+  by_lead : (lead : Lead) (leads : List Lead) (c n : ℕ) → rule_at table (Some n) ≡ Some rule
+      → (lead_at leads c ≡ Some n → LeadsToRuleFrom table rule leads) → (b : Bool)
+      → cond b (Some lead.next) (lead_at leads c) ≡ Some n
+      → LeadsToRuleFrom table rule (lead ∷ leads)
+  by_lead lead leads c n is later true same = let e : lead.next ≡ n = cc in inl (rw e is)
+  by_lead lead leads c n is later false same = inr (later same)
 
-  leads_from : (from : Option TableState) (c n : ℕ) → next_from table from c ≡ Some n
+  lead_there : (leads : List Lead) (c n : ℕ) → lead_at leads c ≡ Some n
+      → rule_at table (Some n) ≡ Some rule → LeadsToRuleFrom table rule leads
+  lead_there [] c n at is = absurd cc
+  lead_there (lead ∷ leads) c n at is =
+      by_lead lead leads c n is (λ later. lead_there leads c n later is)
+      (nat_le lead.first c && nat_le c lead.last) at
+
+  leads_from : (from : Option TableState) (c n : ℕ) → next_from from c ≡ Some n
       → rule_at table (Some n) ≡ Some rule
       → (state : TableState) × (from ≡ Some state) × LeadsToRuleFrom table rule state.leads.items
   leads_from None c n at is = absurd cc
   leads_from (Some state) c n at is = (state, refl, lead_there state.leads.items c n at is)
 
-  pub run_leads : (c : ℕ) (text : List ℕ) (i : ℕ)
+  last_lead : (from : Option TableState) (i c : ℕ) → slice_get table i ≡ from → (next : Option ℕ)
+      → next_from from c ≡ next → rule_at table (state_after table next []) ≡ Some rule
+      → LeadsToRule table rule
+  last_lead from i c here None at is = absurd cc
+  last_lead from i c here (Some n) at is =
+      let (state, same, leads) = leads_from from c n at is in
+      any_at (λ state. LeadsToRuleFrom table rule state.leads.items) table i state (here ∙ same) leads
+
+  past_lead : (d : ℕ) (more : List ℕ) (next : Option ℕ)
+      → ((n : ℕ) → rule_at table (state_after table (Some n) (d ∷ more)) ≡ Some rule
+      → LeadsToRule table rule)
+      → rule_at table (state_after table next (d ∷ more)) ≡ Some rule → LeadsToRule table rule
+  past_lead d more None later is = absurd cc
+  past_lead d more (Some n) later is = later n is
+
+  pub run_leads : (text : List ℕ) (c i : ℕ)
       → rule_at table (state_after table (Some i) (c ∷ text)) ≡ Some rule → LeadsToRule table rule
-  run_leads c text i is = on (next_from table (slice_get table i) c) refl text is
-    where
-      on : (next : Option ℕ) → next_from table (slice_get table i) c ≡ next → (text : List ℕ)
-          → rule_at table (state_after table next text) ≡ Some rule → LeadsToRule table rule
-      on None same text is = absurd cc
-      on (Some n) same [] is =
-          let (state, at, leads) = leads_from (slice_get table i) c n same is in
-          any_at (λ state. LeadsToRuleFrom table rule state.leads.items) table i state at leads
-      on (Some n) same (d ∷ more) is = run_leads d more n is
+  run_leads [] c i is =
+      last_lead (slice_get table i) i c refl (next_from (slice_get table i) c) refl is
+  run_leads (d ∷ more) c i is =
+      past_lead d more (next_from (slice_get table i) c) (λ n later. run_leads more d n later) is
 
 all_characters : (cs : List ℕ) → scalars cs ≡ true → AllByRecursion IsCharacter cs
 all_characters [] all = tt
-all_characters (c ∷ cs) all = (grind (arith, nat_tests), all_characters cs (grind arith))
+all_characters (c ∷ cs) all =
+    let (one, more) = and_parts _ _ all in (grind (arith, nat_tests), all_characters cs more)
 
 -- a token of a rule ends in a state of it to which characters lead
 pub token_leads : (lexer : Lexer) (table : List TableState) (text : List ℕ) (rule len : ℕ)
@@ -203,4 +220,4 @@ token_leads lexer table text rule len is utf8 token =
         let fits = length-take-le len text token.accepted.0.0 in
         let some = token.nonempty in
         absurd (omega (arith, some, fits, ap length none))
-    by_chars (c ∷ cs) same at = run_leads table rule c cs 0 at
+    by_chars (c ∷ cs) same at = run_leads table rule cs c 0 at

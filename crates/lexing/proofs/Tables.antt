@@ -66,11 +66,12 @@ module _ (lexer : Lexer) (states : States) (sets : List (BTreeSet ℕ))
 
   -- a character more
   one_more : (read : List ℕ) (i c : ℕ) → IsCharacter c → StandsFor read i
-      → IsAfter (read ++ c ∷ []) (next_from table (slice_get table i) c)
+      → IsAfter (read ++ c ∷ []) (next_from (slice_get table i) c)
   one_more read i c is (set, at, after) =
       let (state, here) = state_there i set at in
       let (row, stands, (rising, binds)) = whole.leads i state here in
-      rw here (by_row read c set after _ (are.row i row set stands at c is _ (binds c is)))
+      let next = lead_at state.leads.items c in
+      rw here (by_row read c set after next (are.row i row set stands at c is next (binds c is)))
 
   -- all of them
   run : (read text : List ℕ) (at : Option ℕ) → AllByRecursion IsCharacter text → IsAfter read at
@@ -78,7 +79,9 @@ module _ (lexer : Lexer) (states : States) (sets : List (BTreeSet ℕ))
   run read text None characters none = nowhere_still read text none
   run read [] (Some i) characters stands = rw (append-nil read) stands
   run read (c ∷ text) (Some i) (is, characters) stands =
-      let more = run (read ++ c ∷ []) text _ characters (one_more read i c is stands) in
+      let more =
+      run (read ++ c ∷ []) text (next_from (slice_get table i) c) characters (one_more read i c is stands)
+      in
       rw (append_assoc read (c ∷ []) text) at more
 
   module _ (text : List ℕ) (set : BTreeSet ℕ) (after : AreAfter HasStep Starts text set) where
@@ -88,9 +91,12 @@ module _ (lexer : Lexer) (states : States) (sets : List (BTreeSet ℕ))
     first_for (Some first) rule told is =
         (∣ grind (arith, after told.0.0) ∣₁, λ other by. grind (arith, not_there, after))
 
+    none_first : IsFirstAmong (Accepts lexer) set None → (rule : ℕ) → ¬ IsAcceptedBy lexer rule text
+    none_first told rule by = grind (arith, not_there, after)
+
     only_first : (found : Option ℕ) (rule : ℕ) → IsFirstAmong (Accepts lexer) set found
         → IsFirstFor lexer rule text → found ≡ Some rule
-    only_first None rule told (by, least) = absurd (grind (arith, not_there, after))
+    only_first None rule told (by, least) = absurd (none_first told rule by)
     only_first (Some first) rule told (by, least) =
         let (own, below) = first_for (Some first) first told refl in
         ap Some (omega (arith, below rule by, least first own))

@@ -28,24 +28,24 @@ abbrev pub AreLeadsOf : Row → List Lead → Type 0
 AreLeadsOf row leads = AreRising leads
     × ((c : ℕ) → IsCharacter c → RowBinds row c (lead_at leads c))
 
-module _ (table : List TableState) where
-  -- the state that the character leads to from the state, if there are both
-  abbrev pub next_from : Option TableState → ℕ → Option ℕ
-  next_from None c = None
-  next_from (Some state) c = lead_at state.leads.items c
+-- the state that the character leads to from the state, if there are both
+abbrev pub next_from : Option TableState → ℕ → Option ℕ
+next_from None c = None
+next_from (Some state) c = lead_at state.leads.items c
 
+-- the rule of the state, if there are both
+abbrev pub rule_in : Option TableState → Option ℕ
+rule_in None = None
+rule_in (Some state) = state.rule
+
+module _ (table : List TableState) where
   -- the state that the characters lead to from the state, if there are both
   abbrev pub state_after : Option ℕ → List ℕ → Option ℕ
   state_after None text = None
   state_after (Some state) [] = Some state
   state_after (Some state) (c ∷ text) = state_after (next_from (slice_get table state) c) text
 
-  -- the rule of the state
-  abbrev pub rule_in : Option TableState → Option ℕ
-  rule_in None = None
-  rule_in (Some state) = state.rule
-
-  -- the rule of the state that the characters lead to from the first
+  -- the rule of the state of this number, if there is one
   abbrev pub rule_at : Option ℕ → Option ℕ
   rule_at None = None
   rule_at (Some state) = rule_in (slice_get table state)

@@ -63,7 +63,7 @@ def told(lines, text):
 
 def by_clang(path, text):
     """Gives the same by clang, but for comments and blanks. A splice in front of a token is none of it."""
-    ran = subprocess.run(["clang", "-cc1", "-dump-raw-tokens", "-std=c2x", "-x", "c", path], capture_output=True)
+    ran = subprocess.run(["clang", "-cc1", "-dump-raw-tokens", "-std=c2x", "-fno-dollars-in-identifiers", "-x", "c", path], capture_output=True)
     place = rb"\tLoc=<" + re.escape(str(path).encode()) + rb":(\d+):(\d+)>\n"
     starts = [0] + [it.end() for it in re.finditer(b"\r\n|\n|\r", text)]
     found, at = [], 0

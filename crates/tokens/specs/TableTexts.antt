@@ -22,7 +22,7 @@ module _ (language : Language) where
   abbrev pub quoted_byte : ℕ → List ℕ
   quoted_byte byte =
       if stands_for_itself byte then byte ∷ []
-      else (codes "\\x" ++ hex_digit (byte / 16) ∷ hex_digit (byte % 16) ∷ []
+      else (codes "\\x" ++ (hex_digit (byte / 16) ∷ hex_digit (byte % 16) ∷ [])
       ++ language.byte_close.now)
 
   abbrev pub rule_line : List ℕ → Bool → List ℕ

@@ -3,4 +3,4 @@ use Rattle.std.proofs.lemmas.Str.{IsCharBoundary-start}
 use Rattle.lexing.proofs.placed.PlacedTokens.new.Goals as goal
 
 pub invariant_of-result : goal.invariant_of-result
-invariant_of-result g c = (IsCharBoundary-start c.args.text.now c.utf8.text, c.first-place.ensures)
+invariant_of-result g c = (IsCharBoundary-start c.args.text.now c.utf8.text, c.first.ensures)
