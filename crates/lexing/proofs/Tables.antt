@@ -1,5 +1,5 @@
 -- Tables of machines: what a run along a text says of its rules.
-use Rattle.std.proofs.Common.{◌≡◌, refl, ap, ◌↔◌, ℕ, suc, List, [], ◌∷◌, ◌++◌, length, Option, Some, None, BTreeSet, append_assoc, arith}
+use Rattle.std.proofs.Common.{◌≡◌, refl, ap, inl, inr, ◌↔◌, ℕ, suc, List, [], ◌∷◌, ◌++◌, length, Option, Some, None, BTreeSet, append_assoc, arith}
 use Rattle.std.specs.List.{slice_get, AllByRecursion}
 use Rattle.std.proofs.lemmas.List.{append-nil}
 use Rattle.std.proofs.Math.Logic.{∥∥₁_elim}
@@ -17,7 +17,7 @@ use Rattle.lexing.specs.declared.states.States.{States}
 use Rattle.lexing.specs.declared.table.TableState.{TableState}
 use Rattle.lexing.specs.Lexers.{rules_in, Accepts, IsAcceptedBy}
 use Rattle.lexing.specs.Machines.{Row, AreStates, Goes, IsMachine}
-use Rattle.lexing.specs.Tables.{AreLeadsOf, AreRising, IsFirstFor, IsTableOf, lead_at, next_from, rule_at, rule_in, state_after}
+use Rattle.lexing.specs.Tables.{AreLeadsOf, AreRising, IsFirstFor, lead_at, next_from, rule_at, rule_in, state_after}
 
 -- the states of a table are those of a machine
 pub record AreTableStates (states : States) (table : List TableState) : Type 0 where
@@ -89,7 +89,13 @@ module _ (lexer : Lexer) (states : States) (sets : List (BTreeSet ℕ))
         → found ≡ Some rule → IsFirstFor lexer rule text
     first_for None rule told is = absurd cc
     first_for (Some first) rule told is =
-        (∣ grind (arith, after told.0.0) ∣₁, λ other by. grind (arith, not_there, after))
+        let same : first ≡ rule = cc in (
+          ∣ grind (arith, after told.0.0) ∣₁,
+          λ other by. ∥∥₁_elim by (hlevel props)
+              (λ (p, q, starts, leads, ends).
+              let least = told.1 q other ((after q).1 (p, starts, leads)) ends in
+              omega (arith, same, least)),
+        )
 
     none_first : IsFirstAmong (Accepts lexer) set None → (rule : ℕ) → ¬ IsAcceptedBy lexer rule text
     none_first told rule by = grind (arith, not_there, after)
@@ -113,20 +119,23 @@ module _ (lexer : Lexer) (states : States) (sets : List (BTreeSet ℕ))
       let told = are.first i state.rule set (whole.rule i state here) at in
       rw here (first_for text set after state.rule rule told, only_first text set after state.rule rule told)
 
-  all_by_index : (P : TableState → Type 0) (xs : List TableState)
-      → ((i : ℕ) (x : TableState) → slice_get xs i ≡ Some x → P x) → AllByRecursion P xs
-  all_by_index P [] each = tt
-  all_by_index P (x ∷ xs) each = (each 0 x refl, all_by_index P xs (λ i y at. each (suc i) y at))
+  pub rules_along : (text : List ℕ) → AllByRecursion IsCharacter text → (rule : ℕ)
+      → (rule_at table (state_after table (Some 0) text) ≡ Some rule) ↔ IsFirstFor lexer rule text
+  rules_along text characters rule =
+      let (set, at, starts) = are.start in
+      rule_by text rule (state_after table (Some 0) text)
+      (run [] text (Some 0) characters (set, at, after_none HasStep Starts set starts))
 
-  pub table_is : IsTableOf lexer table
-  table_is = record {
-    rules = λ text characters rule.
-        let (set, at, starts) = are.start in
-        rule_by text rule (state_after table (Some 0) text)
-        (run [] text (Some 0) characters (set, at, after_none HasStep Starts set starts));
-    rising = all_by_index (λ state. AreRising state.leads.items) table
-        (λ i state at. let (row, stands, (rising, binds)) = whole.leads i state at in rising);
-  }
+all_by_index : (P : TableState → Type 0) (xs : List TableState)
+    → ((i : ℕ) (x : TableState) → slice_get xs i ≡ Some x → P x) → AllByRecursion P xs
+all_by_index P [] each = tt
+all_by_index P (x ∷ xs) each = (each 0 x refl, all_by_index P xs (λ i y at. each (suc i) y at))
+
+pub rising_of : (states : States) (table : List TableState) → AreTableStates states table
+    → AllByRecursion (λ state. AreRising state.leads.items) table
+rising_of states table whole =
+    all_by_index (λ state. AreRising state.leads.items) table
+    (λ i state at. let (row, stands, (rising, binds)) = whole.leads i state at in rising)
 
 pub states_none : (states : States) → AreTableStates states []
 states_none states = record { leads = λ i state at. absurd cc; rule = λ i state at. absurd cc }
@@ -137,12 +146,19 @@ pub states_more : (states : States) (table : List TableState) (state : TableStat
     → slice_get states.first_rules.items (length table) ≡ Some state.rule
     → AreTableStates states (table ++ state ∷ [])
 states_more states table state row was here leads rule = record {
-  leads = λ i other at. grind (arith, slice_get-push table state i other, was.leads i other);
-  rule = λ i other at. grind (arith, slice_get-push table state i other, was.rule i other);
+  leads = λ i other at. elim ((slice_get-push table state i other).0 at) [
+    | inl old ↦ was.leads i other old
+    | inr (last, same) ↦ rw (last, ← same) (row, here, leads)
+  ];
+  rule = λ i other at. elim ((slice_get-push table state i other).0 at) [
+    | inl old ↦ was.rule i other old
+    | inr (last, same) ↦ rw (last, ← same) rule
+  ];
 }
 
-pub table_of : (lexer : Lexer) (states : States) (table : List TableState) → IsMachine lexer states
-    → AreTableStates states table → length table ≡ length states.rows.items
-    → IsTableOf lexer table
-table_of lexer states table (sets, are, all) whole same =
-    table_is lexer states sets are table whole (omega (arith, all, same))
+pub rules_of : (lexer : Lexer) (states : States) (table : List TableState) → IsMachine lexer states
+    → AreTableStates states table → length table ≡ length states.rows.items → (text : List ℕ)
+    → AllByRecursion IsCharacter text → (rule : ℕ)
+    → (rule_at table (state_after table (Some 0) text) ≡ Some rule) ↔ IsFirstFor lexer rule text
+rules_of lexer states table (sets, are, all) whole same =
+    rules_along lexer states sets are table whole (omega (arith, all, same))

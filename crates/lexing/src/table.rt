@@ -1,11 +1,12 @@
 //! Machines as tables, for programs that write them down.
-ghost use Rattle.std.specs.Prelude.{◌≡◌, ℕ, false, IfOk, IsTrue, length, ◌↔◌};
+ghost use Rattle.std.specs.Prelude.{◌≡◌, false, IfOk, IsTrue, ◌↔◌};
 ghost use Rattle.lexing.specs.declared.lexer.Lexer.{Lexer};
 ghost use Rattle.lexing.specs.MachineSteps.{lexer_of};
-ghost use Rattle.lexing.specs.Tables.{AreLeadsOf, HasNoToken, IsTableOf, LeadsToRule, LeadsToRuleFrom};
+ghost use Rattle.lexing.specs.Tables.{AreLeadsOf, HasNoToken, IsTableOf, LeadsToRule, LeadsToRuleFrom, rule_at};
 
 use crate::machine::Machine;
 use btree_range_map::RangeMap;
+use btree_range_map::range::traits::MaybeBounded;
 use std::alloc::{AllocError, Global};
 
 /// Characters that lead to a state: from the first up to and with the last.
@@ -41,24 +42,34 @@ impl Table {
             → HasNoToken lexer rule }
     {
         for at in 0..self.states.len() {
-            if self.leads_to_rule(&self.states[at].leads, rule) {
+            if self.leads_to_rule(&self.states[at], rule) {
                 return true;
             }
         }
         false
     }
 
-    /// Whether some of the characters lead to a state of the rule.
-    fn leads_to_rule(&self, leads: &[Lead], rule: u32) -> bool
-        ensures { IsTrue result ↔ LeadsToRuleFrom self.now.states.items rule leads.now }
+    /// Whether some characters lead from the state to one of the rule.
+    fn leads_to_rule(&self, from: &TableState, rule: u32) -> bool
+        ensures { IsTrue result
+            ↔ LeadsToRuleFrom self.now.states.items rule from.now.leads.items }
     {
-        for at in 0..leads.len() {
-            match self.states.get(leads[at].next as usize) {
-                Some(state) if state.rule == Some(rule) => return true,
-                _ => {}
+        for at in 0..from.leads.len() {
+            if self.is_of_rule(from.leads[at].next, rule) {
+                return true;
             }
         }
         false
+    }
+
+    /// Whether the state of this number is one of the rule.
+    fn is_of_rule(&self, state: u32, rule: u32) -> bool
+        ensures { IsTrue result ↔ (rule_at self.now.states.items (Some state) ≡ Some rule) }
+    {
+        match self.states.get(state as usize) {
+            Some(state) => state.rule == Some(rule),
+            None => false,
+        }
     }
 }
 
@@ -94,6 +105,8 @@ fn leads_of(alloc: Global, row: &RangeMap<char, u32>) -> Result<Vec<Lead>, Alloc
         let Some((first, last)) = range.first_and_last()? else {
             return Err(AllocError);
         };
+        first.known();
+        last.known();
         let next = *next;
         leads.push(Lead { first, last, next })?;
     }

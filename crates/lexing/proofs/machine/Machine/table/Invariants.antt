@@ -1,6 +1,6 @@
 use Rattle.std.proofs.Common.{◌≡◌, length}
 use Rattle.lexing.proofs.Tables.{AreTableStates}
-use Rattle.lexing.proofs.table.Machine.table.Given as goal
+use Rattle.lexing.proofs.machine.Machine.table.Given as goal
 
 abbrev pub invariant-loop-at : goal.invariant-loop-at
 invariant-loop-at l = record {
