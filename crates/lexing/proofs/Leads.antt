@@ -114,11 +114,11 @@ leads_rise (e ∷ es) [] all coarse = absurd all
 leads_rise (e ∷ es) (l ∷ ls) (is, all) coarse = (
   (lead_holds e l is l.last is.last_is is.last.0).0,
   later_leads es ls all l.last (λ c character bound.
-  is_below l.last c
-  (held_later_is_above character_order (counted_lawful character_counted) nat_eq e es coarse l.last c
-  is.last_is character is.last.0 bound)),
+      is_below l.last c
+      (held_later_is_above character_order (counted_lawful character_counted) nat_eq e es coarse l.last c
+      is.last_is character is.last.0 bound)),
   leads_rise es ls all
-  (record { keyed = coarse.keyed.1; rising = coarse.rising.1; parted = coarse.parted.1 }),
+      (record { keyed = coarse.keyed.1; rising = coarse.rising.1; parted = coarse.parted.1 }),
 )
 
 pub leads_none : (all left : List Entry) → left ≡ all → AreLeadsSoFar all left []

@@ -112,7 +112,7 @@ module _ (lexer : Lexer) (states : States) (sets : List (BTreeSet ℕ))
   rule_by text rule None none = (
     λ e. absurd cc,
     λ (by, least). absurd (∥∥₁_elim by (hlevel props)
-    (λ (p, q, starts, leads, ends). none p q starts leads)),
+        (λ (p, q, starts, leads, ends). none p q starts leads)),
   )
   rule_by text rule (Some i) (set, at, after) =
       let (state, here) = state_there i set at in
