@@ -1,13 +1,13 @@
 -- States, and what changes of the mode make of them.
-use Rattle.std.proofs.Common.{◌≡◌, ◌↔◌, ◌⊎◌, refl, ℕ, ◌<◌, List, [], ◌∷◌, ◌++◌, length, Some, arith}
+use Rattle.std.proofs.Common.{◌≡◌, ◌↔◌, ◌⊎◌, inl, inr, refl, ℕ, ◌<◌, List, [], ◌∷◌, ◌++◌, length, Some, arith}
 use Rattle.std.specs.List.{slice_get}
 use Rattle.std.specs.Str.{IsCharBoundary}
 use Rattle.std.proofs.lemmas.Grind.{common_steps}
-use Rattle.std.proofs.lemmas.Option.{slice_get_cases}
+use Rattle.std.proofs.lemmas.Option.{slice_get_cases, slice_get_within}
 use Rattle.lexing_modes.specs.declared.change.ModeChange.{ModeChange}
 use Rattle.lexing_modes.specs.declared.change.ModeChange.TheVariants.{Stay, Enter, Push, Pop}
 use Rattle.lexing_modes.specs.Changes.{Names}
-use Rattle.lexing_modes.specs.States.{State, IsStateOf, LeadsTo}
+use Rattle.lexing_modes.specs.States.{State, IsStateOf, LeadsTo, first_state}
 
 pub slice_get-push : {X : Type 0} (xs : List X) (y : X) (i : ℕ) (z : X)
     → (slice_get (xs ++ y ∷ []) i ≡ Some z)
@@ -32,6 +32,14 @@ module _ (count : ℕ) where
   last_known : (modes : List ℕ) (last : ℕ) → AreKnown (modes ++ last ∷ []) → last < count
   last_known modes last known =
       known (length modes) last ((slice_get-push modes last (length modes) last).1 (inr (refl, refl)))
+
+  pub first_is_state : (text : List ℕ) → 0 < count → IsCharBoundary text 0
+      → IsStateOf count text first_state
+  first_is_state text some boundary = record {
+    boundary = boundary;
+    known = some;
+    below = λ i mode at. absurd (grind (arith, slice_get_within {A = ℕ} [] i mode at));
+  }
 
   -- behind a change the modes are among as many as before
   pub state_behind : (text : List ℕ) (change : ModeChange) (before after : State)

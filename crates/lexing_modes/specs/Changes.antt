@@ -15,7 +15,7 @@ Names Pop next = ⊥
 
 module _ {S : Type 0} where
   -- what the rule does in the mode, if it is one
-  abbrev change_of : Option (Mode S) → ℕ → ModeChange
+  abbrev pub change_of : Option (Mode S) → ℕ → ModeChange
   change_of None rule = Stay
   change_of (Some mode) rule = unwrap_or (get nat_cmp mode.changes rule) Stay
 

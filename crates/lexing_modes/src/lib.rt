@@ -19,9 +19,10 @@
 //!
 //! Where to find what:
 //!
-//! - modes, and what changes them: `src/{modes,change,error}.rt`, `specs/{Changes,Modes}.antt`,
-//!   `proofs/{Building,Changing}.antt`
-//! - one token, and the mode behind it: `src/{cursor,step}.rt`, `specs/{States,Runs}.antt`
+//! - modes, and what their rules do: `src/{modes,change,error}.rt`, `specs/{Changes,Modes}.antt`,
+//!   `proofs/ModeSteps.antt`
+//! - one token, and the mode behind it: `src/{cursor,step}.rt`, `specs/{States,Runs}.antt`,
+//!   `proofs/StateSteps.antt`
 //! - the tokens of a text, one after the other: `src/{tokens,cutting}.rt`,
 //!   `specs/{Given,Left}.antt`, `proofs/{TokenLists,Giving}.antt`
 #![tactic(auto)]

@@ -72,7 +72,8 @@ impl<S: Drop> Modes<S> {
 
 impl<S> Modes<S> {
     ghost use Rattle.lexing_modes.specs.declared.error.SetupError.TheVariants.{UnknownMode};
-    ghost use Rattle.std.specs.Prelude.{◌≡◌, ◌<◌, ◌≤◌, IfErr, OnOk, OnErr, MatchOption};
+    ghost use Rattle.std.specs.Prelude.{◌≡◌, ◌<◌, ◌≤◌, ℕ, IfErr, OnOk, OnErr, MatchOption};
+    ghost use Rattle.lexing_modes.specs.Changes.{Names};
     ghost use Rattle.lexing_modes.specs.Modes.{ChangesOnly, IsRefusal, IsScannerOf, KeepsChanges, KeepsScanners, change_after, mode_count};
 
     /// Sets what the rule does behind its tokens in the mode. Of several calls for a rule in a mode
@@ -88,9 +89,7 @@ impl<S> Modes<S> {
         ensures refused { IfErr result (IsRefusal self.old mode change) }
     {
         self.check(mode)?;
-        if let Some(next) = change.mode() {
-            self.check(next)?;
-        }
+        self.check_target(change)?;
         self.modes[mode as usize].changes.insert(rule, change)?;
         Ok(())
     }
@@ -104,6 +103,19 @@ impl<S> Modes<S> {
             Ok(())
         } else {
             Err(SetupError::UnknownMode(mode))
+        }
+    }
+
+    /// Whether there is the mode that the change leads to, if it names one.
+    fn check_target(&self, change: ModeChange) -> Result<(), SetupError>
+        ensures known { OnOk result
+            ((mode : ℕ) → Names change mode → mode < mode_count self.now) }
+        ensures unknown { IfErr result (λ e. (mode : ℕ) × (e ≡ UnknownMode mode)
+            × Names change mode × (mode_count self.now ≤ mode)) }
+    {
+        match change.mode() {
+            Some(mode) => self.check(mode),
+            None => Ok(()),
         }
     }
 

@@ -2,7 +2,7 @@ use Rattle.std.proofs.Common.{◌-◌, length}
 use Rattle.lexing_modes.specs.Modes.{mode_count}
 use Rattle.lexing_modes.specs.Runs.{AreTokens}
 use Rattle.lexing_modes.specs.States.{IsStateOf, first_state, state_of}
-use Rattle.lexing_modes.proofs.cutting.Modes.cut.Given as goal
+use Rattle.lexing_modes.proofs.modes.Modes.cut.Given as goal
 
 -- what lies before the cursor is cut into the tokens
 abbrev pub invariant-loop-cursor : goal.invariant-loop-cursor
