@@ -1,7 +1,7 @@
 -- What the calls of `next` give, one after the other.
-use Rattle.std.proofs.Common.{◌≡◌, refl, sym, subst, ℕ, List, [], ◌∷◌, length, Some, None, Ok, Err}
+use Rattle.std.proofs.Common.{◌≡◌, sym, subst, ℕ, List, [], ◌∷◌, Some, None, Ok, Err}
 use Rattle.std.specs.Prelude.{Result}
-use Rattle.std.specs.Iterator.{Yields, YieldsThen}
+use Rattle.std.specs.Iterator.{YieldsThen}
 use Rattle.std.specs.List.{AllByRecursion}
 use Rattle.lexing.specs.declared.lexer.Lexer.{Lexer}
 use Rattle.lexing_modes.specs.declared.error.TokenError.{TokenError}
@@ -45,6 +45,12 @@ module _ {S : Type 0} (lexer : S → Lexer) (modes : Modes S) (text : List ℕ)
       behind_skipped at mid (Err error ∷ items) skipped
       (Given_error mid after error items fails given)
 
+given_along : {S : Type 0} (lexer : S → Lexer) (may_refuse : S → Type 0) (modes other : Modes S)
+    (text same : List ℕ) (at : State) (items : List (Result ModeToken TokenError))
+    → other ≡ modes → same ≡ text → AreGiven lexer other same may_refuse at items
+    → AreGiven lexer modes text may_refuse at items
+given_along lexer may_refuse modes other text same at items one two given = rw (one, two) at given
+
 -- what all calls give
 pub given_by_calls : {S : Type 0} (lexer : S → Lexer) (may_refuse : S → Type 0)
     (items : List (Result ModeToken TokenError)) (left last : ModeTokens S)
@@ -55,6 +61,8 @@ given_by_calls lexer may_refuse [] left last (end, same, (modes, text, (skipped,
     (behind_skipped lexer (modes_of end) (text_of end) may_refuse (state_at end) (state_at last) []
     skipped (At_end (state_at last) behind))
 given_by_calls lexer may_refuse (item ∷ items) left last (end, (next, step, calls), stop) =
-    let rest = given_by_calls lexer may_refuse items next last (end, calls, stop) in
     given_more lexer (modes_of left) (text_of left) may_refuse (state_at left) (state_at next) item
-    items step.2 (rw (step.0, step.1) at rest)
+    items step.2
+    (given_along lexer may_refuse (modes_of left) (modes_of next) (text_of left) (text_of next)
+    (state_at next) items step.0 step.1
+    (given_by_calls lexer may_refuse items next last (end, calls, stop)))

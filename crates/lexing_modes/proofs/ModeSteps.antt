@@ -1,5 +1,5 @@
 -- Modes with one more, and with one of which a rule does something else.
-use Rattle.std.proofs.Common.{◌≡◌, ◌↔◌, ◌⊎◌, inl, inr, refl, sym, ap, ◌∙◌, ℕ, ◌<◌, List, [], ◌∷◌, ◌++◌, length, get_or, slice_set, length-set, Some, None, arith}
+use Rattle.std.proofs.Common.{◌≡◌, ◌↔◌, ◌⊎◌, inl, inr, refl, sym, ap, ◌∙◌, ℕ, zero, suc, ◌<◌, List, [], ◌∷◌, ◌++◌, length, get_or, slice_set, length-set, Some, arith}
 use Rattle.std.specs.Prelude.{Bool, true, false, cond, Option, Result, Ok, Err, IsTrue, OnOk, OnErr, unwrap_or}
 use Rattle.std.specs.BTreeMap.{BTreeMap, IsUnchanged, Updates, get, is_at}
 use Rattle.std.specs.List.{slice_get}
@@ -88,7 +88,7 @@ module _ {S : Type 0} where
   left_out_of lexer modes found scanner skipped of told = (
     λ yes. (scanner, of, told.0 yes),
     λ (other, is, left).
-      told.1 (rw (same_scanner modes.modes.items found.mode scanner other of is) at left),
+        told.1 (rw (same_scanner modes.modes.items found.mode scanner other of is) at left),
   )
 
   pub last_scanner : (modes after : List (Mode S)) (entry : Mode S) (n : ℕ)

@@ -42,37 +42,27 @@ module _ (count : ℕ) where
   }
 
   -- behind a change the modes are among as many as before
-  pub state_behind : (text : List ℕ) (change : ModeChange) (before after : State)
-      → IsStateOf count text before → LeadsTo change before after
-      → ((mode : ℕ) → Names change mode → mode < count) → IsCharBoundary text after.place
-      → IsStateOf count text after
-  state_behind text Stay before after was leads named boundary = record {
+  pub state_behind : (text : List ℕ) (change : ModeChange) (before moved : State) (place : ℕ)
+      → IsStateOf count text before → LeadsTo change before moved
+      → ((mode : ℕ) → Names change mode → mode < count) → IsCharBoundary text place
+      → IsStateOf count text (record { place = place; mode = moved.mode; below = moved.below })
+  state_behind text Stay before moved place was leads named boundary = record {
     boundary = boundary;
     known = rw leads.0 was.known;
     below = rw leads.1 was.below;
   }
-  state_behind text (Enter mode) before after was leads named boundary = record {
+  state_behind text (Enter mode) before moved place was leads named boundary = record {
     boundary = boundary;
     known = rw leads.0 (named mode refl);
     below = rw leads.1 was.below;
   }
-  state_behind text (Push mode) before after was leads named boundary = record {
+  state_behind text (Push mode) before moved place was leads named boundary = record {
     boundary = boundary;
     known = rw leads.0 (named mode refl);
     below = rw leads.1 (pushed_known before.below before.mode was.below was.known);
   }
-  state_behind text Pop before after was leads named boundary = record {
+  state_behind text Pop before moved place was leads named boundary = record {
     boundary = boundary;
-    known = last_known after.below after.mode (rw leads at was.below);
-    below = popped_known after.below after.mode (rw leads at was.below);
-  }
-
-  -- the modes stay, and the place moves
-  pub state_moved : (text : List ℕ) (before after : State) → IsStateOf count text before
-      → after.mode ≡ before.mode → after.below ≡ before.below → IsCharBoundary text after.place
-      → IsStateOf count text after
-  state_moved text before after was mode below boundary = record {
-    boundary = boundary;
-    known = rw mode was.known;
-    below = rw below was.below;
+    known = last_known moved.below moved.mode (rw leads at was.below);
+    below = popped_known moved.below moved.mode (rw leads at was.below);
   }

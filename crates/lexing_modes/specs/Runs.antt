@@ -1,5 +1,5 @@
 -- The tokens of a text by modes, one after the other.
-use Rattle.std.specs.Prelude.{◌≡◌, ℕ, ◌<◌, ◌⊎◌, List, [], ◌∷◌, length, ⊤}
+use Rattle.std.specs.Prelude.{◌≡◌, ℕ, ◌⊎◌, List, [], ◌∷◌, length, ⊤}
 use Rattle.lexing.specs.declared.lexer.Lexer.{Lexer}
 use Rattle.lexing.specs.declared.token.Token.{Token}
 use Rattle.lexing.specs.Runs.{IsTokenAt, IsStuckAt, IsBehindOne}

@@ -26,7 +26,7 @@ returns-in-Ok-None-clause-taken g c =
       refl,
       refl,
       (entry.scanner, has, (c.requires.more, rw (← c.range_from.ensures.value) none)),
-      c.behind_one.ensures.one,
+      c.behind_one-cursor.ensures.one,
       (refl, refl),
     )
 

@@ -1,5 +1,4 @@
-use Rattle.std.proofs.Common.{◌≡◌, length, arith}
-use Rattle.lexing_modes.specs.declared.modes.Mode.{Mode}
+use Rattle.std.proofs.Common.{arith}
 use Rattle.lexing_modes.proofs.ModeSteps.{changes_pushed, last_scanner, scanners_pushed}
 use Rattle.lexing_modes.proofs.modes.Modes.add_mode.Goals as goal
 

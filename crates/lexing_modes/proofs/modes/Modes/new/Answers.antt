@@ -1,4 +1,4 @@
-use Rattle.std.proofs.Common.{refl, ◌∙◌}
+use Rattle.std.proofs.Common.{refl}
 use Rattle.lexing_modes.proofs.ModeSteps.{last_scanner}
 use Rattle.lexing_modes.proofs.modes.Modes.new.Goals as goal
 

@@ -1,5 +1,4 @@
-use Rattle.std.proofs.Common.{◌≡◌, refl, length, Some, arith}
-use Rattle.std.specs.List.{slice_get}
+use Rattle.std.proofs.Common.{refl, length}
 use Rattle.std.proofs.lemmas.Option.{slice_get_read}
 use Rattle.lexing_modes.specs.declared.modes.Mode.{Mode}
 use Rattle.lexing_modes.proofs.ModeSteps.{all_same, insert_either, kept_else, on_any_err, scanners_kept, set_here, still_known}
