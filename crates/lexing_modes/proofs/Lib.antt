@@ -1,0 +1,4 @@
+pub mod Giving
+pub mod ModeSteps
+pub mod StateSteps
+pub mod TokenLists

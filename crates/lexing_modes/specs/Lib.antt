@@ -1,0 +1,6 @@
+pub mod Changes
+pub mod Given
+pub mod Left
+pub mod Modes
+pub mod Runs
+pub mod States
