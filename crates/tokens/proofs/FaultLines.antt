@@ -1,8 +1,11 @@
 -- The lines around a place of a text.
-use Rattle.std.proofs.Common.{◌≡◌, ◌≢◌, sym, subst, ap, inr, ◌∙◌, ℕ, ◌+◌, ◌<◌, List, ◌∷◌, ◌++◌, length, get_or, take, drop, arith}
+use Rattle.std.proofs.Common.{◌≡◌, ◌≢◌, sym, subst, ap, inr, ◌∙◌, ℕ, ◌+◌, ◌<◌, List, ◌∷◌, ◌++◌, length, get_or, take, drop, true, append_assoc, arith}
 use Rattle.std.proofs.lemmas.List.{get_or-drop, drop_more, length-drop, take-append-drop}
 use Rattle.line_program.specs.Lines.{Lacks}
-use Rattle.tokens.specs.Faults.{EndsWithLine}
+use Rattle.std.specs.Prelude.{codes, decimal}
+use Rattle.lexing.specs.declared.place.Place.{Place}
+use Rattle.tokens.specs.Faults.{EndsWithLine, fault_place}
+use Rattle.tokens.specs.Texts.{begins_with_mark}
 
 -- behind the last line break stands the last line
 pub behind_last_break : (text : List ℕ) (at : ℕ) → at < length text → get_or text at 0 ≡ 10
@@ -17,3 +20,10 @@ behind_last_break text at within break none = (
   ),
   inr (take at text, grind (arith, take-append-drop at text, drop_more text at 0)),
 )
+
+-- what is said of a byte order mark
+pub marked_place : (path rest : List ℕ) (place : Place) → begins_with_mark rest ≡ true
+    → path ++ (codes ":" ++ (decimal place.line ++ (codes ":" ++ (decimal place.column
+    ++ codes ": no token begins with this byte order mark\n"))))
+    ≡ fault_place path place rest
+marked_place path rest place is = rw is (simp append_assoc)

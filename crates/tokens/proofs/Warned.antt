@@ -1,6 +1,7 @@
 -- What is said of rules, one after the other.
 use Rattle.std.proofs.Common.{◌≡◌, refl, ℕ, ◌+◌, List, [], ◌∷◌, ◌++◌, length, drop, Option, Some, append_assoc, arith}
 use Rattle.std.specs.List.{slice_get}
+use Rattle.std.specs.Prelude.{codes, decimal}
 use Rattle.std.specs.Io.KnownBytes.{Appends}
 use Rattle.std.proofs.lemmas.List.{drop_all}
 use Rattle.line_program.specs.Listing.{Writes}
@@ -8,7 +9,7 @@ use Rattle.line_program.proofs.Listing.{append_nil, appends_none, appends_then}
 use Rattle.lexing.specs.declared.lexer.Lexer.{Lexer}
 use Rattle.lexing.specs.declared.table.TableState.{TableState}
 use Rattle.lexing_patterns.specs.declared.patterns.PatternRule.{PatternRule}
-use Rattle.tokens.specs.Warnings.{IsWarned, Warns}
+use Rattle.tokens.specs.Warnings.{IsWarned, Warns, warning}
 use Rattle.tokens.proofs.Lists.{item_drop}
 
 module _ (lexer : Lexer) (table : List TableState) (path : List ℕ) (numbers : List ℕ)
@@ -49,3 +50,9 @@ module _ (lexer : Lexer) (table : List TableState) (path : List ℕ) (numbers : 
     (rw (drop_all rule numbers (omega (arith, end)), drop_all rule rules (omega (arith, also))) refl)),
     was.appended,
   )
+
+pub warning_is : (path : List ℕ) (number : ℕ) (name : List ℕ)
+    → path ++ (codes ":" ++ (decimal number ++ (codes ": warning: no token is of the rule " ++ (name
+    ++ codes ": all texts that it matches are empty or earlier rules match them\n"))))
+    ≡ warning path number name
+warning_is path number name = simp append_assoc

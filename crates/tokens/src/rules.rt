@@ -259,9 +259,12 @@ pub(crate) fn read<E: Write>(
         return Ok(None);
     }
     let rules = rules_in(alloc, text)?;
-    let machine = machine_of(alloc, path, &rules, err)?;
-    if let Some(machine) = &machine {
-        warn(path, &machine.table(alloc)?, &rules, err)?;
+    match machine_of(alloc, path, &rules, err)? {
+        Some(machine) => {
+            let table = machine.table(alloc)?;
+            warn(path, &table, &rules, err)?;
+            Ok(Some(machine))
+        }
+        None => Ok(None),
     }
-    Ok(machine)
 }

@@ -10,7 +10,7 @@ ghost use Rattle.tokens.specs.Printing.{IsOfRules};
 ghost use Rattle.tokens.specs.TableTexts.{IsTableText, WritesRule, hex_digit, lead_text, number_text, quoted_byte, rule_lines, stands_for_itself, state_line};
 
 use crate::language::Language;
-use lexing::{Lead, Lexer, Machine, Scanner, TableState};
+use lexing::{Lead, Lexer, Machine, Scanner, Table, TableState};
 use std::alloc::Global;
 use std::io::{self, ErrorKind, Write};
 
@@ -101,12 +101,12 @@ fn write_lead<W: Write>(language: &Language, lead: Lead, out: &mut W) -> io::Res
     write!(out, "{open}{first},{last},{next}{close}")
 }
 
-fn write_leads<W: Write>(language: &Language, leads: &[Lead], out: &mut W) -> io::Result<()>
+fn write_leads<W: Write>(language: &Language, state: &TableState, out: &mut W) -> io::Result<()>
     ensures { OnOk result (Appends (W.contents out.old) (W.contents out.new)
-        (flat_map (lead_text language.now) leads.now)) }
+        (flat_map (lead_text language.now) state.now.leads.items)) }
 {
-    for at in 0..leads.len() {
-        write_lead(language, leads[at], out)?;
+    for at in 0..state.leads.len() {
+        write_lead(language, state.leads[at], out)?;
     }
     Ok(())
 }
@@ -130,22 +130,18 @@ fn write_state<W: Write>(language: &Language, state: &TableState, out: &mut W) -
         (state_line language.now state.now)) }
 {
     out.write_all(language.state_open.as_bytes())?;
-    write_leads(language, &state.leads, out)?;
+    write_leads(language, state, out)?;
     out.write_all(language.leads_close.as_bytes())?;
     write_number(language, state.rule, out)?;
     out.write_all(language.state_close.as_bytes())
 }
 
-fn write_states<W: Write>(
-    language: &Language,
-    states: &[TableState],
-    out: &mut W,
-) -> io::Result<()>
+fn write_states<W: Write>(language: &Language, table: &Table, out: &mut W) -> io::Result<()>
     ensures { OnOk result (Appends (W.contents out.old) (W.contents out.new)
-        (flat_map (state_line language.now) states.now)) }
+        (flat_map (state_line language.now) table.now.states.items)) }
 {
-    for at in 0..states.len() {
-        write_state(language, &states[at], out)?;
+    for at in 0..table.states.len() {
+        write_state(language, &table.states[at], out)?;
     }
     Ok(())
 }
@@ -168,6 +164,6 @@ pub(crate) fn write_table<W: Write>(
     out.write_all(language.head.as_bytes())?;
     write_rules(language, machine.lexer(), out)?;
     out.write_all(language.middle.as_bytes())?;
-    write_states(language, &table.states, out)?;
+    write_states(language, &table, out)?;
     out.write_all(language.tail.as_bytes())
 }

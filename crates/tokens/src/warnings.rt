@@ -1,5 +1,5 @@
 //! Rules of which there is no token.
-ghost use Rattle.std.specs.Prelude.{◌≡◌, ◌<◌, ◌^◌, OnOk, length, vec_len};
+ghost use Rattle.std.specs.Prelude.{◌≡◌, OnOk, vec_len};
 ghost use Rattle.line_program.specs.Listing.{Writes};
 ghost use Rattle.lexing.specs.declared.lexer.Lexer.{Lexer};
 ghost use Rattle.lexing.specs.Tables.{IsTableOf};
@@ -7,7 +7,7 @@ ghost use Rattle.tokens.specs.Warnings.{IsWarned, Warns};
 
 use crate::rules::Rules;
 use lexing::Table;
-use std::io::{self, Write};
+use std::io::{self, ErrorKind, Write};
 
 /// Says so where no token is of the rule, which stands on the line of this number.
 fn warn_of<E: Write>(
@@ -18,12 +18,14 @@ fn warn_of<E: Write>(
     name: &str,
     err: &mut E,
 ) -> io::Result<()>
-    requires { rule < 2 ^ 32 }
     ensures { (lexer : Lexer) → IsTableOf lexer table.now.states.items
         → OnOk result (Writes (E.contents err.old) (E.contents err.new)
         (Warns lexer table.now.states.items path.now rule number name.now)) }
 {
-    if table.has_token_of(rule as u32) {
+    let Ok(rule) = u32::try_from(rule) else {
+        return Err(io::Error::from(ErrorKind::InvalidData));
+    };
+    if table.has_token_of(rule) {
         return Ok(());
     }
     writeln!(
@@ -47,7 +49,9 @@ pub(crate) fn warn<E: Write>(
         rules.now.rules.items)) }
 {
     for at in 0..rules.rules.len() {
-        warn_of(path, table, at, rules.numbers[at], rules.rules[at].name, err)?;
+        let number = rules.numbers[at];
+        let rule = rules.rules[at];
+        warn_of(path, table, at, number, rule.name, err)?;
     }
     Ok(())
 }

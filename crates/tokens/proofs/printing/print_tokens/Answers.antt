@@ -1,6 +1,7 @@
-use Rattle.std.proofs.Common.{◌≡◌, refl, sym, ap, subst, ◌∙◌, length, Ok, arith}
+use Rattle.std.proofs.Common.{◌≡◌, refl, sym, ap, ◌∙◌, ◌-◌, length, take, drop, Ok, arith}
 use Rattle.std.proofs.lemmas.Bool.{and_parts}
 use Rattle.std.proofs.lemmas.Str.{IsCharBoundary-start}
+use Rattle.lexing.proofs.Places.{further_is}
 use Rattle.tokens.specs.Printing.{printed_token}
 use Rattle.tokens.proofs.Written.{HasPrinted, printed_none, printed_more, printed_all}
 use Rattle.tokens.proofs.printing.print_tokens.Goals as goal
@@ -19,7 +20,11 @@ loop-at-preserved g c =
     let is_token = c.in_ok-is_token.is_token in
     record {
       boundary = c.in_ok-piece.ensures.boundary;
-      here = c.further-place.ensures;
+      here = further_is c.args.text.now
+          (take (c.in_ok-piece.piece.end - c.loop-at.at) (drop c.loop-at.at c.as_bytes.result.now))
+          c.loop-at.at c.in_ok-piece.piece.end c.loop-at.place c.behind-place.result
+          (omega (arith, c.in_ok-piece.ensures.further)) c.in_ok-piece.ensures.boundary.0 (omega arith)
+          was.here (rw c.as_bytes.ensures.value refl) c.behind-place.ensures;
       printed = λ rules patterns is.
           rw c.both-is_whole.ensures
           (printed_more rules patterns _ c.args.text.now c.loop-at.is_whole is_token c.loop-at.at

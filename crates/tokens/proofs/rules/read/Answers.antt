@@ -1,22 +1,44 @@
+use Rattle.std.proofs.Common.{◌≡◌, inr}
 use Rattle.std.specs.Str.Lines.{lines}
-use Rattle.std.proofs.Common.{inr}
-use Rattle.tokens.proofs.Machines.{all_read, found_as, none_as}
+use Rattle.lexing.specs.MachineSteps.{lexer_of}
+use Rattle.tokens.proofs.Machines.{all_read}
 use Rattle.tokens.proofs.rules.read.Goals as goal
 
-pub returns-clause-machine : goal.returns-clause-machine
-returns-clause-machine g c =
+pub returns-in_ok-warn-in-Some-clause-machine : goal.returns-in_ok-warn-in-Some-clause-machine
+returns-in_ok-warn-in-Some-clause-machine g c =
     let rules = c.in_ok-rules.rules in
-    found_as c.machine_of.result _ _
-    (λ machine (none, patterns, of). (
+    let (none, patterns, of) = c.in-Some.ensures.machine in (
       rules.rules.items,
       patterns,
       all_read (lines c.args.text.now) rules.no_rule rules.rules.items c.in_ok-rules.ensures.rules none,
       of,
-    )) c.machine_of.ensures.machine
+    )
 
-pub returns-clause-refused : goal.returns-clause-refused
-returns-clause-refused g c =
-    none_as c.machine_of.result _ _
-    (λ (said, complaint, appended). (said, inr complaint, appended))
-    (c.machine_of.ensures.refused (lines c.args.text.now) c.in_ok-rules.ensures.rules
-    c.in_ok-rules.ensures.numbers)
+pub returns-in_ok-warn-in-Some-clause-warned : goal.returns-in_ok-warn-in-Some-clause-warned
+returns-in_ok-warn-in-Some-clause-warned g c =
+    let rules = c.in_ok-rules.rules in
+    let (none, patterns, of) = c.in-Some.ensures.machine in
+    let read =
+    all_read (lines c.args.text.now) rules.no_rule rules.rules.items c.in_ok-rules.ensures.rules none in
+    let table = c.in_ok-table.table.states.items in
+    let (said, warned, appended) =
+    c.in_ok-warn-in-Some.ensures (lexer_of c.in-Some.machine) c.in_ok-table.ensures in (
+      said,
+      (
+        rules.rules.items,
+        rules.numbers.items,
+        table,
+        read,
+        c.in_ok-rules.ensures.numbers,
+        c.in_ok-table.ensures,
+        warned,
+      ),
+      rw c.in-Some.ensures.silent at appended,
+    )
+
+pub returns-in-None-clause-refused : goal.returns-in-None-clause-refused
+returns-in-None-clause-refused g c =
+    let (said, complaint, appended) =
+    c.in-None.ensures.refused (lines c.args.text.now) c.in_ok-rules.ensures.rules
+    c.in_ok-rules.ensures.numbers in
+    (said, inr complaint, appended)

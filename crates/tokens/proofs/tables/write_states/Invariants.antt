@@ -6,4 +6,4 @@ use Rattle.tokens.proofs.tables.write_states.Given as goal
 abbrev pub invariant-loop-at : goal.invariant-loop-at
 invariant-loop-at g l =
     Appends (g.W.Write.contents l.fn.out) (g.W.Write.contents l.out)
-    (flat_map (state_line l.language) (take l.at l.states))
+    (flat_map (state_line l.language) (take l.at l.table.states.items))
