@@ -114,10 +114,13 @@ impl<T: Drop> Nodes<T> {
             return Ok(());
         }
         self.slab.reserve(missing)?;
+        // For the proof: numbers are below the capacity, which is a `usize`.
+        let _capacity = self.slab.capacity();
         self.spares
             .reserve(self.slab.len() - self.spares.len() + missing)?;
         for _ in 0..missing {
-            self.rows.reserve(alloc, self.slab.vacant_key() + 1)?;
+            self.rows
+                .reserve(alloc, self.slab.vacant_key().saturating_add(1))?;
             let number = self.slab.insert_reserved(Node::new());
             self.spares.push_back_reserved(number);
         }

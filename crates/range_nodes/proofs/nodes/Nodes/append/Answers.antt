@@ -31,8 +31,8 @@ absorb-requires-clause-room g c = grind (arith, left_seen, seen, right_at)
 pub absorb-requires-clause-places : goal.absorb-requires-clause-places
 absorb-requires-clause-places g c = grind (arith, left_seen, seen, right_at)
 
-pub absorb-2-requires-clause-room : goal.absorb-2-requires-clause-room
-absorb-2-requires-clause-room g c = grind (arith, left_seen, seen, right_at)
+pub absorb-requires-2-clause-room : goal.absorb-requires-2-clause-room
+absorb-requires-2-clause-room g c = grind (arith, left_seen, seen, right_at)
 
 pub push_front_reserved-requires : goal.push_front_reserved-requires
 push_front_reserved-requires g c =

@@ -48,11 +48,11 @@ pub loop-preserved : goal.loop-preserved
 loop-preserved g c =
     let was = c.loop.invariant in
     let slab = c.loop.self-inside.slab in
-    let rows = c.reserve-3.new.self in
+    let rows = c.reserve-in-loop.new.self in
     let number = c.insert_reserved-number.result in
     let inserted = c.insert_reserved-number.ensures in
-    let grown = roomier {slab = slab} {larger = slab} refl rows was.whole c.reserve-3.ensures.no_less
-    c.reserve-3.ensures.kept in
+    let grown = roomier {slab = slab} {larger = slab} refl rows was.whole c.reserve-in-loop.ensures.no_less
+    c.reserve-in-loop.ensures.kept in
     let changes : Changes slab c.insert_reserved-number.new.self rows rows number c.new.result [] =
     grind (arith, vacant_row) in
     let next =

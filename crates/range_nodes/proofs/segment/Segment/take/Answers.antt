@@ -18,7 +18,7 @@ shift_down-requires-clause-filled g c k low high =
     (omega (arith, high, c.row_len-last.ensures.len, c.requires.within)) in (
       held.0,
       rw c.take-item.ensures.after (get_or-set_other c.self.inside.cells at k None None
-      (λ is. omega (arith, is, low)) ∙ held.1),
+          (λ is. omega (arith, is, low)) ∙ held.1),
     )
 
 pub invariant_of-self : goal.invariant_of-self
