@@ -364,6 +364,31 @@ module _ {T : Type 0} where
       let less : k < many = omega (arith, within, len) in
       none k less ∙ sym (get_or-replicate many k None None less))
 
+  -- the items of one row more were dropped
+  module _ {rows : List (List T)} {cells now new : List (Option T)} (laid : IsLaid rows cells)
+      (n : ℕ) (bare : (k : ℕ) → k < CAPACITY * n → cell now k ≡ None)
+      (kept : (k : ℕ) → CAPACITY * n ≤ k → cell now k ≡ cell cells k)
+      (dropped : AreEmpty new (CAPACITY * n) (CAPACITY * n + length (row_of rows n)))
+      (others : SameOutside now new (CAPACITY * n) (CAPACITY * n + length (row_of rows n))) where
+    pub bare_more : (k : ℕ) → k < CAPACITY * (n + 1) → cell new k ≡ None
+    bare_more k less =
+        elim (cases_lt k (CAPACITY * n)) [
+          | inl low ↦ others.same k (inl low) ∙ bare k low
+          | inr past ↦
+              elim (cases_lt k (CAPACITY * n + length (row_of rows n))) [
+                | inl held ↦ dropped k past held
+                | inr high ↦
+                    others.same k (inr high) ∙ kept k past
+                    ∙ ap (cell cells) (omega (arith, past))
+                    ∙ bare_at laid n (k - CAPACITY * n) (omega (arith, past, high))
+                    (omega (arith, past, less))
+              ]
+        ]
+
+    pub kept_still : (k : ℕ) → CAPACITY * (n + 1) ≤ k → cell new k ≡ cell cells k
+    kept_still k past =
+        others.same k (inr (omega (arith, past, laid.fits n))) ∙ kept k (omega (arith, past))
+
 -- the items of one row came to be as many others
 pub lens_same : {T : Type 0} (rows : List (List T)) (n : ℕ) (items : List T)
     → length items ≡ length (row_of rows n) → map length (set rows n items) ≡ map length rows
