@@ -76,6 +76,14 @@ module _ {T : Type 0} where
         ap (λ l. get_or l k None) (map-set (λ y. Some y) xs i x)
         ∙ get_or-set_other (full xs) i k (Some x) None other
 
+  items_full : (xs : List T) → items_in (full xs) ≡ xs
+  items_full [] = refl
+  items_full (x ∷ xs) = ap (λ l. x ∷ l) (items_full xs)
+
+  -- filled cells tell their items
+  pub same_items : (xs ys : List T) → full xs ≡ full ys → xs ≡ ys
+  same_items xs ys same = sym (items_full xs) ∙ ap items_in same ∙ items_full ys
+
   -- cells with these items, and no others, have the items
   pub items_laid : (cells : List (Option T)) (xs : List T) → length xs ≤ length cells
       → ((i : ℕ) → i < length cells → cell cells i ≡ row_cell xs i) → items_in cells ≡ xs

@@ -1,21 +1,14 @@
 -- Rows in segments of as many each.
-use Rattle.std.proofs.Common.{◌≡◌, ℕ, zero, suc, ◌+◌, ◌-◌, ◌*◌, ◌/◌, ◌%◌, ◌<◌, ◌≤◌, List, [], ◌∷◌, ◌++◌, length, get_or, replicate, refl, sym, ap, ◌∙◌, inl, inr, arith, length-append}
-use Rattle.std.proofs.Math.ListN.{set, length-set}
-use Rattle.std.proofs.Math.Nat.{div-add-mod, mod-lt}
+use Rattle.std.proofs.Common.{◌≡◌, ℕ, zero, suc, ◌+◌, ◌-◌, ◌*◌, ◌/◌, ◌%◌, ◌<◌, ◌≤◌, List, [], ◌∷◌, ◌++◌, length, replicate, refl, sym, ap, ◌∙◌, inl, inr, arith, length-append, append-nil, append_assoc}
+use Rattle.std.proofs.Math.ListN.{set, length-set, get_or}
 use Rattle.std.proofs.lemmas.Bool.{cases_eq, cases_lt}
-use Rattle.std.proofs.lemmas.List.{get_or_append_left, get_or-append_right, set-append_left, append-nil, append_assoc, get_or_at, get_or_past, get_or-replicate, get_or-set_same, get_or-set_other, length-replicate}
+use Rattle.std.proofs.lemmas.List.{get_or_append_left, get_or-append_right, set-append_left, set-append_right, get_or_at, get_or_default, get_or_past, get_or-replicate, get_or-set_same, get_or-set_other, length-replicate}
 use Rattle.range_nodes.specs.declared.segment.TheConstants.{ROWS}
 use Rattle.range_nodes.specs.Rows.{row_of, joined, AreSegments}
 
--- a set among the second of two lists
-set_second : {A : Type 0} (xs ys : List A) (i : ℕ) (x : A)
-    → set (xs ++ ys) (length xs + i) x ≡ xs ++ set ys i x
-set_second [] ys i x = refl
-set_second (y ∷ xs) ys i x = ap (λ l. y ∷ l) (set_second xs ys i x)
-
 module _ {A : Type 0} where
-  after : {xs : List A} {rest : List (List A)} → AreSegments (xs ∷ rest) → AreSegments rest
-  after all n less = all (suc n) (omega (arith, less))
+  after : (xs : List A) (rest : List (List A)) → AreSegments (xs ∷ rest) → AreSegments rest
+  after xs rest all n less = all (suc n) (omega (arith, less))
 
   pub length-joined : (segments : List (List A)) → AreSegments segments
       → length (joined segments) ≡ ROWS * length segments
@@ -25,122 +18,127 @@ module _ {A : Type 0} where
     arith,
     length-append xs (joined rest),
     all 0 (omega arith),
-    length-joined rest (after all),
+    length-joined rest (after xs rest all),
   )
 
   -- an element of a segment
-  pub joined_read : (segments : List (List A)) → AreSegments segments → (q r : ℕ) → r < ROWS → (d : A)
-      → get_or (joined segments) (ROWS * q + r) d ≡ get_or (get_or segments q []) r d
+  joined_read : (segments : List (List A)) → AreSegments segments → (q r : ℕ) → r < ROWS
+      → (d : A) → get_or (joined segments) (ROWS * q + r) d ≡ get_or (get_or segments q []) r d
   unfolding joined
   joined_read [] all q r less d = refl
   joined_read (xs ∷ rest) all zero r less d =
-      get_or_append_left xs (joined rest) r d (omega (arith, all 0 (omega arith), less))
+      let index : ROWS * 0 + r ≡ r = omega arith in
+      ap (λ k. get_or (xs ++ joined rest) k d) index
+      ∙ get_or_append_left xs (joined rest) d r (omega (arith, all 0 (omega arith), less))
   joined_read (xs ∷ rest) all (suc q) r less d =
-      let long : length xs ≡ ROWS = all 0 (omega arith) in
-      let index : ROWS * suc q + r - length xs ≡ ROWS * q + r = omega (arith, long) in
-      get_or-append_right xs (joined rest) (ROWS * suc q + r) d (omega (arith, long))
+      let index : ROWS * suc q + r - ROWS ≡ ROWS * q + r = omega arith in
+      get_or-append_right xs (joined rest) ROWS (ROWS * suc q + r) d (all 0 (omega arith))
+      (omega arith)
       ∙ ap (λ k. get_or (joined rest) k d) index
-      ∙ joined_read rest (after all) q r less d
+      ∙ joined_read rest (after xs rest all) q r less d
 
   -- an element of a segment was written
-  pub joined_set : (segments : List (List A)) → AreSegments segments → (q r : ℕ)
+  joined_set : (segments : List (List A)) → AreSegments segments → (q r : ℕ)
       → q < length segments → r < ROWS → (x : A)
       → joined (set segments q (set (get_or segments q []) r x))
       ≡ set (joined segments) (ROWS * q + r) x
   unfolding joined
   joined_set [] all q r there less x = absurd (omega (arith, there))
   joined_set (xs ∷ rest) all zero r there less x =
+      let index : r ≡ ROWS * 0 + r = omega arith in
       sym (set-append_left xs (joined rest) r x (omega (arith, all 0 (omega arith), less)))
-  joined_set (xs ∷ rest) all (suc q) r there less x =
-      let long : length xs ≡ ROWS = all 0 (omega arith) in
-      let index : length xs + (ROWS * q + r) ≡ ROWS * suc q + r = omega (arith, long) in
-      ap (λ l. xs ++ l) (joined_set rest (after all) q r (omega (arith, there)) less x)
-      ∙ sym (set_second xs (joined rest) (ROWS * q + r) x)
       ∙ ap (λ k. set (xs ++ joined rest) k x) index
+  joined_set (xs ∷ rest) all (suc q) r there less x =
+      let index : ROWS * q + r ≡ ROWS * suc q + r - ROWS = omega arith in
+      ap (λ l. xs ++ l) (joined_set rest (after xs rest all) q r (omega (arith, there)) less x)
+      ∙ ap (λ k. xs ++ set (joined rest) k x) index
+      ∙ sym (set-append_right xs (joined rest) ROWS (ROWS * suc q + r) x (all 0 (omega arith))
+      (omega arith))
 
-  pub joined_more : (segments : List (List A)) (xs : List A)
+  joined_more : (segments : List (List A)) (xs : List A)
       → joined (segments ++ xs ∷ []) ≡ joined segments ++ xs
   unfolding joined
   joined_more [] xs = append-nil xs
   joined_more (ys ∷ rest) xs =
       ap (λ l. ys ++ l) (joined_more rest xs) ∙ sym (append_assoc ys (joined rest) xs)
 
--- where a number's row lies
-pub record Place (many n : ℕ) : Type 0 where
-  pub segment : n / ROWS < many
-  pub row : n % ROWS < ROWS
-  pub is : ROWS * (n / ROWS) + n % ROWS ≡ n
+-- the segments hold these rows, one of which has this number
+module _ {T : Type 0} (segments : List (List (List T))) (all : AreSegments segments)
+    (rows : List (List T)) (is : joined segments ≡ rows) (n : ℕ) (less : n < length rows) where
+  pub segment_within : n / ROWS < length segments
+  segment_within = omega (arith, length-joined segments all, ap length is, less)
 
-pub place : (many n : ℕ) → n < ROWS * many → Place many n
-place many n less =
-    let is = div-add-mod n ROWS in
-    let row : n % ROWS < ROWS = mod-lt n {ROWS} (omega arith) in
-    record { segment = omega (arith, less, is, row); row = row; is = is }
+  -- its segment
+  module _ (segment : List (List T)) (found : segment ≡ get_or segments (n / ROWS) segment) where
+    there : segment ≡ get_or segments (n / ROWS) []
+    there = found ∙ get_or_default segments (n / ROWS) segment [] segment_within
 
-module _ {T : Type 0} {segments : List (List (List T))} (all : AreSegments segments) (n : ℕ)
-    (less : n < length (joined segments)) where
-  pub where_is : Place (length segments) n
-  where_is = place (length segments) n (omega (arith, length-joined segments all, less))
+    number : ROWS * (n / ROWS) + n % ROWS ≡ n
+    number = omega arith
 
-  -- the row of a number
-  pub row_read : row_of (joined segments) n ≡ row_of (get_or segments (n / ROWS) []) (n % ROWS)
-  row_read =
-      ap (λ k. get_or (joined segments) k []) (sym where_is.is)
-      ∙ joined_read segments all (n / ROWS) (n % ROWS) where_is.row []
+    pub row_read : row_of segment (n % ROWS) ≡ row_of rows n
+    row_read =
+        ap (λ s. row_of s (n % ROWS)) there
+        ∙ sym (joined_read segments all (n / ROWS) (n % ROWS) (omega arith) [])
+        ∙ ap (λ k. row_of (joined segments) k) number
+        ∙ ap (λ l. row_of l n) is
 
-  -- another row was written there
-  module _ (new : List (List T)) (items : List T)
-      (is : new ≡ set (get_or segments (n / ROWS) []) (n % ROWS) items) where
-    pub row_written : joined (set segments (n / ROWS) new) ≡ set (joined segments) n items
-    row_written =
-        ap (λ l. joined (set segments (n / ROWS) l)) is
-        ∙ joined_set segments all (n / ROWS) (n % ROWS) where_is.segment where_is.row items
-        ∙ ap (λ k. set (joined segments) k items) where_is.is
+    -- the row was written
+    module _ (new : List (List T)) (items : List T) (written : new ≡ set segment (n % ROWS) items)
+        where
+      pub row_written : joined (set segments (n / ROWS) new) ≡ set rows n items
+      row_written =
+          ap (λ s. joined (set segments (n / ROWS) s))
+          (written ∙ ap (λ s. set s (n % ROWS) items) there)
+          ∙ joined_set segments all (n / ROWS) (n % ROWS) segment_within (omega arith) items
+          ∙ ap (λ k. set (joined segments) k items) number
+          ∙ ap (λ l. set l n items) is
 
-    pub still_segments : AreSegments (set segments (n / ROWS) new)
-    still_segments m there =
-        elim (cases_eq m (n / ROWS)) [
-          | inl same ↦
-              rw (same, get_or-set_same segments (n / ROWS) new [] where_is.segment)
-              (ap length is ∙ length-set (get_or segments (n / ROWS) []) (n % ROWS) items
-              ∙ all (n / ROWS) where_is.segment)
-          | inr other ↦
-              rw (get_or-set_other segments (n / ROWS) m new [] other)
-              (all m (omega (arith, there, length-set segments (n / ROWS) new)))
-        ]
-
-no_row : {T : Type 0} (i : ℕ) → ◌≡◌ {A = List T} (get_or (replicate ROWS []) i []) []
-no_row i =
-    elim (cases_lt i ROWS) [
-      | inl less ↦ get_or-replicate ROWS i [] [] less
-      | inr past ↦
-          get_or_past (replicate ROWS []) i [] (omega (arith, past, length-replicate ROWS []))
-    ]
+      pub still_segments : AreSegments (set segments (n / ROWS) new)
+      still_segments m less_m =
+          elim (cases_eq m (n / ROWS)) [
+            | inl same ↦
+                rw (same, get_or-set_same segments (n / ROWS) new [] segment_within)
+                (ap length (written ∙ ap (λ s. set s (n % ROWS) items) there)
+                ∙ length-set (get_or segments (n / ROWS) []) (n % ROWS) items
+                ∙ all (n / ROWS) segment_within)
+            | inr other ↦
+                rw (get_or-set_other segments (n / ROWS) m new [] other)
+                (all m (omega (arith, less_m, length-set segments (n / ROWS) new)))
+          ]
 
 -- rows without an item were added
 module _ {T : Type 0} (segments : List (List (List T))) (all : AreSegments segments)
     (fresh : List (List T)) (is : fresh ≡ replicate ROWS []) where
+  abbrev bare : List (List T)
+  bare = replicate ROWS []
+
+  bare_at : (i : ℕ) → row_of bare i ≡ []
+  bare_at i =
+      elim (cases_lt i ROWS) [
+        | inl less ↦ get_or-replicate ROWS i [] [] less
+        | inr past ↦ get_or_past bare i [] past
+      ]
+
   pub more_segments : AreSegments (segments ++ fresh ∷ [])
-  more_segments m there =
+  more_segments m less =
       elim (cases_lt m (length segments)) [
-        | inl less ↦
-            rw (get_or_append_left segments (fresh ∷ []) m [] less) (all m less)
+        | inl low ↦ rw (get_or_append_left segments (fresh ∷ []) [] m low) (all m low)
         | inr past ↦
-            let last : m ≡ length segments =
-            omega (arith, there, past, length-append segments (fresh ∷ [])) in
-            ap length (get_or_at segments fresh [] [] m (sym last))
-            ∙ ap length is ∙ length-replicate ROWS []
+            let last : length segments ≡ m =
+            omega (arith, less, past, length-append segments (fresh ∷ [])) in
+            ap length (get_or_at segments fresh [] [] m last) ∙ ap length is
       ]
 
   pub more_rows : (k : ℕ) → row_of (joined (segments ++ fresh ∷ [])) k ≡ row_of (joined segments) k
   more_rows k =
       ap (λ l. row_of l k) (joined_more segments fresh)
       ∙ elim (cases_lt k (length (joined segments))) [
-        | inl less ↦ get_or_append_left (joined segments) fresh k [] less
+        | inl low ↦ get_or_append_left (joined segments) fresh [] k low
         | inr past ↦
-            get_or-append_right (joined segments) fresh k [] past
-            ∙ ap (λ l. get_or l (k - length (joined segments)) []) is
-            ∙ no_row (k - length (joined segments))
+            get_or-append_right (joined segments) fresh (length (joined segments)) k [] refl past
+            ∙ ap (λ l. row_of l (k - length (joined segments))) is
+            ∙ bare_at (k - length (joined segments))
             ∙ sym (get_or_past (joined segments) k [] past)
       ]
 

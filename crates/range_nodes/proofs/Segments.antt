@@ -11,7 +11,7 @@ use Rattle.range_nodes.specs.declared.nodes.TheConstants.{CAPACITY}
 use Rattle.range_nodes.specs.Rows.{row_of}
 use Rattle.range_nodes.specs.Segments.{row_cell, items_in, rows_in, IsLaid, IsSegment}
 use Rattle.range_nodes.specs.declared.segment.TheConstants.{ROWS}
-use Rattle.range_nodes.proofs.RowCells.{cell_some, cell_past, cell_read, items_laid, inserted_at, inserted_below, inserted_above, removed_below, removed_above, set_at, set_beside}
+use Rattle.range_nodes.proofs.RowCells.{cell_some, cell_past, cell_read, items_laid, inserted_at, inserted_below, inserted_above, removed_below, removed_above, same_items, set_at, set_beside}
 
 -- the row of a cell, and its index there
 pub record Spot (many k : ℕ) : Type 0 where
@@ -127,25 +127,29 @@ module _ {T : Type 0} where
         → cell cells (CAPACITY * n + i) ≡ None
     bare_at i past small = laid.held n i small ∙ cell_past (row_of rows n) i past
 
-    pub run : n < length rows → IsRun cells (CAPACITY * n) (length (row_of rows n))
-    run less =
+    held_run : n < length rows → take (length (row_of rows n)) (drop (CAPACITY * n) cells)
+        ≡ map (λ x. Some x) (row_of rows n)
+    held_run less =
         let xs = row_of rows n in
         let part = take (length xs) (drop (CAPACITY * n) cells) in
         let long : length part ≡ length xs =
         length-take-le (length xs) (drop (CAPACITY * n) cells)
-        (omega (arith, length-drop (CAPACITY * n) cells, room less, laid.fits n)) in (
-          omega (arith, room less, laid.fits n),
-          (
-            xs,
-            ext_get_or None part (map (λ x. Some x) xs)
-                (long ∙ sym (length-map xs (λ x. Some x)))
-                (λ i within.
-                let less : i < length xs = omega (arith, within, long) in
-                get_or-take (length xs) (drop (CAPACITY * n) cells) i None less
-                ∙ get_or-drop (CAPACITY * n) cells i None
-                ∙ laid.held n i (omega (arith, less, laid.fits n))),
-          ),
-        )
+        (omega (arith, length-drop (CAPACITY * n) cells, room less, laid.fits n)) in
+        ext_get_or None part (map (λ x. Some x) xs) (long ∙ sym (length-map xs (λ x. Some x)))
+        (λ i within.
+        let less : i < length xs = omega (arith, within, long) in
+        get_or-take (length xs) (drop (CAPACITY * n) cells) i None less
+        ∙ get_or-drop (CAPACITY * n) cells i None
+        ∙ laid.held n i (omega (arith, less, laid.fits n)))
+
+    pub run : n < length rows → IsRun cells (CAPACITY * n) (length (row_of rows n))
+    run less = (omega (arith, room less, laid.fits n), (row_of rows n, held_run less))
+
+    -- the items that were read from a row's cells
+    pub run_read : n < length rows → (items : List T)
+        → take (length (row_of rows n)) (drop (CAPACITY * n) cells) ≡ map (λ x. Some x) items
+        → items ≡ row_of rows n
+    run_read less items read = same_items items (row_of rows n) (sym read ∙ held_run less)
 
   -- the items of one row changed
   pub written : {rows : List (List T)} {cells new : List (Option T)} → IsLaid rows cells → (n : ℕ)
@@ -363,6 +367,31 @@ module _ {T : Type 0} where
       (λ k within.
       let less : k < many = omega (arith, within, len) in
       none k less ∙ sym (get_or-replicate many k None None less))
+
+  -- the items of one row more were dropped
+  module _ {rows : List (List T)} {cells now new : List (Option T)} (laid : IsLaid rows cells)
+      (n : ℕ) (bare : (k : ℕ) → k < CAPACITY * n → cell now k ≡ None)
+      (kept : (k : ℕ) → CAPACITY * n ≤ k → cell now k ≡ cell cells k)
+      (dropped : AreEmpty new (CAPACITY * n) (CAPACITY * n + length (row_of rows n)))
+      (others : SameOutside now new (CAPACITY * n) (CAPACITY * n + length (row_of rows n))) where
+    pub bare_more : (k : ℕ) → k < CAPACITY * (n + 1) → cell new k ≡ None
+    bare_more k less =
+        elim (cases_lt k (CAPACITY * n)) [
+          | inl low ↦ others.same k (inl low) ∙ bare k low
+          | inr past ↦
+              elim (cases_lt k (CAPACITY * n + length (row_of rows n))) [
+                | inl held ↦ dropped k past held
+                | inr high ↦
+                    others.same k (inr high) ∙ kept k past
+                    ∙ ap (cell cells) (omega (arith, past))
+                    ∙ bare_at laid n (k - CAPACITY * n) (omega (arith, past, high))
+                    (omega (arith, past, less))
+              ]
+        ]
+
+    pub kept_still : (k : ℕ) → CAPACITY * (n + 1) ≤ k → cell new k ≡ cell cells k
+    kept_still k past =
+        others.same k (inr (omega (arith, past, laid.fits n))) ∙ kept k (omega (arith, past))
 
 -- the items of one row came to be as many others
 pub lens_same : {T : Type 0} (rows : List (List T)) (n : ℕ) (items : List T)

@@ -15,16 +15,18 @@ shift_up-requires-clause-empty g c =
 
 pub invariant_of-self : goal.invariant_of-self
 invariant_of-self g c =
-    (item_put (seen c.self.invariant c.self.view_is) c.args.row c.args.index c.args.item
+    rw c.put.ensures
+    ((item_put (seen c.self.invariant c.self.view_is) c.args.row c.args.index c.args.item
     (c.row_len-len.result + 1) c.requires.row c.requires.within c.requires.room
     (omega (arith, c.row_len-len.ensures.len))
     (rw c.row_len-len.ensures.len at c.shift_up.ensures.moved)
-    (rw c.row_len-len.ensures.len at c.shift_up.ensures.others)).0
+    (rw c.row_len-len.ensures.len at c.shift_up.ensures.others)).0)
 
 pub returns : goal.returns
 returns g c =
-    (item_put (seen c.self.invariant c.self.view_is) c.args.row c.args.index c.args.item
+    rw c.put.ensures
+    ((item_put (seen c.self.invariant c.self.view_is) c.args.row c.args.index c.args.item
     (c.row_len-len.result + 1) c.requires.row c.requires.within c.requires.room
     (omega (arith, c.row_len-len.ensures.len))
     (rw c.row_len-len.ensures.len at c.shift_up.ensures.moved)
-    (rw c.row_len-len.ensures.len at c.shift_up.ensures.others)).1
+    (rw c.row_len-len.ensures.len at c.shift_up.ensures.others)).1)
