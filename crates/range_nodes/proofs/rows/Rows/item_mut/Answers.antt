@@ -17,6 +17,6 @@ item_mut-requires-clause-within g c =
 pub returns : goal.returns
 returns g c =
     let read = row_read _ c.self.invariant _ c.self.view_is c.args.number c.requires.number _ c.index_mut.ensures.value in (
-      (refl, λ w. row_written _ c.self.invariant _ c.self.view_is c.args.number c.requires.number _ c.index_mut.ensures.value _ _ ?),
+      (refl, λ w. row_written _ c.self.invariant _ c.self.view_is c.args.number c.requires.number _ c.index_mut.ensures.value _ _ (rw read refl)),
       record { writes_back = tt; value = rw read at c.item_mut.ensures.value },
     )

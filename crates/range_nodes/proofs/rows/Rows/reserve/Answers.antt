@@ -1,22 +1,57 @@
-use Rattle.std.proofs.Common.{rules, ◌≡◌, ◌≢◌, ℕ, ◌+◌, ◌-◌, ◌<◌, ◌≤◌, [], ◌∷◌, ◌++◌, length, take, drop, slice_index_or, slice_set, insert, remove, OnOk, ◌*◌, ◌/◌, ◌%◌, Bool, true, false, nat_eq, nat_lt, List, bit_and, bit_or, Fits, w8, w32, w64, Bor, MutBor}
-use Rattle.std.specs.Borrow.{Lends, sem}
-use Rattle.std.specs.Vec.Iter.{into_iter_items}
-use Rattle.range_nodes.specs.Rows.{row_of}
-use Rattle.range_nodes.specs.contracts.rows.Rows.{the_row}
+use Rattle.std.proofs.Common.{[], ◌∷◌, ap, length, arith, ◌∙◌, length-append}
+use Rattle.range_nodes.proofs.RowItems.{length-joined, more_rows, more_segments}
 use Rattle.range_nodes.proofs.rows.Rows.reserve.Goals as goal
 
--- src/rows.rt:65:41
 pub returns-in_err-new-clause-no_less : goal.returns-in_err-new-clause-no_less
-returns-in_err-new-clause-no_less g c = ?
+returns-in_err-new-clause-no_less g c =
+    omega (
+      arith,
+      length-joined c.loop.self-inside.segments.items c.loop.invariant.all,
+      length-joined c.self.inside.segments.items c.self.invariant,
+      ap length c.self.view_is,
+      c.loop.invariant.many,
+      ap length c.in_ok-reserve.ensures.items,
+    )
 
--- src/rows.rt:64:9
 pub loop-preserved : goal.loop-preserved
-loop-preserved g c = ?
+loop-preserved g c =
+    let was = c.loop.invariant in
+    let items = c.push_reserved.ensures.items in
+    record {
+      many = omega (
+        arith,
+        ap length items,
+        length-append c.loop.self-inside.segments.items (c.in_ok-new.field-0 ∷ []),
+        was.many,
+      );
+      capacity = c.push_reserved.ensures.capacity ∙ was.capacity;
+      all = rw items (more_segments c.loop.self-inside.segments.items was.all _ c.in_ok-new.ensures);
+      kept = λ k.
+          rw items (more_rows c.loop.self-inside.segments.items was.all _ c.in_ok-new.ensures k)
+          ∙ was.kept k;
+    }
 
--- src/rows.rt:57:5
 pub returns-clause-there : goal.returns-clause-there
-returns-clause-there g c = ?
+returns-clause-there g c =
+    omega (
+      arith,
+      length-joined c.loop.self-inside.segments.items c.loop.invariant.all,
+      c.loop.invariant.many,
+      c.loop-test.false,
+      c.saturating_sub-missing.ensures,
+      c.div_ceil.ensures,
+      c.len.ensures,
+      ap length c.in_ok-reserve.ensures.items,
+      c.self.inside.segments.ok.0,
+    )
 
--- src/rows.rt:57:5
 pub returns-clause-no_less : goal.returns-clause-no_less
-returns-clause-no_less g c = ?
+returns-clause-no_less g c =
+    omega (
+      arith,
+      length-joined c.loop.self-inside.segments.items c.loop.invariant.all,
+      length-joined c.self.inside.segments.items c.self.invariant,
+      ap length c.self.view_is,
+      c.loop.invariant.many,
+      ap length c.in_ok-reserve.ensures.items,
+    )
