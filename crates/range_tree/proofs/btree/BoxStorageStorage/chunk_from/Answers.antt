@@ -1,4 +1,4 @@
-use Rattle.std.proofs.Common.{◌≡◌, ◌+◌, ◌-◌, ◌≤◌, length, ap, arith, ◌∙◌, take, drop}
+use Rattle.std.proofs.Common.{◌≡◌, ◌+◌, ◌-◌, length, ap, arith, ◌∙◌, take, drop}
 use Rattle.std.proofs.lemmas.List.{length-drop, take_all}
 use Rattle.range_nodes.specs.Heap.{items_of, node_of}
 use Rattle.range_tree.specs.Holding.{box_place, box_rank, good_home, rank_is}
