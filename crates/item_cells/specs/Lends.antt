@@ -1,7 +1,6 @@
 -- What the places end as, once a `&mut` into them has ended.
-use Rattle.std.specs.Prelude.{ℕ, ◌+◌, List, ◌++◌, map, take, drop, slice_set, Option, Some}
-use Rattle.std.specs.Borrow.{Fml, RattleType, MutBor, Array, Lends}
-use Rattle.std.specs.List.{refill}
+use Rattle.std.specs.Prelude.{ℕ, List, slice_set, Option, Some}
+use Rattle.std.specs.Borrow.{Fml, RattleType, MutBor, Lends}
 use Rattle.item_cells.specs.declared.cells.Cells.{Cells}
 use Rattle.item_cells.specs.contracts.cells.Cells.{the_row}
 

@@ -1,8 +1,8 @@
 -- Rows in segments of as many each.
-use Rattle.std.proofs.Common.{◌≡◌, ℕ, zero, suc, ◌+◌, ◌-◌, ◌*◌, ◌/◌, ◌%◌, ◌<◌, ◌≤◌, List, [], ◌∷◌, ◌++◌, length, replicate, refl, sym, ap, ◌∙◌, inl, inr, arith, length-append, append-nil, append_assoc}
-use Rattle.std.proofs.Math.ListN.{set, length-set, get_or}
-use Rattle.std.proofs.lemmas.Bool.{cases_eq, cases_lt}
-use Rattle.std.proofs.lemmas.List.{get_or_append_left, get_or-append_right, set-append_left, set-append_right, get_or_at, get_or_default, get_or_past, get_or-replicate, get_or-set_same, get_or-set_other, length-replicate}
+use Rattle.std.proofs.Common.{◌≡◌, ℕ, zero, suc, ◌+◌, ◌-◌, ◌*◌, ◌/◌, ◌%◌, ◌<◌, List, [], ◌∷◌, ◌++◌, length, replicate, refl, sym, ap, ◌∙◌, inl, inr, arith, length-append, append-nil, append_assoc}
+use Rattle.std.proofs.Math.ListN.{set, get_or}
+use Rattle.std.proofs.lemmas.Bool.{cases_lt}
+use Rattle.std.proofs.lemmas.List.{get_or_append_left, get_or-append_right, set-append_left, set-append_right, get_or_at, get_or_default, get_or_past, get_or-replicate}
 use Rattle.range_nodes.specs.declared.segment.TheConstants.{ROWS}
 use Rattle.range_nodes.specs.Rows.{row_of, joined, AreSegments}
 
@@ -84,28 +84,14 @@ module _ {T : Type 0} (segments : List (List (List T))) (all : AreSegments segme
         ∙ ap (λ l. row_of l n) is
 
     -- the row was written
-    module _ (new : List (List T)) (items : List T) (written : new ≡ set segment (n % ROWS) items)
-        where
-      pub row_written : joined (set segments (n / ROWS) new) ≡ set rows n items
-      row_written =
-          ap (λ s. joined (set segments (n / ROWS) s))
-          (written ∙ ap (λ s. set s (n % ROWS) items) there)
-          ∙ joined_set segments all (n / ROWS) (n % ROWS) segment_within (omega arith) items
-          ∙ ap (λ k. set (joined segments) k items) number
-          ∙ ap (λ l. set l n items) is
-
-      pub still_segments : AreSegments (set segments (n / ROWS) new)
-      still_segments m less_m =
-          elim (cases_eq m (n / ROWS)) [
-            | inl same ↦
-                rw (same, get_or-set_same segments (n / ROWS) new [] segment_within)
-                (ap length (written ∙ ap (λ s. set s (n % ROWS) items) there)
-                ∙ length-set (get_or segments (n / ROWS) []) (n % ROWS) items
-                ∙ all (n / ROWS) segment_within)
-            | inr other ↦
-                rw (get_or-set_other segments (n / ROWS) m new [] other)
-                (all m (omega (arith, less_m, length-set segments (n / ROWS) new)))
-          ]
+    pub row_written : (new : List (List T)) (items : List T) → new ≡ set segment (n % ROWS) items
+        → joined (set segments (n / ROWS) new) ≡ set rows n items
+    row_written new items written =
+        ap (λ s. joined (set segments (n / ROWS) s))
+        (written ∙ ap (λ s. set s (n % ROWS) items) there)
+        ∙ joined_set segments all (n / ROWS) (n % ROWS) segment_within (omega arith) items
+        ∙ ap (λ k. set (joined segments) k items) number
+        ∙ ap (λ l. set l n items) is
 
 -- rows without an item were added
 module _ {T : Type 0} (segments : List (List (List T))) (all : AreSegments segments)

@@ -1,9 +1,9 @@
 -- Rows that lie in the cells of a segment, and one of which the items change.
-use Rattle.std.proofs.Common.{◌≡◌, ◌≢◌, ℕ, zero, suc, ◌+◌, ◌-◌, ◌*◌, ◌<◌, ◌≤◌, List, [], ◌∷◌, ◌++◌, length, map, get_or, take, drop, replicate, Option, Some, None, refl, sym, ap, subst, ◌∙◌, ◌⊎◌, inl, inr, arith}
+use Rattle.std.proofs.Common.{◌≡◌, ◌≢◌, ℕ, zero, suc, ◌+◌, ◌-◌, ◌*◌, ◌<◌, ◌≤◌, List, [], ◌∷◌, length, map, get_or, take, drop, replicate, Option, Some, None, refl, sym, ap, subst, ◌∙◌, ◌⊎◌, inl, inr, arith}
 use Rattle.std.proofs.Math.ListN.{set, length-set}
 use Rattle.std.specs.List.{insert, remove}
 use Rattle.std.proofs.lemmas.Bool.{cases_eq, cases_lt, cases_order}
-use Rattle.std.proofs.lemmas.List.{length-map, length-drop, length-append, length-take-le, map-set, drop-drop, ext_get_or, get_or-set_same, get_or-set_other, get_or-take, get_or-drop, get_or_past, get_or-replicate, length-replicate}
+use Rattle.std.proofs.lemmas.List.{length-map, length-drop, length-take-le, map-set, drop-drop, ext_get_or, get_or-set_same, get_or-set_other, get_or-take, get_or-drop, get_or_past, get_or-replicate, length-replicate}
 use Rattle.std.proofs.lemmas.List.Edits.{length-insert, length-remove}
 use Rattle.std.proofs.Math.ListN.{get_or-map as map_get_or}
 use Rattle.item_cells.specs.Places.{cell, IsFilled, AreFilled, AreEmpty, IsRun, SameOutside}
@@ -11,7 +11,7 @@ use Rattle.range_nodes.specs.declared.nodes.TheConstants.{CAPACITY}
 use Rattle.range_nodes.specs.Rows.{row_of}
 use Rattle.range_nodes.specs.Segments.{row_cell, items_in, rows_in, IsLaid, IsSegment}
 use Rattle.range_nodes.specs.declared.segment.TheConstants.{ROWS}
-use Rattle.range_nodes.proofs.RowCells.{cell_some, cell_past, cell_read, items_laid, inserted_at, inserted_below, inserted_above, removed_below, removed_above, same_items, set_at, set_beside}
+use Rattle.range_nodes.proofs.RowCells.{cell_some, cell_past, items_laid, inserted_at, inserted_below, inserted_above, removed_below, removed_above, same_items, set_at, set_beside}
 
 -- the row of a cell, and its index there
 pub record Spot (many k : ℕ) : Type 0 where

@@ -1,4 +1,4 @@
-use Rattle.std.proofs.Common.{◌+◌, ◌*◌, ◌<◌, ◌≤◌, ◌≡◌, length, arith, ◌∙◌}
+use Rattle.std.proofs.Common.{◌≡◌, length, arith, ◌∙◌}
 use Rattle.range_nodes.specs.Rows.{row_of}
 use Rattle.range_nodes.specs.declared.segment.TheConstants.{CELLS}
 use Rattle.range_nodes.proofs.Segments.{all_empty, bare_more, filled, kept_still, lens_at}

@@ -1,4 +1,4 @@
-use Rattle.std.proofs.Common.{◌≡◌, ◌+◌, ◌-◌, arith, ◌∙◌, inl, inr}
+use Rattle.std.proofs.Common.{arith, ◌∙◌, inr}
 use Rattle.item_cells.proofs.block.Block.drop_items.Goals as goal
 
 pub take-requires : goal.take-requires

@@ -1,5 +1,4 @@
-use Rattle.std.proofs.Common.{◌≡◌, ℕ, suc, ◌+◌, ◌-◌, ◌<◌, ◌≤◌, ◌⊎◌, length, None}
-use Rattle.item_cells.specs.Places.{cell, AreEmpty, SameOutside}
+use Rattle.item_cells.specs.Places.{AreEmpty, SameOutside}
 use Rattle.item_cells.proofs.block.Block.drop_items.Given as goal
 
 abbrev pub invariant-loop-index : goal.invariant-loop-index

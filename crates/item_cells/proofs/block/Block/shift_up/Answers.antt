@@ -1,4 +1,4 @@
-use Rattle.std.proofs.Common.{◌≡◌, ◌+◌, ◌-◌, arith, ◌∙◌, inl, inr}
+use Rattle.std.proofs.Common.{◌-◌, arith, ◌∙◌}
 use Rattle.item_cells.proofs.block.Block.shift_up.Goals as goal
 
 pub take-item-requires : goal.take-item-requires

@@ -1,4 +1,4 @@
-use Rattle.std.proofs.Common.{◌+◌, ◌*◌, sym, arith, ◌∙◌}
+use Rattle.std.proofs.Common.{sym, arith, ◌∙◌}
 use Rattle.range_nodes.specs.Rows.{row_of}
 use Rattle.range_nodes.proofs.RowCells.{cell_read}
 use Rattle.range_nodes.proofs.Segments.{filled_at, seen}

@@ -1,9 +1,5 @@
-use Rattle.std.proofs.Common.{◌+◌, ◌*◌, ◌<◌, ◌≡◌, length, map, refl, sym, arith, ◌∙◌}
-use Rattle.std.proofs.Math.ListN.{set, length-set}
+use Rattle.std.proofs.Common.{refl, sym, arith, ◌∙◌}
 use Rattle.range_nodes.specs.Rows.{row_of}
-use Rattle.range_nodes.specs.Segments.{IsSegment, rows_in}
-use Rattle.range_nodes.specs.declared.nodes.TheConstants.{CAPACITY}
-use Rattle.range_nodes.specs.declared.segment.TheConstants.{ROWS}
 use Rattle.range_nodes.proofs.RowCells.{cell_read}
 use Rattle.range_nodes.proofs.Segments.{filled_at, item_written, seen}
 use Rattle.range_nodes.proofs.segment.Segment.item_mut.Goals as goal

@@ -1,4 +1,4 @@
-use Rattle.std.proofs.Common.{length, arith, ◌≤◌, ◌≡◌}
+use Rattle.std.proofs.Common.{arith, ◌≡◌}
 use Rattle.range_nodes.specs.Rows.{row_of}
 use Rattle.range_nodes.proofs.Segments.{run, run_read, seen}
 use Rattle.range_nodes.proofs.segment.Segment.items.Goals as goal

@@ -1,4 +1,4 @@
-use Rattle.std.proofs.Common.{◌+◌, ◌*◌, arith}
+use Rattle.std.proofs.Common.{◌+◌, arith}
 use Rattle.range_nodes.proofs.Segments.{bare_at, filled, item_put, seen}
 use Rattle.range_nodes.proofs.segment.Segment.put.Goals as goal
 
