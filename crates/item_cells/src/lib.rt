@@ -2,7 +2,8 @@
 //!
 //! Where to find what:
 //!
-//! - a block of cells as its callers see it, a list of what each has: `src/block.rt`, `proofs/Holes.antt`
+//! - a block of cells as its callers see it, a list of what each has: `src/block.rt`,
+//!   `specs/Blocks.antt`
 //! - the memory of a block, its owner and the right to free it, with all that goes through a pointer:
 //!   `src/cells.rt`, `specs/{Lends,Ownership,Places}.antt`, `proofs/{Crosses,Memory,Sharing}.antt`
 #![tactic(auto)]
