@@ -1,5 +1,5 @@
-use Rattle.std.proofs.Common.{◌≡◌, ◌+◌, ◌-◌, ◌≤◌, length, ap, arith, ◌∙◌, drop}
-use Rattle.std.proofs.lemmas.List.{length-drop}
+use Rattle.std.proofs.Common.{◌≡◌, ◌+◌, ◌-◌, length, ap, arith, ◌∙◌, take, drop}
+use Rattle.std.proofs.lemmas.List.{length-drop, take_all}
 use Rattle.range_nodes.specs.Heap.{items_of, node_of}
 use Rattle.range_tree.specs.Holding.{box_place, box_rank, good_home, rank_is}
 use Rattle.range_tree.proofs.LeafItems.{at_index, leaf_rest}
@@ -10,6 +10,14 @@ use Rattle.range_tree.proofs.btree.BoxStorageStorage.chunk_from.Goals as goal
 
 pub items-items-requires : goal.items-items-requires
 items-items-requires g c = (tree_leaf c.requires.is).present
+
+pub offset_bounds-items-p : goal.offset_bounds-items-p
+offset_bounds-items-p g c =
+    omega (arith, (tree_leaf c.requires.is).within, ap length c.items-items.ensures.items)
+
+pub slice_bounds-of_items-count : goal.slice_bounds-of_items-count
+slice_bounds-of_items-count g c =
+    omega (arith, (tree_leaf c.requires.is).within, ap length c.items-items.ensures.items)
 
 pub slice_bounds-of_items-start : goal.slice_bounds-of_items-start
 slice_bounds-of_items-start g c =
@@ -31,7 +39,10 @@ returns g c =
     let items = items_of (node_of s.nodes p.leaf) in
     let low = (tree_leaf c.requires.is).within in
     let run : c.of_items.result ≡ drop p.index items =
-    c.of_items.ensures ∙ ap (drop p.index) c.items-items.ensures.items in
+    c.of_items.ensures
+    ∙ ap (λ l. take (length l - p.index) (drop p.index l)) c.items-items.ensures.items
+    ∙ take_all (length items - p.index) (drop p.index items)
+    (omega (arith, length-drop p.index items)) in
     let many : length c.of_items.result ≡ length items - p.index =
     ap length run ∙ length-drop p.index items in
     let behind : box_place s p ≡ box_rank s p + 1 =

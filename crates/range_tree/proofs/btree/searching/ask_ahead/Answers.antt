@@ -1,4 +1,4 @@
-use Rattle.std.proofs.Common.{◌≡◌, ◌+◌, ◌-◌, ◌<◌, ◌≤◌, true, false, count_by, length, sym, arith, ap, ◌∙◌}
+use Rattle.std.proofs.Common.{◌≡◌, ◌+◌, ◌-◌, ◌<◌, ◌≤◌, true, false, count_by, length, arith, ap, ◌∙◌}
 use Rattle.range_tree.proofs.Front.{told}
 use Rattle.range_tree.proofs.btree.searching.ask_ahead.Given.{Over}
 use Rattle.range_tree.proofs.btree.searching.ask_ahead.Goals as goal
