@@ -5,10 +5,10 @@ ghost use Rattle.range_map.specs.Overlays.{IsOverlaid, IsRestricted, IsWithout};
 ghost use Rattle.range_map.specs.PartWay.{AreUnboundAfter, BeforeOne, BeforeOneGap};
 ghost use Rattle.range_runs.specs.Canonical.{IsCanonical};
 
-use crate::map::RangeMap;
+use crate::map::{GapsWithin, RangeMap};
 use range_algebra::any::AnyRange;
 use range_edit::error::MapError;
-use range_keys::traits::Measure;
+use range_keys::traits::{Measure, PartialEnum};
 use range_store::storage::{Item, Storage};
 
 impl<K: Measure + Clone, V: Eq + Clone, C: Storage<Item<AnyRange<K>, V>>> RangeMap<K, V, C> {
@@ -140,12 +140,7 @@ impl<K: Measure + Clone, V: Eq + Clone, C: Storage<Item<AnyRange<K>, V>>> RangeM
         let all = (..).into();
         let mut gaps = other.gaps_within::<AnyRange<K>>(&all);
         for turn in 0..other.range_count() / 4 + 2 {
-            let next = if turn % 2 == 0 {
-                gaps.next()
-            } else {
-                gaps.next_back()
-            };
-            let Some(gap) = next else {
+            let Some(gap) = next_outer(&mut gaps, turn) else {
                 return false;
             };
             let Ok(gap) = gap.cloned() else {
@@ -168,6 +163,18 @@ impl<K: Measure + Clone, V: Eq + Clone, C: Storage<Item<AnyRange<K>, V>>> RangeM
             }
         }
         0
+    }
+}
+
+// The next gap from one end, or in each other turn from the other.
+fn next_outer<'a, K: PartialEnum, W: Eq + Drop, D: Storage<Item<AnyRange<K>, W>>>(
+    gaps: &mut GapsWithin<'a, K, W, D>,
+    turn: usize,
+) -> Option<AnyRange<&'a K>> {
+    if turn % 2 == 0 {
+        gaps.next()
+    } else {
+        gaps.next_back()
     }
 }
 
