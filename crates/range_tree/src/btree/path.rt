@@ -11,7 +11,7 @@ use range_nodes::nodes::{CAPACITY, Nodes};
 // A path has a digit for each level: the child through which it goes, from the lowest digit on.
 pub const PATH_BASE: u64 = 16;
 
-// As many digits has a path. No tree has more levels, since it has at most `MAX_LEN` items.
+// How many digits a path has. No tree has more levels, since it has at most `MAX_LEN` items.
 pub const MAX_LEVELS: usize = 16;
 
 /// A place between two items of a `BoxStorage`: an index in a leaf, and the path to that. It stands
