@@ -9,8 +9,9 @@ use item_cells::Block;
 use std::alloc::{AllocError, Global};
 use std::marker::Model;
 
-/// How many rows lie in one block.
-pub const ROWS: usize = 8;
+/// How many rows lie in one block: so many that it spans several pages, since an allocator may write
+/// to the first one.
+pub const ROWS: usize = 64;
 
 // How many cells these rows have.
 pub const CELLS: usize = CAPACITY * ROWS;
