@@ -8,4 +8,4 @@ returns-in-Some-clause-answered g c =
     λ _. first_answered g.P.LineProgram.answers _ _ (g.R.Read.remaining c.consume.new.self) _ _ _
     c.in-Ok.available.now c.in-Some.at _ _ _ c.in-Ok.ensures.front filled.0 filled.1
     c.consume.ensures.bytes c.in-Some.ensures (search rules)
-    c.in_ok-answer_line-in-Ok.ensures.answered
+    c.in_ok-answer_line.ensures.answered
