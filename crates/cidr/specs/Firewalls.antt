@@ -1,5 +1,6 @@
 -- Lists as files that `ipset restore` and `nft -f` read.
-use Rattle.std.specs.Prelude.{◌≡◌, ℕ, List, [], ◌++◌, Option, None, Some, codes, string_bytes}
+use Rattle.std.specs.Prelude.{◌≡◌, ℕ, ◌⊎◌, List, [], ◌++◌, Option, None, Some, codes, string_bytes}
+use Rattle.btree_range_map.specs.Holding.{box_items}
 use Rattle.address_text.specs.declared.family.Family.{Family}
 use Rattle.address_text.specs.declared.family.Family.TheVariants.{V4, V6}
 use Rattle.address_lists.specs.Split.{IsFamilySplit}
@@ -27,31 +28,43 @@ nft_head table set family = codes "add table inet " ++ table ++ codes "\nadd set
     ++ codes " " ++ set ++ codes " { type " ++ nft_kind family
     ++ codes "; flags interval; }\nflush set inet " ++ table ++ codes " " ++ set ++ codes "\n"
 
-abbrev pub head_of : Firewall → Family → List ℕ
-head_of (Ipset name) family = ipset_head (set_name name.now family) family
-head_of (Nft table name) family = nft_head table.now (set_name name.now family) family
+-- what a file has of a set for `ipset`: a line for each prefix, which adds it. It takes none of
+-- length 0
+pub record IsIpsetText (set : List ℕ) (family : Family) (text : SetText) : Type 0 where
+  pub head : string_bytes text.head ≡ ipset_head set family
+  pub opening : string_bytes text.opening ≡ []
+  pub closing : text.closing.now ≡ []
+  pub before : string_bytes text.before ≡ codes "add " ++ set ++ codes " "
+  pub after : text.after.now ≡ []
+  pub least : text.least ≡ 1
 
--- what stands before each prefix of a set, and behind it
-abbrev pub before_of : Firewall → Family → List ℕ
-before_of (Ipset name) family = codes "add " ++ set_name name.now family ++ codes " "
-before_of (Nft table name) family = codes "add element inet " ++ table.now ++ codes " "
-    ++ set_name name.now family ++ codes " { "
-
-abbrev pub after_of : Firewall → List ℕ
-after_of (Ipset name) = []
-after_of (Nft table name) = codes " }"
+-- and for `nft`: one command that adds all prefixes
+pub record IsNftText (table set : List ℕ) (family : Family) (text : SetText) : Type 0 where
+  pub head : string_bytes text.head ≡ nft_head table set family
+  pub opening : string_bytes text.opening
+      ≡ codes "add element inet " ++ table ++ codes " " ++ set ++ codes " {\n"
+  pub closing : text.closing.now ≡ codes "}\n"
+  pub before : string_bytes text.before ≡ []
+  pub after : text.after.now ≡ codes ","
+  pub least : text.least ≡ 0
 
 -- the texts of the set of a family
 abbrev pub IsSetText : Firewall → Family → SetText → Type 0
-IsSetText firewall family text = (string_bytes text.head ≡ head_of firewall family)
-    × (string_bytes text.before ≡ before_of firewall family) × (text.after.now ≡ after_of firewall)
+IsSetText (Ipset name) family text = IsIpsetText (set_name name.now family) family text
+IsSetText (Nft table name) family text =
+    IsNftText table.now (set_name name.now family) family text
 
--- the lines that make a set, and one for each of the fewest prefixes of its addresses, of which
--- that of all is divided in two
+-- the list has no address of the family
+abbrev pub HasNone : Addresses → Family → Type 0
+HasNone list V4 = box_items list.v4 ≡ []
+HasNone list V6 = box_items list.v6 ≡ []
+
+-- the lines that make a set, and those of the fewest prefixes of its addresses, where it has any
 abbrev pub IsFilled : SetText → Family → Addresses → List ℕ → Type 0
-IsFilled set family list text = (lines : List ℕ)
-    × IsFamilySplit (string_bytes set.before) set.after.now family 1 list lines
-    × (text ≡ string_bytes set.head ++ lines)
+IsFilled set family list text = (HasNone list family × (text ≡ string_bytes set.head))
+    ⊎ ((¬ HasNone list family) × (lines : List ℕ)
+    × IsFamilySplit (string_bytes set.before) set.after.now family set.least list lines
+    × (text ≡ string_bytes set.head ++ string_bytes set.opening ++ lines ++ set.closing.now))
 
 -- the set of one family
 abbrev pub IsSetFile : Firewall → Family → Addresses → List ℕ → Type 0

@@ -1,9 +1,9 @@
 //! Lists as files that `ipset restore` and `nft -f` read.
 
-ghost use Rattle.std.specs.Prelude.{◌≡◌, IfOk, OnOk, string_bytes};
+ghost use Rattle.std.specs.Prelude.{◌≡◌, ◌↔◌, IfOk, IsTrue, OnOk, string_bytes};
 ghost use Rattle.line_program.specs.Listing.{Writes};
 ghost use Rattle.address_text.specs.declared.family.Family.TheVariants.{V4, V6};
-ghost use Rattle.cidr.specs.Firewalls.{IsFilled, IsFirewallFile, IsSetText, ipset_head, nft_head, nft_kind, set_name};
+ghost use Rattle.cidr.specs.Firewalls.{HasNone, IsFilled, IsFirewallFile, IsIpsetText, IsNftText, IsSetText, ipset_head, nft_head, nft_kind, set_name};
 ghost use Rattle.cidr.specs.declared.firewall.Firewall.{Firewall};
 
 use address_lists::{Addresses, write_family_prefixes};
@@ -26,9 +26,14 @@ pub enum Firewall<'a> {
 pub struct SetText {
     /// The lines that make the set.
     head: String,
-    /// What stands before and behind each of its prefixes.
+    /// What stands before and behind all of its prefixes, where it has any.
+    opening: String,
+    closing: &'static str,
+    /// What stands before and behind each.
     before: String,
     after: &'static str,
+    /// None is shorter.
+    least: u8,
 }
 
 fn named(alloc: Global, name: &str, family: Family) -> Result<String, AllocError>
@@ -68,6 +73,37 @@ fn nft_head(alloc: Global, table: &str, set: &str, family: Family) -> Result<Str
     )
 }
 
+fn ipset_text(alloc: Global, set: &str, family: Family) -> Result<SetText, AllocError>
+    ensures { IfOk result (λ text. IsIpsetText set.now family text) }
+{
+    Ok(SetText {
+        head: ipset_head(alloc, set, family)?,
+        opening: String::new(alloc),
+        closing: "",
+        before: format!(in alloc; "add {set} ")?,
+        after: "",
+        least: 1,
+    })
+}
+
+fn nft_text(
+    alloc: Global,
+    table: &str,
+    set: &str,
+    family: Family,
+) -> Result<SetText, AllocError>
+    ensures { IfOk result (λ text. IsNftText table.now set.now family text) }
+{
+    Ok(SetText {
+        head: nft_head(alloc, table, set, family)?,
+        opening: format!(in alloc; "add element inet {table} {set} {{\n")?,
+        closing: "}\n",
+        before: String::new(alloc),
+        after: ",",
+        least: 0,
+    })
+}
+
 /// What a file has of the set of one family. Allocates.
 pub fn set_text(
     alloc: Global,
@@ -79,20 +115,21 @@ pub fn set_text(
     match firewall {
         Firewall::Ipset(name) => {
             let set = named(alloc, name, family)?;
-            Ok(SetText {
-                head: ipset_head(alloc, set.as_str(), family)?,
-                before: format!(in alloc; "add {set} ")?,
-                after: "",
-            })
+            ipset_text(alloc, set.as_str(), family)
         }
         Firewall::Nft(table, name) => {
             let set = named(alloc, name, family)?;
-            Ok(SetText {
-                head: nft_head(alloc, table, set.as_str(), family)?,
-                before: format!(in alloc; "add element inet {table} {set} {{ ")?,
-                after: " }",
-            })
+            nft_text(alloc, table, set.as_str(), family)
         }
+    }
+}
+
+fn has_none(list: &Addresses, family: Family) -> bool
+    ensures { IsTrue result ↔ HasNone list.now family }
+{
+    match family {
+        Family::V4 => list.v4.is_empty(),
+        Family::V6 => list.v6.is_empty(),
     }
 }
 
@@ -106,16 +143,19 @@ fn write_set<W: Write>(
         (IsFilled text.now family list.now)) }
 {
     out.write_all(text.head.as_bytes())?;
+    if has_none(list, family) {
+        return Ok(());
+    }
+    out.write_all(text.opening.as_bytes())?;
     let around = Around {
         before: text.before.as_str(),
         after: text.after,
     };
-    write_family_prefixes(list, family, 1, around, out)
+    write_family_prefixes(list, family, text.least, around, out)?;
+    out.write_all(text.closing.as_bytes())
 }
 
 /// Writes the sets of both families, IPv4 first, or that of one alone. Allocates nothing.
-///
-/// No prefix has the length 0, which neither program takes.
 pub fn write_sets<W: Write>(
     v4: &SetText,
     v6: &SetText,
