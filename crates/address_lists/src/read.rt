@@ -63,8 +63,6 @@ impl fmt::Display for ListError {
 }
 
 impl From<ReadError> for ListError {
-    ghost use Rattle.std.specs.Prelude.{◌≡◌, ◌⊎◌};
-
     ghost from_gives = { λ _ error. (error ≡ Unread) ⊎ (error ≡ Memory) };
 
     fn from(error: ReadError) -> ListError {

@@ -86,12 +86,7 @@ fn ipset_text(alloc: Global, set: &str, family: Family) -> Result<SetText, Alloc
     })
 }
 
-fn nft_text(
-    alloc: Global,
-    table: &str,
-    set: &str,
-    family: Family,
-) -> Result<SetText, AllocError>
+fn nft_text(alloc: Global, table: &str, set: &str, family: Family) -> Result<SetText, AllocError>
     ensures { IfOk result (λ text. IsNftText table.now set.now family text) }
 {
     Ok(SetText {

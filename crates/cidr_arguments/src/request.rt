@@ -175,9 +175,8 @@ fn form_of<'a>(name: &str, found: &ArgMatches<'a>) -> Form<'a> {
 fn is_set_name(text: &str) -> bool {
     text.len() <= 28
         && text.starts_with(|first: char| first.is_ascii_alphabetic())
-        && text
-            .bytes()
-            .all(|byte| byte.is_ascii_alphanumeric() || matches!(byte, b'_' | b'-' | b'.'))
+        && text.bytes().all(|byte| byte.is_ascii_alphanumeric()
+            || matches!(byte, b'_' | b'-' | b'.'))
 }
 
 /// The first of the names that is none of a set or of a table.

@@ -14,7 +14,7 @@ pub returns-in_err-answer_line-clause-unread : goal.returns-in_err-answer_line-c
 returns-in_err-answer_line-clause-unread g c = λ unreadable.
     let why = c.in_err-answer_line.ensures.unread (search rules) in (
       why.0,
-      why.1.0,
+      why.1,
       first_refused g.R.LineRead.fails (g.R.Read.remaining c.args.input.now) c.in-Ok.available.now
-          c.in-Some.at c.in-Ok.ensures.front c.in-Some.ensures why.1.1,
+          c.in-Some.at c.in-Ok.ensures.front c.in-Some.ensures why.2,
     )
