@@ -15,7 +15,7 @@ use Rattle.address_keys.specs.Addresses.{ipv4_at, ipv6_at}
 use Rattle.address_keys.specs.Json.{ipv4_shape, ipv6_shape, reads_ipv4, reads_ipv6}
 use Rattle.address_text.specs.declared.family.Family.{Family}
 use Rattle.address_text.specs.declared.family.Family.TheVariants.{V4, V6}
-use Rattle.address_lists.specs.Json.{IsDocument, IsJsonReason, IsListRead, IsListShape, IsSetReason, IsSetShape, IsValueReason, member_of, runs_shape, span_shape}
+use Rattle.address_lists.specs.Json.{IsDocument, IsJsonReason, IsListRead, IsListShape, IsMemberReason, IsSetReason, IsSetShape, IsValueReason, member_of, runs_shape, span_shape}
 use Rattle.address_lists.specs.declared.addresses.Addresses.{Addresses}
 use Rattle.address_lists.specs.declared.json.JsonFault.TheVariants.{Members, Set, Text}
 use Rattle.address_lists.specs.declared.read.ListError.{ListError}
@@ -94,6 +94,16 @@ pub v6_unread : (d set : Data) (e : ListError) → member_of V6 d ≡ Some set
     → IsSetReason V6 reads_ipv6 set e → IsValueReason d e
 v6_unread d set e is (inl memory) = subst (IsValueReason d) (sym memory) tt
 v6_unread d set e is (inr (fault, same, found)) = grind arith
+
+pub v4_member_unread : (d : Data) (member : Option Data) (e : ListError)
+    → member ≡ member_of V4 d → IsMemberReason V4 reads_ipv4 member e → IsValueReason d e
+v4_member_unread d None e same why = absurd why
+v4_member_unread d (Some set) e same why = v4_unread d set e (sym same) why
+
+pub v6_member_unread : (d : Data) (member : Option Data) (e : ListError)
+    → member ≡ member_of V6 d → IsMemberReason V6 reads_ipv6 member e → IsValueReason d e
+v6_member_unread d None e same why = absurd why
+v6_member_unread d (Some set) e same why = v6_unread d set e (sym same) why
 
 -- why the value of a text is not read
 pub value_unread : (bytes : List ℕ) (d : Data) (e : ListError) → read bytes ≡ Some d

@@ -194,6 +194,16 @@ module _ (strict : Bool) where
       bad_line bytes text seen again found number column expected some is one other nothing first
       last wrong stands
 
+  -- a line that cannot be read
+  pub other_bad : (left : Option (List ℕ)) (number : ℕ) (error : ListError)
+      → (error ≡ Unread) ⊎ (error ≡ Memory)
+      → IfSome left (λ bytes. IsBad strict bytes number error)
+  other_bad None number error other = tt
+  other_bad (Some bytes) number error (inl unread) =
+      subst (IsBad strict bytes number) (sym unread) tt
+  other_bad (Some bytes) number error (inr memory) =
+      subst (IsBad strict bytes number) (sym memory) tt
+
   -- all lines before a bad one were good
   pub fault_read : (input left : Option (List ℕ)) (number others : ℕ) (old : Addresses)
       (IsRead : Family → ℕ → Type 0) (error : ListError) → others ≡ 0

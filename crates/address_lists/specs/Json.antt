@@ -90,6 +90,11 @@ abbrev pub IsSetReason : Family → (Data → Bool) → Data → ListError → T
 IsSetReason family reads d error = (error ≡ Memory)
     ⊎ ((fault : JsonError) × (error ≡ Json (Set family fault)) × (set_fault reads d ≡ Some fault))
 
+-- why the member of a family is not read: there is one
+abbrev pub IsMemberReason : Family → (Data → Bool) → Option Data → ListError → Type 0
+IsMemberReason family reads None error = ⊥
+IsMemberReason family reads (Some d) error = IsSetReason family reads d error
+
 -- why a value is not read
 abbrev pub IsValueReason : Data → ListError → Type 0
 IsValueReason d (BadLine line column expected found) = ⊥

@@ -1,6 +1,6 @@
 //! A list as JSON: an object with the set of its addresses of either family.
 
-ghost use Rattle.std.specs.Prelude.{◌≡◌, ◌<◌, ◌^◌, ℕ, List, Err, Some, IfErr, IfOk, IfSome, IsNone, IsOk, option_map, string_bytes};
+ghost use Rattle.std.specs.Prelude.{◌≡◌, ◌<◌, ◌^◌, ℕ, List, Err, Some, IfErr, IfOk, IfSome, option_map, string_bytes};
 ghost use Rattle.std.specs.List.{AllByRecursion};
 ghost use Rattle.serde_json.specs.Read.{read};
 ghost use Rattle.serde_json.specs.View.{view};
@@ -9,7 +9,7 @@ ghost use Rattle.btree_range_map.specs.Holding.{box_items};
 ghost use Rattle.btree_range_map.specs.KeySets.{HoldsKey};
 ghost use Rattle.btree_range_map.specs.Range.{ClonesAreEqual};
 ghost use Rattle.address_prefixes.specs.Runs.{AreRuns, IsSpan};
-ghost use Rattle.address_lists.specs.Json.{IsDocument, IsJsonReason, IsListRead, IsListShape, IsListText, IsMemberRead, IsSetReason, IsValueReason, list_shape, runs_shape, span_shape};
+ghost use Rattle.address_lists.specs.Json.{IsDocument, IsJsonReason, IsListRead, IsListShape, IsListText, IsMemberRead, IsMemberReason, IsSetReason, IsValueReason, list_shape, runs_shape, span_shape};
 ghost use Rattle.address_lists.specs.declared.read.ListError.TheVariants.{Unread};
 
 use crate::addresses::{Addresses, empty_set};
@@ -150,9 +150,8 @@ fn member_set<A: FamilyAddress + Json>(
     requires { ClonesAreEqual A.is_clone A.eq }
     ensures read { IfOk result (λ set. IsMemberRead A.is_read A.order
         (option_map (λ v. view v.now) member) (box_items set)) }
-    ensures fault { IfErr result (λ error. IfSome member
-        (λ value. IsSetReason A.its_family A.reads (view value.now) error)) }
-    ensures some { IsNone member → IsOk result }
+    ensures fault { IfErr result (IsMemberReason A.its_family A.reads
+        (option_map (λ v. view v.now) member)) }
 {
     match member {
         Some(value) => set_of(alloc, value),

@@ -1,5 +1,5 @@
 use Rattle.std.proofs.Common.{Ok, ap}
-use Rattle.address_lists.proofs.Reading.{bad_found}
+use Rattle.address_lists.proofs.Reading.{bad_found, other_bad}
 use Rattle.address_lists.proofs.read.read_line.Goals as goal
 
 pub returns-in-Refused-clause-bad : goal.returns-in-Refused-clause-bad
@@ -11,3 +11,8 @@ returns-in-Refused-clause-bad g c =
     c.as_slice-line.ensures.value (c.in-Ok-true.ensures.read (ap Ok c.in-Ok-true.field-0-test))
     c.in_default-line_of.ensures.cases c.fault_of-fault.ensures.first c.fault_of-fault.ensures.last
     c.fault_of-fault.ensures.expected c.excerpt_at-found.ensures
+
+pub returns-in-Err-clause-bad : goal.returns-in-Err-clause-bad
+returns-in-Err-clause-bad g c =
+    other_bad c.args.strict (g.R.Read.remaining c.args.input.now) c.args.number c.from.result
+    c.from.ensures
