@@ -59,7 +59,7 @@ pub fn write_prefixes_around<W: Write>(
     out: &mut W,
 ) -> io::Result<()>
     ensures { OnOk result (Writes (W.contents out.old) (W.contents out.new)
-        (IsPrinted around.before.now around.after.now list.now)) }
+        (IsPrinted around.entry.before.now around.entry.after.now list.now)) }
 {
     write_split_prefixes(list, 0, around, out)
 }

@@ -34,7 +34,8 @@ fn write_each<W: Write>(
     requires ordered { first ≤ last }
     requires fits { last < 2 ^ width family }
     ensures { OnOk result (Writes (W.contents out.old) (W.contents out.new)
-        (λ text. text ≡ series (address_line around.before.now around.after.now family) 1
+        (λ text. text ≡ series
+        (address_line around.entry.before.now around.entry.after.now family) 1
         (last + 1 - first) first)) }
 {
     let mut number = first;
@@ -54,7 +55,7 @@ fn write_range<W: Write>(
 ) -> io::Result<()>
     requires { (range.0 ≤ range.1) × (range.1 < 2 ^ width family) }
     ensures { OnOk result (Writes (W.contents out.old) (W.contents out.new)
-        (IsRangeText around.before.now around.after.now spelling family range)) }
+        (IsRangeText around.entry.before.now around.entry.after.now spelling family range)) }
 {
     let (first, last) = range;
     match spelling {
@@ -73,7 +74,8 @@ fn write_all<'a, A: Address + 'a, W: Write>(
     requires { AllByRecursion (λ (range : ℕ × ℕ). (range.0 ≤ range.1)
         × (range.1 < 2 ^ width family)) ranges }
     ensures { OnOk result (Writes (W.contents out.old) (W.contents out.new)
-        (SpellsEach (IsRangeText around.before.now around.after.now spelling family) ranges.entry)) }
+        (SpellsEach (IsRangeText around.entry.before.now around.entry.after.now spelling family)
+        ranges.entry)) }
 {
     while let Some(range) = ranges.next() {
         write_range(spelling, around, family, range, out)?;
@@ -88,7 +90,7 @@ fn write_list<W: Write>(
     out: &mut W,
 ) -> io::Result<()>
     ensures { OnOk result (Writes (W.contents out.old) (W.contents out.new)
-        (IsPrintedAs around.before.now around.after.now spelling list.now)) }
+        (IsPrintedAs around.entry.before.now around.entry.after.now spelling list.now)) }
 {
     write_all(spelling, around, Family::V4, runs_of(&list.v4), out)?;
     write_all(spelling, around, Family::V6, runs_of(&list.v6), out)
@@ -100,7 +102,7 @@ fn write_list<W: Write>(
 /// Allocates nothing.
 pub fn write_ranges<W: Write>(list: &Addresses, around: Around<'_>, out: &mut W) -> io::Result<()>
     ensures { OnOk result (Writes (W.contents out.old) (W.contents out.new)
-        (IsPrintedAs around.before.now around.after.now Ends list.now)) }
+        (IsPrintedAs around.entry.before.now around.entry.after.now Ends list.now)) }
 {
     write_list(Spelling::Ends, list, around, out)
 }
@@ -110,7 +112,7 @@ pub fn write_ranges<W: Write>(list: &Addresses, around: Around<'_>, out: &mut W)
 /// Allocates nothing, however many lines are written.
 pub fn write_singles<W: Write>(list: &Addresses, around: Around<'_>, out: &mut W) -> io::Result<()>
     ensures { OnOk result (Writes (W.contents out.old) (W.contents out.new)
-        (IsPrintedAs around.before.now around.after.now Singles list.now)) }
+        (IsPrintedAs around.entry.before.now around.entry.after.now Singles list.now)) }
 {
     write_list(Spelling::Singles, list, around, out)
 }

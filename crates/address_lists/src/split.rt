@@ -31,7 +31,8 @@ fn write_parts<W: Write>(
     requires longer { shorter < length }
     requires short { length ≤ width family }
     ensures { OnOk result (Writes (W.contents out.old) (W.contents out.new)
-        (λ text. text ≡ part_lines around.before.now around.after.now family length (2 ^ (length - shorter)) ends.0)) }
+        (λ text. text ≡ part_lines around.entry.before.now around.entry.after.now family
+        length (2 ^ (length - shorter)) ends.0)) }
 {
     let (first, last) = ends;
     let others = greatest_of(family.width() - length);
@@ -56,7 +57,8 @@ fn write_split<W: Write>(
     requires whole { ends.1 + 1 ≡ ends.0 + 2 ^ (width family - prefix_length) }
     requires fits { ends.1 < 2 ^ width family }
     ensures { OnOk result (Writes (W.contents out.old) (W.contents out.new)
-        (IsSplitText around.before.now around.after.now family length prefix_length ends.0)) }
+        (IsSplitText around.entry.before.now around.entry.after.now family length
+        prefix_length ends.0)) }
 {
     if prefix_length < length && length <= family.width() {
         write_parts(around, family, prefix_length, ends, length, out)
@@ -73,7 +75,8 @@ fn write_split_prefix<A: FamilyAddress, W: Write>(
 ) -> io::Result<()>
     requires { IsPrefix A.number A.WIDTH prefix }
     ensures { OnOk result (Writes (W.contents out.old) (W.contents out.new)
-        (IsSplit around.before.now around.after.now A.its_family A.number length prefix)) }
+        (IsSplit around.entry.before.now around.entry.after.now A.its_family A.number
+        length prefix)) }
 {
     prefix.network.known();
     prefix.last.known();
@@ -97,8 +100,8 @@ fn write_all<'a, A: FamilyAddress + 'a, W: Write>(
 ) -> io::Result<()>
     requires { AllByRecursion (IsPrefix A.number A.WIDTH) prefixes }
     ensures { OnOk result (Writes (W.contents out.old) (W.contents out.new)
-        (SpellsEach (IsSplit around.before.now around.after.now A.its_family A.number length)
-        prefixes.entry)) }
+        (SpellsEach (IsSplit around.entry.before.now around.entry.after.now A.its_family
+        A.number length) prefixes.entry)) }
 {
     while let Some(prefix) = prefixes.next() {
         write_split_prefix(around, prefix, length, out)?;
@@ -113,8 +116,8 @@ fn write_set<A: FamilyAddress, W: Write>(
     out: &mut W,
 ) -> io::Result<()>
     ensures { OnOk result (Writes (W.contents out.old) (W.contents out.new)
-        (AreSplit around.before.now around.after.now A.its_family A.number length A.order A.WIDTH
-        (item_ranges (box_items set.now)))) }
+        (AreSplit around.entry.before.now around.entry.after.now A.its_family A.number
+        length A.order A.WIDTH (item_ranges (box_items set.now)))) }
 {
     write_all(around, set.prefixes(), length, out)
 }
@@ -129,7 +132,7 @@ pub fn write_family_prefixes<W: Write>(
     out: &mut W,
 ) -> io::Result<()>
     ensures { OnOk result (Writes (W.contents out.old) (W.contents out.new)
-        (IsFamilySplit around.before.now around.after.now family length list.now)) }
+        (IsFamilySplit around.entry.before.now around.entry.after.now family length list.now)) }
 {
     match family {
         Family::V4 => write_set(&list.v4, length, around, out),
@@ -149,7 +152,7 @@ pub fn write_split_prefixes<W: Write>(
     out: &mut W,
 ) -> io::Result<()>
     ensures { OnOk result (Writes (W.contents out.old) (W.contents out.new)
-        (IsPrintedSplit around.before.now around.after.now length list.now)) }
+        (IsPrintedSplit around.entry.before.now around.entry.after.now length list.now)) }
 {
     write_set(&list.v4, length, around, out)?;
     write_set(&list.v6, length, around, out)

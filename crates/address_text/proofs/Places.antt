@@ -14,8 +14,8 @@ AreCounted text rest number = (line column : ℕ) → IsPlace rest line column
 
 pub none_counted : (text : List ℕ) → AreCounted text text 1
 none_counted text line column is before same =
-    let none : before ≡ 0 = omega (arith, same) in
-    subst (λ n. IsPlace text (n + line) column) (sym none) is
+    let all : line ≡ before + line = omega (arith, same) in
+    subst (λ n. IsPlace text n column) all is
 
 pub line_counted : (text rest more : List ℕ) (number : ℕ) → 1 ≤ number
     → AreCounted text rest number → HasByte ends_line rest → more ≡ after_first ends_line rest

@@ -32,7 +32,7 @@ pub fn write_prefix_line<W: Write>(
 ) -> io::Result<()>
     requires { network < 2 ^ width family }
     ensures { OnOk result (Appends (W.contents out.old) (W.contents out.new)
-        (prefix_line around.before.now around.after.now family network length)) }
+        (prefix_line around.entry.before.now around.entry.after.now family network length)) }
 {
     let Around { before, after } = around;
     let network = family.address(network);
@@ -50,7 +50,7 @@ pub fn write_range_line<W: Write>(
     requires first { first < 2 ^ width family }
     requires last { last < 2 ^ width family }
     ensures { OnOk result (Appends (W.contents out.old) (W.contents out.new)
-        (range_line around.before.now around.after.now family first last)) }
+        (range_line around.entry.before.now around.entry.after.now family first last)) }
 {
     let Around { before, after } = around;
     let first = family.address(first);
@@ -67,7 +67,7 @@ pub fn write_address_line<W: Write>(
 ) -> io::Result<()>
     requires { bits < 2 ^ width family }
     ensures { OnOk result (Appends (W.contents out.old) (W.contents out.new)
-        (address_line around.before.now around.after.now family bits)) }
+        (address_line around.entry.before.now around.entry.after.now family bits)) }
 {
     let Around { before, after } = around;
     let address = family.address(bits);
@@ -85,7 +85,7 @@ pub fn write_span_line<W: Write>(
     requires first { first < 2 ^ width family }
     requires last { last < 2 ^ width family }
     ensures { OnOk result (Appends (W.contents out.old) (W.contents out.new)
-        (span_line around.before.now around.after.now family first last)) }
+        (span_line around.entry.before.now around.entry.after.now family first last)) }
 {
     if first == last {
         write_address_line(around, family, first, out)

@@ -105,7 +105,7 @@ pub fn set_text(
     firewall: Firewall<'_>,
     family: Family,
 ) -> Result<SetText, AllocError>
-    ensures { IfOk result (λ text. IsSetText firewall family text) }
+    ensures { IfOk result (λ text. IsSetText firewall.entry family text) }
 {
     match firewall {
         Firewall::Ipset(name) => {

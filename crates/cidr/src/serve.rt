@@ -243,7 +243,7 @@ fn write_lines<W: Write>(
     out: &mut W,
 ) -> io::Result<()>
     ensures { OnOk result (Writes (W.contents out.old) (W.contents out.new)
-        (AreShown around.before.now around.after.now lines list.now)) }
+        (AreShown around.entry.before.now around.entry.after.now lines list.now)) }
 {
     match lines {
         Lines::Prefixes => write_prefixes_around(list, around, out),
@@ -261,7 +261,7 @@ fn print_lines<W: Write>(
     out: &mut W,
 ) -> Result<(), Stop>
     ensures printed { OnOk result (Writes (W.contents out.old) (W.contents out.new)
-        (AreShown around.before.now around.after.now lines list.now)) }
+        (AreShown around.entry.before.now around.entry.after.now lines list.now)) }
     ensures failed { IfErr result (λ stop. stop ≡ Unwritable) }
 {
     match write_lines(lines, around, list, out) {
@@ -321,7 +321,7 @@ fn print_firewall<W: Write>(
     out: &mut W,
 ) -> Result<(), Stop>
     ensures printed { OnOk result (Writes (W.contents out.old) (W.contents out.new)
-        (IsFirewallFile firewall only list.now)) }
+        (IsFirewallFile firewall.entry only list.now)) }
     ensures failed { IfErr result (λ stop. (stop ≡ Memory) ⊎ (stop ≡ Unwritable)) }
     ensures silent { result ≢ Err Unwritable → OnErr result (out.new ≡ out.old) }
 {
@@ -341,7 +341,7 @@ fn print<W: Write>(
     out: &mut W,
 ) -> Result<(), Stop>
     ensures printed { OnOk result (Writes (W.contents out.old) (W.contents out.new)
-        (IsShown output.form output.only list.now)) }
+        (IsShown output.entry.form output.entry.only list.now)) }
     ensures failed { IfErr result (λ stop. (stop ≡ Memory) ⊎ (stop ≡ Unwritable)) }
     ensures silent { result ≢ Err Unwritable → OnErr result (out.new ≡ out.old) }
 {
@@ -378,8 +378,9 @@ pub fn serve<R: LineRead + Drop, W: Write>(
         → AreKnown (map (λ s. R.remaining s.reader) sources.items) files
         → (lists : List (Addresses × ℕ)) × (list : Addresses) × AreLists reading files lists
         × (left_out.new.items ≡ left_out.old.items ++ left_out_of lists)
-        × HasJust list (Kept output.only (IsAnswer command lists))
-        × Writes (W.contents out.old) (W.contents out.new) (IsShown output.form output.only list)) }
+        × HasJust list (Kept output.entry.only (IsAnswer command lists))
+        × Writes (W.contents out.old) (W.contents out.new)
+        (IsShown output.entry.form output.entry.only list)) }
     ensures silent { result ≢ Err Unwritable → OnErr result (out.new ≡ out.old) }
     ensures bad { IfErr result (λ stop. (files : List (List ℕ))
         → AreKnown (map (λ s. R.remaining s.reader) sources.items) files

@@ -42,8 +42,8 @@ enum Kind {
     Length,
     /// An option with a text of any kind. Of the options of a group at most one may be given.
     Text(&'static [&'static str]),
-    /// An option with so many names. Of the options of a group at most one may be given.
-    Names(&'static str, usize, &'static [&'static str]),
+    /// An option with names of these kinds. Of the options of a group at most one may be given.
+    Names(&'static [&'static str], &'static [&'static str]),
 }
 
 /// The name of what a command takes, its kind, and its help.
@@ -112,14 +112,14 @@ const SUFFIX: Taken = (
 
 const IPSET: Taken = (
     "ipset",
-    Kind::Names("NAME", 1, &["form", "before", "behind"]),
+    Kind::Names(&["NAME"], &["form", "before", "behind"]),
     "Print what ipset restore reads: the sets NAME_v4 and NAME_v6",
 );
 
 const NFT: Taken = (
     "nft",
-    Kind::Names("NAME", 2, &["form", "before", "behind"]),
-    "Print what nft -f reads: of a table and a name, the sets NAME_v4 and NAME_v6 of the table",
+    Kind::Names(&["TABLE", "NAME"], &["form", "before", "behind"]),
+    "Print what nft -f reads: the sets NAME_v4 and NAME_v6 of a table",
 );
 
 const WITHOUT: Taken = (
@@ -292,11 +292,9 @@ fn argument<'a>((name, kind, help): Taken, alloc: Global) -> Result<Arg<'a>, All
         Kind::List(action) => Ok(arg.long(name).action(action).value_name("FILE")),
         Kind::Length => Ok(length(arg.long(name).required(true))),
         Kind::Text(groups) => text(arg.long(name), groups),
-        Kind::Names(value, count, groups) => {
-            arg.long(name)
-                .value_name(value)
-                .num_args(count..=count)
-                .groups(groups)
+        Kind::Names(names, groups) => {
+            let arg = arg.long(name).value_names(names);
+            arg.num_args(names.len()..=names.len()).groups(groups)
         }
     }
 }
