@@ -1,6 +1,6 @@
 //! A list as JSON: an object with the set of its addresses of either family.
 
-ghost use Rattle.std.specs.Prelude.{◌≡◌, ◌<◌, ◌^◌, ℕ, List, Err, Some, IfErr, IfOk, IfSome, option_map, string_bytes};
+ghost use Rattle.std.specs.Prelude.{◌≡◌, ◌≢◌, ◌<◌, ◌^◌, ℕ, List, Err, Some, IfErr, IfOk, IfSome, option_map, string_bytes};
 ghost use Rattle.std.specs.List.{AllByRecursion};
 ghost use Rattle.serde_json.specs.Read.{read};
 ghost use Rattle.serde_json.specs.View.{view};
@@ -149,9 +149,9 @@ fn member_set<A: FamilyAddress + Json>(
 ) -> Result<AddressSet<A>, ListError>
     requires { ClonesAreEqual A.is_clone A.eq }
     ensures read { IfOk result (λ set. IsMemberRead A.is_read A.order
-        (option_map (λ v. view v.now) member) (box_items set)) }
+        (option_map (λ v. view v.now) member.entry) (box_items set)) }
     ensures fault { IfErr result (IsMemberReason A.its_family A.reads
-        (option_map (λ v. view v.now) member)) }
+        (option_map (λ v. view v.now) member.entry)) }
 {
     match member {
         Some(value) => set_of(alloc, value),
@@ -178,6 +178,7 @@ pub fn list_from_json(alloc: Global, value: &Value) -> Result<Addresses, ListErr
 fn value_of(alloc: Global, text: &[u8]) -> Result<Value, ListError>
     ensures read { IfOk result (λ value. read text.now ≡ Some (view value)) }
     ensures fault { IfErr result (IsJsonReason text.now) }
+    ensures in_memory { IfErr result (λ error. error ≢ Unread) }
 {
     match Value::from_slice(alloc, text) {
         Ok(value) => Ok(value),

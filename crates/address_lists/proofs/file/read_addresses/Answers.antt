@@ -10,7 +10,7 @@ returns-in_err-begins_as_json-clause-fault g c =
     (none_seen c.args.strict c.args.bad_lines (g.R.Read.remaining c.args.input.now)
     c.in_err-begins_as_json.field-0.0 c.in_err-begins_as_json.ensures.reason)
 
-pub returns-else-begins_as_json-clause-fault : goal.returns-else-begins_as_json-clause-fault
-returns-else-begins_as_json-clause-fault g c =
+pub returns-else-branch-clause-fault : goal.returns-else-branch-clause-fault
+returns-else-branch-clause-fault g c =
     lines_unread c.args.strict c.args.bad_lines _ _ false c.read_lines.result
     c.in_ok-begins_as_json.ensures.kept (grind arith) refl c.read_lines.ensures.fault

@@ -9,7 +9,7 @@ returns-in-Refused-clause-bad g c =
     c.as_slice-line.result.now c.excerpt_at-found.result c.args.number
     c.fault_of-fault.result.column c.fault_of-fault.result.expected c.as_slice.ensures.value
     c.as_slice-line.ensures.value (c.in-Ok-true.ensures.read (ap Ok c.in-Ok-true.field-0-test))
-    c.in_default-line_of.ensures.cases c.fault_of-fault.ensures.first c.fault_of-fault.ensures.last
+    c.in_default.ensures.cases c.fault_of-fault.ensures.first c.fault_of-fault.ensures.last
     c.fault_of-fault.ensures.expected c.excerpt_at-found.ensures
 
 pub returns-in-Err-clause-bad : goal.returns-in-Err-clause-bad
