@@ -47,7 +47,7 @@ module _ (lexer : Lexer) (table : List TableState) (path : List ℕ) (numbers : 
   warned_all rule before now end also was = (
     was.written,
     rw append_nil at (was.goes_on []
-    (rw (drop_all rule numbers (omega (arith, end)), drop_all rule rules (omega (arith, also))) refl)),
+        (rw (drop_all rule numbers (omega (arith, end)), drop_all rule rules (omega (arith, also))) refl)),
     was.appended,
   )
 

@@ -67,8 +67,14 @@ fn table_by(words: &[String]) -> Request {
     };
     let rules = rules.as_str();
     match language.as_str() {
-        "c" => Request::Table { language: &C, rules },
-        "rust" => Request::Table { language: &RUST, rules },
+        "c" => Request::Table {
+            language: &C,
+            rules,
+        },
+        "rust" => Request::Table {
+            language: &RUST,
+            rules,
+        },
         _ => Request::Wrong,
     }
 }

@@ -56,7 +56,10 @@ fn show_place<E: Write>(path: &str, place: Place, rest: &str, err: &mut E) -> io
 {
     let Place { line, column } = place;
     if begins_with_mark(rest) {
-        writeln!(err, "{path}:{line}:{column}: no token begins with this byte order mark")
+        writeln!(
+            err,
+            "{path}:{line}:{column}: no token begins with this byte order mark"
+        )
     } else {
         writeln!(err, "{path}:{line}:{column}: no token begins here")
     }

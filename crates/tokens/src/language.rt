@@ -61,7 +61,8 @@ pub const RUST: Language = Language {
     tail: RUST_TAIL,
 };
 
-const C_HEAD: &str = "/* Written by `tokens --table c`. C of 1999 and later; a file that cuts texts includes this one:
+const C_HEAD: &str =
+    "/* Written by `tokens --table c`. C of 1999 and later; a file that cuts texts includes this one:
  *
  *     size_t len;
  *     int rule;

@@ -12,8 +12,7 @@ loop-rule-preserved g c = λ rules patterns is.
     let (rule, there) = some_at rules number (omega (arith, is.counted)) in
     let (line, writes, appended) = c.in_ok-write_rule.ensures in
     rules_more c.args.language.now rules number rule _ _ _ there
-    (c.loop-rule.invariant rules patterns is)
-    (
+    (c.loop-rule.invariant rules patterns is) (
       line,
       rule_line_is c.args.language.now rules patterns _ is number line writes rule there,
       appended,
