@@ -1,28 +1,18 @@
-use Rattle.std.proofs.Common.{◌≡◌, inr}
+use Rattle.std.proofs.Common.{◌≡◌}
 use Rattle.std.specs.Str.Lines.{lines}
 use Rattle.lexing.specs.MachineSteps.{lexer_of}
 use Rattle.tokens.proofs.Machines.{all_read}
 use Rattle.tokens.proofs.rules.read.Goals as goal
 
-pub returns-in_ok-warn-in-Some-clause-machine : goal.returns-in_ok-warn-in-Some-clause-machine
-returns-in_ok-warn-in-Some-clause-machine g c =
-    let rules = c.in_ok-rules.rules in
-    let (none, patterns, of) = c.in-Some.ensures.machine in (
-      rules.rules.items,
-      patterns,
-      all_read (lines c.args.text.now) rules.no_rule rules.rules.items c.in_ok-rules.ensures.rules none,
-      of,
-    )
-
-pub returns-in_ok-warn-in-Some-clause-warned : goal.returns-in_ok-warn-in-Some-clause-warned
-returns-in_ok-warn-in-Some-clause-warned g c =
+pub returns-in-Some-clause-warned : goal.returns-in-Some-clause-warned
+returns-in-Some-clause-warned g c =
     let rules = c.in_ok-rules.rules in
     let (none, patterns, of) = c.in-Some.ensures.machine in
     let read =
     all_read (lines c.args.text.now) rules.no_rule rules.rules.items c.in_ok-rules.ensures.rules none in
     let table = c.in_ok-table.table.states.items in
     let (said, warned, appended) =
-    c.in_ok-warn-in-Some.ensures (lexer_of c.in-Some.machine) c.in_ok-table.ensures in (
+    c.in_ok-warn.ensures (lexer_of c.in-Some.machine) c.in_ok-table.ensures in (
       said,
       (
         rules.rules.items,
@@ -35,10 +25,3 @@ returns-in_ok-warn-in-Some-clause-warned g c =
       ),
       rw c.in-Some.ensures.silent at appended,
     )
-
-pub returns-in-None-clause-refused : goal.returns-in-None-clause-refused
-returns-in-None-clause-refused g c =
-    let (said, complaint, appended) =
-    c.in-None.ensures.refused (lines c.args.text.now) c.in_ok-rules.ensures.rules
-    c.in_ok-rules.ensures.numbers in
-    (said, inr complaint, appended)

@@ -9,7 +9,7 @@ loop-at-preserved g c =
     let name = c.args.name.now in
     let there = slice_get-get_or name c.loop-at.at 0 (omega arith) in
     flat_more (quoted_byte c.args.language.now) name c.loop-at.at (get_or name c.loop-at.at 0) _ _ _ there
-    c.loop-at.invariant (rw c.as_bytes.ensures.value at c.in_ok-write_byte.ensures)
+    c.loop-at.invariant (rw c.as_bytes-bytes.ensures.value at c.in_ok-write_byte.ensures)
 
 pub returns : goal.returns
 returns g c =

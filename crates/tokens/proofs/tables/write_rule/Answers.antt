@@ -5,7 +5,7 @@ use Rattle.tokens.proofs.tables.write_rule.Goals as goal
 pub returns-then-is_skipped : goal.returns-then-is_skipped
 returns-then-is_skipped g c =
     let same : c.in-Ok.rule ≡ c.args.rule = omega (arith, c.in-Ok.ensures) in
-    let open = rw c.as_bytes.ensures.value at c.in_ok-write_all.ensures.bytes in
+    let front = rw c.as_bytes.ensures.value at c.in_ok-write_all.ensures.bytes in
     on_ok_as c.write_all-then-is_skipped.result _ _
     (λ last. (
       _,
@@ -16,14 +16,14 @@ returns-then-is_skipped g c =
         (λ t. rw (← same) (c.if-is_skipped.ensures.0 refl), λ skipped. refl),
         refl,
       ),
-      appends_then _ _ _ _ _ (appends_then _ _ _ _ _ open c.in_ok-write_name.ensures) last,
+      appends_then _ _ _ _ _ (appends_then _ _ _ _ _ front c.in_ok-write_name.ensures) last,
     ))
     (rw c.as_bytes-then-is_skipped.ensures.value at c.write_all-then-is_skipped.ensures.bytes)
 
 pub returns-else-is_skipped : goal.returns-else-is_skipped
 returns-else-is_skipped g c =
     let same : c.in-Ok.rule ≡ c.args.rule = omega (arith, c.in-Ok.ensures) in
-    let open = rw c.as_bytes.ensures.value at c.in_ok-write_all.ensures.bytes in
+    let front = rw c.as_bytes.ensures.value at c.in_ok-write_all.ensures.bytes in
     on_ok_as c.write_all-else-is_skipped.result _ _
     (λ last. (
       _,
@@ -37,6 +37,6 @@ returns-else-is_skipped g c =
         ),
         refl,
       ),
-      appends_then _ _ _ _ _ (appends_then _ _ _ _ _ open c.in_ok-write_name.ensures) last,
+      appends_then _ _ _ _ _ (appends_then _ _ _ _ _ front c.in_ok-write_name.ensures) last,
     ))
     (rw c.as_bytes-else-is_skipped.ensures.value at c.write_all-else-is_skipped.ensures.bytes)

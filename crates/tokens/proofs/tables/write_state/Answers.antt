@@ -3,13 +3,13 @@ use Rattle.tokens.proofs.tables.write_state.Goals as goal
 
 pub returns : goal.returns
 returns g c =
-    let open = rw c.as_bytes.ensures.value at c.in_ok-write_all.ensures.bytes in
+    let front = rw c.as_bytes.ensures.value at c.in_ok-write_all.ensures.bytes in
     let close = rw c.as_bytes-2.ensures.value at c.in_ok-write_all-2.ensures.bytes in
     on_ok_as c.write_all-3.result _ _
     (λ last. appends_then _ _ _ _ _
     (appends_then _ _ _ _ _
     (appends_then _ _ _ _ _
-    (appends_then _ _ _ _ _ open c.in_ok-write_leads.ensures)
+    (appends_then _ _ _ _ _ front c.in_ok-write_leads.ensures)
     close)
     c.in_ok-write_number.ensures)
     last)
