@@ -7,12 +7,12 @@ use Rattle.tokens.proofs.rules.read.Goals as goal
 pub returns-in-Some-clause-warned : goal.returns-in-Some-clause-warned
 returns-in-Some-clause-warned g c =
     let rules = c.in_ok-rules.rules in
-    let (none, patterns, of) = c.in-Some.ensures.machine in
+    let (none, patterns, of) = rw c.in-Some.is at c.in_ok-machine.ensures.machine in
     let read =
     all_read (lines c.args.text.now) rules.no_rule rules.rules.items c.in_ok-rules.ensures.rules none in
-    let table = c.in_ok-table.table.states.items in
+    let table = c.in_ok-table-in-Some.table.states.items in
     let (said, warned, appended) =
-    c.in_ok-warn.ensures (lexer_of c.in-Some.machine) c.in_ok-table.ensures in (
+    c.in_ok-warn-in-Some.ensures (lexer_of c.in-Some.machine) c.in_ok-table-in-Some.ensures in (
       said,
       (
         rules.rules.items,
@@ -20,8 +20,8 @@ returns-in-Some-clause-warned g c =
         table,
         read,
         c.in_ok-rules.ensures.numbers,
-        c.in_ok-table.ensures,
+        c.in_ok-table-in-Some.ensures,
         warned,
       ),
-      rw c.in-Some.ensures.silent at appended,
+      rw (rw c.in-Some.is at c.in_ok-machine.ensures.silent) at appended,
     )
