@@ -422,3 +422,9 @@ pub unwritable : {X : Type 0} (reading : Reading) (inputs : List (Option (List �
 unwritable reading inputs names (Ok done) failed = tt
 unwritable reading inputs names (Err stop) failed =
     λ files known. stops_unprinted reading names files stop (inr failed)
+
+pub unwritable_unread : {X : Type 0} (Fails : Type 0) (result : Result X Stop)
+    → IfErr result (λ stop. stop ≡ Unwritable)
+    → IfErr result (λ stop. (name : String Global) → stop ≡ Bad name Unread → Fails)
+unwritable_unread Fails (Ok done) failed = tt
+unwritable_unread Fails (Err stop) failed = λ name same. grind arith

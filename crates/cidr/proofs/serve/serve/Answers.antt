@@ -4,7 +4,7 @@ use Rattle.std.specs.Prelude.{map}
 use Rattle.cidr.specs.Commands.{IsAnswer}
 use Rattle.cidr.specs.Shown.{Kept}
 use Rattle.cidr.specs.declared.serve.Source.{Source}
-use Rattle.cidr.proofs.Commands.{AreUnread, answer_printed, unprinted}
+use Rattle.cidr.proofs.Commands.{AreUnread, answer_printed, nothing_unread, unprinted}
 use Rattle.cidr.proofs.Kept.{kept_answer}
 use Rattle.cidr.proofs.serve.serve.Goals as goal
 
@@ -34,3 +34,6 @@ returns-in_err-list-clause-bad g c =
     (map (λ (s : Source _). g.R.Read.remaining s.reader) all) (map (λ (s : Source _). s.name) all)
     c.in_err-list.field-0.0)
     c.into_iter.ensures.rest c.in_err-list.ensures.bad)
+
+pub returns-clause-unread : goal.returns-clause-unread
+returns-clause-unread g c = nothing_unread g.R.LineRead.fails c.print.result c.print.ensures.failed
