@@ -3,7 +3,7 @@
 ghost use Rattle.std.specs.Prelude.{◌≡◌, ◌↔◌, IfOk, IsTrue, OnOk, string_bytes};
 ghost use Rattle.line_program.specs.Listing.{Writes};
 ghost use Rattle.address_text.specs.declared.family.Family.TheVariants.{V4, V6};
-ghost use Rattle.cidr.specs.Firewalls.{HasNone, IsFilled, IsFirewallFile, IsIpsetText, IsNftText, IsSetText, ipset_head, nft_head, nft_kind, set_name};
+ghost use Rattle.cidr.specs.Firewalls.{HasNone, IsFilled, IsFirewallFile, IsIpsetText, IsNftText, IsSetText, ipset_head, nft_head, set_name};
 ghost use Rattle.cidr.specs.declared.firewall.Firewall.{Firewall};
 
 use address_lists::{Addresses, write_family_prefixes};
@@ -54,23 +54,19 @@ fn ipset_head(alloc: Global, set: &str, family: Family) -> Result<String, AllocE
     }
 }
 
-fn nft_kind(family: Family) -> &'static str
-    ensures { result.now ≡ nft_kind family }
-{
-    match family {
-        Family::V4 => "ipv4_addr",
-        Family::V6 => "ipv6_addr",
-    }
-}
-
 fn nft_head(alloc: Global, table: &str, set: &str, family: Family) -> Result<String, AllocError>
     ensures { IfOk result (λ text. string_bytes text ≡ nft_head table.now set.now family) }
 {
-    let kind = nft_kind(family);
-    format!(in alloc;
-        "add table inet {table}\nadd set inet {table} {set} {{ type {kind}; flags interval; }}\n\
-        flush set inet {table} {set}\n"
-    )
+    match family {
+        Family::V4 => format!(in alloc;
+            "add table inet {table}\nadd set inet {table} {set} {{ type ipv4_addr; flags interval; }}\n\
+            flush set inet {table} {set}\n"
+        ),
+        Family::V6 => format!(in alloc;
+            "add table inet {table}\nadd set inet {table} {set} {{ type ipv6_addr; flags interval; }}\n\
+            flush set inet {table} {set}\n"
+        ),
+    }
 }
 
 fn ipset_text(alloc: Global, set: &str, family: Family) -> Result<SetText, AllocError>

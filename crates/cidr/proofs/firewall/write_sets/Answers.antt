@@ -1,4 +1,4 @@
-use Rattle.std.proofs.Common.{◌++◌, Some, ap, refl, subst, sym, ◌∙◌}
+use Rattle.std.proofs.Common.{◌≡◌, ◌++◌, Some, arith, refl, subst, sym}
 use Rattle.std.specs.Prelude.{OnOk}
 use Rattle.line_program.specs.Listing.{Writes}
 use Rattle.line_program.proofs.Listing.{appends_then, on_ok_as}
@@ -9,16 +9,17 @@ use Rattle.cidr.proofs.firewall.write_sets.Goals as goal
 
 pub returns-in-Some-V4 : goal.returns-in-Some-V4
 returns-in-Some-V4 g c = λ firewall v4 v6.
+    let only : c.args.only ≡ Some V4 = grind arith in
     one_filled firewall V4 c.args.v4.now c.args.list.now c.args.only
     (g.W.Write.contents c.args.out.now) (g.W.Write.contents c.write_set.new.out)
-    c.write_set.result (c.in-Some-V4.is ∙ ap Some c.in-Some-V4.field-0-is) v4 c.write_set.ensures
+    c.write_set.result only v4 c.write_set.ensures
 
 pub returns-in-Some-V6 : goal.returns-in-Some-V6
 returns-in-Some-V6 g c = λ firewall v4 v6.
+    let only : c.args.only ≡ Some V6 = grind arith in
     one_filled firewall V6 c.args.v6.now c.args.list.now c.args.only
     (g.W.Write.contents c.args.out.now) (g.W.Write.contents c.write_set-in-Some-V6.new.out)
-    c.write_set-in-Some-V6.result (c.in-Some-V6.is ∙ ap Some c.in-Some-V6.field-0-is) v6
-    c.write_set-in-Some-V6.ensures
+    c.write_set-in-Some-V6.result only v6 c.write_set-in-Some-V6.ensures
 
 pub returns-in_ok-write_set-in-None : goal.returns-in_ok-write_set-in-None
 returns-in_ok-write_set-in-None g c = λ firewall v4 v6.
