@@ -19,14 +19,13 @@ abbrev pub ipset_head : List ℕ → Family → List ℕ
 ipset_head set V4 = codes "create " ++ set ++ codes " hash:net family inet maxelem 4294967295\n"
 ipset_head set V6 = codes "create " ++ set ++ codes " hash:net family inet6 maxelem 4294967295\n"
 
-abbrev pub nft_kind : Family → List ℕ
-nft_kind V4 = codes "ipv4_addr"
-nft_kind V6 = codes "ipv6_addr"
-
 abbrev pub nft_head : List ℕ → List ℕ → Family → List ℕ
-nft_head table set family = codes "add table inet " ++ table ++ codes "\nadd set inet " ++ table
-    ++ codes " " ++ set ++ codes " { type " ++ nft_kind family
-    ++ codes "; flags interval; }\nflush set inet " ++ table ++ codes " " ++ set ++ codes "\n"
+nft_head table set V4 = codes "add table inet " ++ table ++ codes "\nadd set inet " ++ table
+    ++ codes " " ++ set ++ codes " { type ipv4_addr; flags interval; }\nflush set inet " ++ table
+    ++ codes " " ++ set ++ codes "\n"
+nft_head table set V6 = codes "add table inet " ++ table ++ codes "\nadd set inet " ++ table
+    ++ codes " " ++ set ++ codes " { type ipv6_addr; flags interval; }\nflush set inet " ++ table
+    ++ codes " " ++ set ++ codes "\n"
 
 -- what a file has of a set for `ipset`: a line for each prefix, which adds it. It takes none of
 -- length 0
