@@ -261,7 +261,8 @@ fn print_text<W: Write>(text: &str, out: &mut W) -> Result<(), Stop>
     }
 }
 
-fn print<W: Write>(alloc: Global, form: Form, list: &Addresses, out: &mut W) -> Result<(), Stop>
+/// Prints a list in a form; `out` is flushed.
+pub fn print<W: Write>(alloc: Global, form: Form, list: &Addresses, out: &mut W) -> Result<(), Stop>
     ensures printed { OnOk result (Writes (W.contents out.old) (W.contents out.new)
         (IsShown form list.now)) }
     ensures failed { IfErr result (λ stop. (stop ≡ Memory) ⊎ (stop ≡ Unwritable)) }

@@ -1,5 +1,6 @@
 //! What the arguments ask for.
 
+use crate::table::{TableRequest, table_request};
 use crate::usage::{program, wrong};
 use address_text::Family;
 use clap::ArgMatches;
@@ -64,6 +65,8 @@ pub enum Task<'a> {
     LookUp(&'a str, Sought),
     /// The lines of texts are searched for its addresses.
     Search(&'a str, Vec<&'a str>, Wanted),
+    /// Tables of addresses with values are read.
+    Table(TableRequest<'a>, Output),
 }
 
 /// What is printed of the lines of texts.
@@ -92,6 +95,7 @@ impl<'a> Task<'a> {
             Task::Combine(_, files, _) => files.as_slice().get(place).copied(),
             Task::Compare(first, second) => [*first, *second].get(place).copied(),
             Task::LookUp(file, _) | Task::Search(file, _, _) => [*file].get(place).copied(),
+            Task::Table(request, _) => request.file(place),
         }
     }
 }
@@ -157,25 +161,29 @@ fn command_of(name: &str) -> Command {
 }
 
 /// Tells that a word is no address.
-fn no_address(alloc: Global, word: &str) -> Result<clap::Error, AllocError> {
+fn no_address(alloc: Global, name: &str, word: &str) -> Result<clap::Error, AllocError> {
     let message = format!(in alloc;
         "invalid value '{word}' for '<ADDRESS>...': expected an address"
     )?;
-    wrong(alloc, "has", ErrorKind::ValueValidation, message.as_str())
+    wrong(alloc, name, ErrorKind::ValueValidation, message.as_str())
 }
 
-fn address_of(alloc: Global, word: &str) -> Result<IpAddr, clap::Error> {
+fn address_of(alloc: Global, name: &str, word: &str) -> Result<IpAddr, clap::Error> {
     match word.parse::<IpAddr>() {
         Ok(address) => Ok(address),
-        Err(_) => Err(no_address(alloc, word)?),
+        Err(_) => Err(no_address(alloc, name, word)?),
     }
 }
 
 /// The addresses that the words are.
-fn addresses_of(alloc: Global, words: &[&str]) -> Result<Vec<IpAddr>, clap::Error> {
+fn addresses_of(
+    alloc: Global,
+    name: &str,
+    words: &[&str],
+) -> Result<Vec<IpAddr>, clap::Error> {
     let mut addresses = Vec::new(alloc);
     for word in words {
-        addresses.push(address_of(alloc, word)?)?;
+        addresses.push(address_of(alloc, name, word)?)?;
     }
     Ok(addresses)
 }
@@ -190,10 +198,15 @@ fn combined<'a>(alloc: Global, name: &str, found: &ArgMatches<'a>) -> Result<Tas
     Ok(Task::Combine(command_of(name), files, output))
 }
 
-fn sought_of(alloc: Global, words: &[&str]) -> Result<Sought, clap::Error> {
+/// The addresses that the command of this name is given.
+pub(crate) fn sought_of(
+    alloc: Global,
+    name: &str,
+    words: &[&str],
+) -> Result<Sought, clap::Error> {
     match words {
         ["-"] => Ok(Sought::Lines),
-        _ => Ok(Sought::These(addresses_of(alloc, words)?)),
+        _ => Ok(Sought::These(addresses_of(alloc, name, words)?)),
     }
 }
 
@@ -220,15 +233,34 @@ fn search_of<'a>(
     Ok(Task::Search(list, texts_of(alloc, found)?, wanted))
 }
 
+/// What is to be done with tables, and how a list of their addresses is printed.
+fn table_task_of<'a>(alloc: Global, found: &ArgMatches<'a>) -> Result<Task<'a>, clap::Error> {
+    let asked = asked_of(found);
+    let output = Output {
+        only: family_of(asked),
+        form: form_of("select", asked),
+    };
+    Ok(Task::Table(table_request(alloc, found)?, output))
+}
+
+/// What the innermost command is given.
+fn asked_of<'f, 'a>(found: &'f ArgMatches<'a>) -> &'f ArgMatches<'a> {
+    match found.subcommand() {
+        Some((_, inner)) => inner,
+        None => found,
+    }
+}
+
 fn task_of<'a>(alloc: Global, name: &str, found: &ArgMatches<'a>) -> Result<Task<'a>, clap::Error> {
     let first = found.get_str("FILE").unwrap_or("-");
     match name {
         "compare" => Ok(Task::Compare(first, found.get_str("OTHER").unwrap_or("-"))),
         "has" => {
             let words = found.get_strs("ADDRESS").unwrap_or(&[]);
-            Ok(Task::LookUp(first, sought_of(alloc, words)?))
+            Ok(Task::LookUp(first, sought_of(alloc, name, words)?))
         }
         "grep" => Ok(search_of(alloc, first, found)?),
+        "table" => table_task_of(alloc, found),
         _ => Ok(combined(alloc, name, found)?),
     }
 }
@@ -283,11 +315,12 @@ pub fn read_request<'a>(alloc: Global, words: &'a [String]) -> Result<Request<'a
     if let Some(fault) = fault_of_names(alloc, name, found)? {
         return Err(wrong(alloc, name, ErrorKind::ArgumentConflict, fault)?);
     }
+    let asked = asked_of(found);
     Ok(Request {
         task: task_of(alloc, name, found)?,
-        is_strict: found.get_flag("strict"),
-        skips_bad_lines: found.get_flag("skip-bad"),
-        is_quiet: found.get_flag("quiet"),
+        is_strict: asked.get_flag("strict"),
+        skips_bad_lines: asked.get_flag("skip-bad"),
+        is_quiet: asked.get_flag("quiet"),
         is_old_form: found.contains_id("from"),
     })
 }
