@@ -1,1 +1,3 @@
 -- Lemmas.
+mod Marks
+mod Texts

@@ -71,16 +71,30 @@ pub struct Wrong {
     pub expected: RowFault,
 }
 
+/// A text without the white space around it.
+pub fn trimmed_of(text: &[u8]) -> &[u8]
+    ensures { result.now ≡ trimmed text.now }
+{
+    text.trim_ascii()
+}
+
+/// The text up to the first white space.
+fn word_of(text: &[u8]) -> &[u8]
+    ensures { result.now ≡ first_word text.now }
+{
+    match text.iter().position(|byte| byte.is_ascii_whitespace()) {
+        Some(at) => &text[..at],
+        None => text,
+    }
+}
+
 /// The text up to the first white space, and what stands behind it.
 pub fn split_word(text: &[u8]) -> (&[u8], &[u8])
     ensures word { result.0.now ≡ first_word text.now }
     ensures rest { result.1.now ≡ behind_word text.now }
 {
-    let word = match text.iter().position(|byte| byte.is_ascii_whitespace()) {
-        Some(at) => &text[..at],
-        None => text,
-    };
-    (word, text[word.len()..].trim_ascii())
+    let word = word_of(text);
+    (word, trimmed_of(&text[word.len()..]))
 }
 
 /// The text up to the first comma.
@@ -99,7 +113,7 @@ pub fn is_skipped(line: &[u8], header: &str) -> bool
     ensures { IsTrue result ↔ IsSkipped header.now line.now }
 {
     content_of(line).is_empty()
-        || (!header.is_empty() && before_comma(line.trim_ascii()) == header.as_bytes())
+        || (!header.is_empty() && before_comma(trimmed_of(line)) == header.as_bytes())
 }
 
 /// A value, if it is one: text that is not empty.

@@ -1,1 +1,5 @@
 -- Lemmas.
+mod Held
+mod Last
+mod ReadRows
+mod TilesOf

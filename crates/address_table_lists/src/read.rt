@@ -13,7 +13,7 @@ ghost use Rattle.address_table_lists.specs.declared.read.TableError.TheVariants.
 
 use address_rows::line::{
     Layout, RowFault, Wrong, decimal_row_of, is_skipped, pair_of, record_of, row_of_parts,
-    split_word, wrong_of,
+    split_word, trimmed_of, wrong_of,
 };
 use crate::rows::Rows;
 use address_lists::BadLines;
@@ -152,7 +152,7 @@ fn add_line(
         let (word, rest) = split_word(content_of(line));
         return add_parts(rows, word, rest, strict);
     }
-    let Ok(text) = str::from_utf8(line.trim_ascii()) else {
+    let Ok(text) = str::from_utf8(trimmed_of(line)) else {
         return Ok(false);
     };
     match layout {
@@ -202,6 +202,8 @@ fn read_row<R: BufRead>(
     ensures refused { reading.bad_lines ≡ Refused → result ≢ Ok Other }
     ensures bad { IfErr result (λ error. IfSome (R.remaining input.old)
         (λ bytes. IsBadRow (SaysIn reading) (IsSkipped header.now) bytes number error)) }
+    ensures skipped { reading.bad_lines ≡ Skipped
+        → IfErr result (λ error. (error ≡ Unread) ⊎ (error ≡ Memory)) }
 {
     buffer.clear();
     let Ok(count) = input.read_until(b'\n', buffer) else {
@@ -245,12 +247,15 @@ pub fn read_rows<R: BufRead>(
     ensures all { reading.bad_lines ≡ Refused → IfOk result (λ others. others ≡ 0) }
     ensures bad { IfErr result (λ error. IfSome (R.remaining input.old)
         (λ bytes. HasRowFault (SaysIn reading) (IsSkipped header.now) bytes error)) }
+    ensures skipped { reading.bad_lines ≡ Skipped
+        → IfErr result (λ error. (error ≡ Unread) ⊎ (error ≡ Memory)) }
 {
     let mut buffer = Vec::new(alloc);
     let mut others = 0;
     for number in 1..u64::MAX {
         match read_row(alloc, &mut buffer, rows, input, number, reading, header)? {
-            Found::Said | Found::Nothing => {}
+            Found::Said => {}
+            Found::Nothing => {}
             Found::Other => others += 1,
             Found::End => return Ok(others),
         }

@@ -60,16 +60,17 @@ impl Rows {
     {
         let value = self.texts.number_of(value)?;
         match line {
-            Line::Nothing => {}
+            Line::Nothing => Ok(()),
             Line::Addresses(Family::V4, first, last) => {
                 let (first, last) = (Ipv4(first as u32), Ipv4(last as u32));
                 self.v4.push(Binding { first, last, value })?;
+                Ok(())
             }
             Line::Addresses(Family::V6, first, last) => {
                 let (first, last) = (Ipv6(first), Ipv6(last));
                 self.v6.push(Binding { first, last, value })?;
+                Ok(())
             }
         }
-        Ok(())
     }
 }
