@@ -1,5 +1,10 @@
 -- Lemmas.
+mod Found
+mod Framed
 mod Held
 mod Last
 mod ReadRows
+mod Shown
+mod Stored
 mod TilesOf
+mod Told

@@ -81,6 +81,8 @@ pub fn write_table<W: Write>(
     ensures { OnOk result (Writes (W.contents out.old) (W.contents out.new)
         (IsPrintedTable form (map (λ v. v.items) values.now) table.now)) }
 {
+    let _v4 = table.v4.iter();
+    let _v6 = table.v6.iter();
     write_framed_ranges(form, values, &table.v4, out)?;
     write_framed_ranges(form, values, &table.v6, out)
 }
