@@ -1,3 +1,6 @@
 -- Lemmas.
+mod Ends
+mod Fields
 mod Marks
-mod Texts
+pub mod Texts
+mod Written

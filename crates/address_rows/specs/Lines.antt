@@ -34,15 +34,10 @@ behind_word text = trimmed (drop (length (first_word text)) text)
 abbrev pub IsValue : List ℕ → Type 0
 IsValue text = IsUtf8 text × (text ≢ [])
 
--- some addresses
-abbrev pub AreSome : Line → Type 0
-AreSome Nothing = ⊥
-AreSome (Addresses family first last) = Unit {0}
-
 -- the one text says the addresses of the row, as a line of a list does, and the other is its value
 pub record IsRow (strict : Bool) (addresses value : List ℕ) (row : Row) : Type 0 where
   pub says : Says strict addresses row.addresses
-  pub some : AreSome row.addresses
+  pub some : content addresses ≢ []
   pub valued : IsValue value
   pub is : row.value ≡ value
 
@@ -59,9 +54,13 @@ AreFields text first second = (HasByte is_quote text × AreRecord text first sec
     × (first ≡ before_first is_comma text) × (second ≡ after_first is_comma text)
     × ¬ HasByte is_comma second)
 
--- the text is this address: of IPv4 as a number too
+-- the text is a number of 32 bits
+abbrev pub IsBits : List ℕ → ℕ → Type 0
+IsBits text n = IsNumber 10 text n × (n < 2 ^ 32)
+
+-- the text is this address: of IPv4 by a number, or else as it is written
 abbrev pub IsEnd : Family → List ℕ → ℕ → Type 0
-IsEnd V4 text n = (IsNumber 10 text n × (n < 2 ^ 32)) ⊎ IsAddressText V4 text n
+IsEnd V4 text n = IsBits text n ⊎ (((bits : ℕ) → ¬ IsBits text bits) × IsAddressText V4 text n)
 IsEnd V6 text n = IsAddressText V6 text n
 
 -- the texts are the first and the last of the addresses

@@ -1,8 +1,8 @@
 //! What a line of a table says.
 
-ghost use Rattle.std.specs.Prelude.{◌≡◌, ◌↔◌, ◌∷◌, ◌<◌, ◌≤◌, ◌+◌, ◌^◌, ℕ, List, [], IfOk, IfSome, IsTrue, MatchOption, MatchResult, Some, length, option_map};
+ghost use Rattle.std.specs.Prelude.{◌≡◌, ◌↔◌, ◌∷◌, ◌<◌, ◌^◌, ℕ, List, [], IfOk, IfSome, IsTrue, MatchOption, length, option_map, position};
+ghost use Rattle.std.specs.Char.{is_ascii_whitespace};
 ghost use Rattle.std.specs.List.{before_first};
-ghost use Rattle.std.specs.Net.Grammar.{IsNumber};
 ghost use Rattle.csv.specs.Machine.{next_record};
 ghost use Rattle.csv.specs.Reading.{default_config, strip_bom};
 ghost use Rattle.csv.specs.Records.{fields_of};
@@ -12,7 +12,7 @@ ghost use Rattle.address_text.specs.Texts.{width};
 ghost use Rattle.address_text.specs.declared.family.Family.{Family};
 ghost use Rattle.address_text.specs.declared.line.Line.{Line};
 ghost use Rattle.address_text.specs.declared.line.Line.TheVariants.{Addresses};
-ghost use Rattle.address_rows.specs.Lines.{AreEnds, AreFields, IsDecimalRow, IsEnd, IsRow, IsSkipped, IsValue, SaysRow, behind_word, first_word, is_comma};
+ghost use Rattle.address_rows.specs.Lines.{AreEnds, IsBits, IsDecimalRow, IsEnd, IsRow, IsSkipped, IsValue, SaysRow, behind_word, first_word, is_comma};
 ghost use Rattle.address_rows.specs.Rows.{Row};
 ghost use Rattle.address_rows.specs.declared.line.Layout.TheVariants as Laid;
 
@@ -78,11 +78,17 @@ pub fn trimmed_of(text: &[u8]) -> &[u8]
     text.trim_ascii()
 }
 
+fn first_blank(text: &[u8]) -> Option<usize>
+    ensures { result ≡ position is_ascii_whitespace text.now }
+{
+    text.iter().position(|byte| byte.is_ascii_whitespace())
+}
+
 /// The text up to the first white space.
 fn word_of(text: &[u8]) -> &[u8]
     ensures { result.now ≡ first_word text.now }
 {
-    match text.iter().position(|byte| byte.is_ascii_whitespace()) {
+    match first_blank(text) {
         Some(at) => &text[..at],
         None => text,
     }
@@ -97,11 +103,17 @@ pub fn split_word(text: &[u8]) -> (&[u8], &[u8])
     (word, trimmed_of(&text[word.len()..]))
 }
 
+fn first_comma(text: &[u8]) -> Option<usize>
+    ensures { result ≡ position is_comma text.now }
+{
+    text.iter().position(|byte| *byte == b',')
+}
+
 /// The text up to the first comma.
 fn before_comma(text: &[u8]) -> &[u8]
     ensures { result.now ≡ before_first is_comma text.now }
 {
-    match text.iter().position(|byte| *byte == b',') {
+    match first_comma(text) {
         Some(at) => &text[..at],
         None => text,
     }
@@ -112,8 +124,13 @@ fn before_comma(text: &[u8]) -> &[u8]
 pub fn is_skipped(line: &[u8], header: &str) -> bool
     ensures { IsTrue result ↔ IsSkipped header.now line.now }
 {
-    content_of(line).is_empty()
-        || (!header.is_empty() && before_comma(trimmed_of(line)) == header.as_bytes())
+    if content_of(line).is_empty() {
+        return true;
+    }
+    if header.is_empty() {
+        return false;
+    }
+    before_comma(trimmed_of(line)) == header.as_bytes()
 }
 
 /// A value, if it is one: text that is not empty.
@@ -136,10 +153,10 @@ fn addresses_of(text: &[u8], strict: bool) -> Option<Line>
         → IsRow strict text.now value (record { addresses = line; value = value })) }
     ensures fits { IfSome result AreAddresses }
 {
-    match line_of(text, strict) {
-        None | Some(Line::Nothing) => None,
-        Some(line) => Some(line),
+    if content_of(text).is_empty() {
+        return None;
     }
+    line_of(text, strict)
 }
 
 /// Where the addresses are wrong that stand behind so many bytes of a line.
@@ -162,16 +179,15 @@ pub fn row_of_parts<'a>(
         (record { addresses = found.0; value = found.1.now })) }
     ensures fits { IfSome result (λ found. AreAddresses found.0) }
 {
-    match (addresses_of(addresses, strict), value_of(value)) {
-        (Some(line), Some(text)) => Some((line, text)),
-        _ => None,
-    }
+    let line = addresses_of(addresses, strict)?;
+    let text = value_of(value)?;
+    Some((line, text))
 }
 
 /// A number of decimal digits below 2^32.
 fn number_of(digits: &str) -> Option<u32>
-    ensures { MatchOption result ((n : ℕ) → IsNumber 10 digits.now n → 2 ^ 32 ≤ n)
-        (λ n. IsNumber 10 digits.now n) }
+    ensures { MatchOption result ((n : ℕ) → ¬ IsBits digits.now n)
+        (λ n. IsBits digits.now n) }
 {
     if digits.as_bytes().first() == Some(&b'+') {
         return None;
@@ -185,9 +201,12 @@ fn end_of(family: Family, text: &str) -> Option<u128>
         (λ n. IsEnd family text.now n) }
     ensures fits { IfSome result (λ n. n < 2 ^ width family) }
 {
-    match (family, number_of(text)) {
-        (Family::V4, Some(number)) => Some(u128::from(number)),
-        _ => family.read(text),
+    match family {
+        Family::V4 => match number_of(text) {
+            Some(number) => Some(u128::from(number)),
+            None => Family::V4.read(text),
+        },
+        Family::V6 => Family::V6.read(text),
     }
 }
 

@@ -16,6 +16,7 @@ use Rattle.address_table_lists.specs.Blocks.{prefix_block, range_block}
 use Rattle.address_rows.specs.Forms.{block_line}
 use Rattle.address_table_lists.specs.Framed.{IsFramed}
 use Rattle.address_rows.specs.declared.forms.Form.{Form}
+use Rattle.address_table_lists.specs.declared.print.Defaults.{Defaults}
 use Rattle.address_table_lists.specs.declared.table.Table.{Table}
 
 module _ {A : Type 0} (form : Form) (family : Family) (number : A → ℕ) where
@@ -68,10 +69,10 @@ abbrev pub AreDisjoint : Table → List (Entry Ipv4 ℕ) → List (Entry Ipv6 �
 AreDisjoint table v4 v6 = IsDisjointTable ipv4_order ipv4_number 32 (box_items table.v4) v4
     × IsDisjointTable ipv6_order ipv6_number 128 (box_items table.v6) v6
 
-abbrev pub AreShortest : Option ℕ → Table → List (Entry Ipv4 ℕ) → List (Entry Ipv6 ℕ) → Type 0
-AreShortest default table v4 v6 =
-    IsShortestTable ipv4_order ipv4_number 32 (box_items table.v4) default v4
-    × IsShortestTable ipv6_order ipv6_number 128 (box_items table.v6) default v6
+abbrev pub AreShortest : Defaults → Table → List (Entry Ipv4 ℕ) → List (Entry Ipv6 ℕ) → Type 0
+AreShortest defaults table v4 v6 =
+    IsShortestTable ipv4_order ipv4_number 32 (box_items table.v4) defaults.v4 v4
+    × IsShortestTable ipv6_order ipv6_number 128 (box_items table.v6) defaults.v6 v6
 
 -- the lines of the disjoint prefixes of a table
 abbrev pub IsPrintedDisjoint : Form → List (List ℕ) → Table → List ℕ → Type 0
@@ -79,7 +80,7 @@ IsPrintedDisjoint form values table text = (v4 : List (Entry Ipv4 ℕ)) × (v6 :
     × AreDisjoint table v4 v6 × ArePrefixLines form values v4 v6 text
 
 -- the lines of its shortest table of prefixes
-abbrev pub IsPrintedShortest : Form → List (List ℕ) → Option ℕ → Table → List ℕ → Type 0
-IsPrintedShortest form values default table text =
+abbrev pub IsPrintedShortest : Form → List (List ℕ) → Defaults → Table → List ℕ → Type 0
+IsPrintedShortest form values defaults table text =
     (v4 : List (Entry Ipv4 ℕ)) × (v6 : List (Entry Ipv6 ℕ))
-    × AreShortest default table v4 v6 × ArePrefixLines form values v4 v6 text
+    × AreShortest defaults table v4 v6 × ArePrefixLines form values v4 v6 text

@@ -1,11 +1,10 @@
 //! A table as it is printed.
 
 ghost use Rattle.std.specs.Prelude.{◌≡◌, [], Err, IfErr, IfOk, OnOk, get_or, map};
-ghost use Rattle.std.specs.Option.{option_copied};
 ghost use Rattle.btree_range_map.specs.Holding.{box_items};
 ghost use Rattle.line_program.specs.Listing.{SpellsEach, Writes};
 ghost use Rattle.address_tables.specs.Tables.{shown};
-ghost use Rattle.address_table_lists.specs.Printed.{AreDisjoint, ArePrefixLines, AreShortest, IsEntryLine, IsItemLine, IsPrintedDisjoint, IsPrintedShortest, IsPrintedTable};
+ghost use Rattle.address_table_lists.specs.Printed.{AreDisjoint, ArePrefixLines, AreShortest, IsDisjointTable, IsEntryLine, IsItemLine, IsPrintedDisjoint, IsPrintedShortest, IsPrintedTable, IsShortestTable};
 ghost use Rattle.address_table_lists.specs.Framed.{IsFramed};
 ghost use Rattle.address_table_lists.specs.declared.print.PrintError.TheVariants.{Memory, Unwritable};
 
@@ -13,7 +12,7 @@ use address_rows::forms::Form;
 use crate::table::Table;
 use address_rows::write::{Block, family_closing, family_opening, write_line};
 use address_lists::print::FamilyAddress;
-use address_keys::{Ipv4, Ipv6};
+use address_keys::{Address, Ipv4, Ipv6};
 use address_prefixes::span::span_of;
 use address_tables::{AddressTable, Entry, disjoint_prefixes, shortest, shortest_with};
 use std::alloc::{AllocError, Global};
@@ -176,35 +175,64 @@ fn write_prefixes<W: Write>(
     }
 }
 
+/// The disjoint prefixes of one family.
+fn disjoint_entries<A: Address>(
+    alloc: Global,
+    table: &AddressTable<A, u32>,
+) -> Result<Vec<Entry<A, &u32>>, AllocError>
+    ensures { IfOk result (λ entries. IsDisjointTable A.order A.number A.WIDTH
+        (box_items table.now) (map shown entries.items)) }
+{
+    disjoint_prefixes(alloc, table)
+}
+
 fn disjoint_of(alloc: Global, table: &Table) -> Result<Prefixes<'_>, AllocError>
     ensures { IfOk result (λ prefixes. AreDisjoint table.now (map shown prefixes.v4.items)
         (map shown prefixes.v6.items)) }
 {
-    let v4 = disjoint_prefixes(alloc, &table.v4)?;
-    let v6 = disjoint_prefixes(alloc, &table.v6)?;
+    let v4 = disjoint_entries(alloc, &table.v4)?;
+    let v6 = disjoint_entries(alloc, &table.v6)?;
     Ok(Prefixes { v4, v6 })
+}
+
+/// The numbers of the values of addresses that have none, in either family.
+#[derive(Clone, Copy)]
+pub struct Defaults {
+    pub v4: Option<u32>,
+    pub v6: Option<u32>,
+}
+
+impl Defaults {
+    /// No values.
+    pub const NONE: Defaults = Defaults { v4: None, v6: None };
+}
+
+/// The shortest table of one family.
+fn shortest_or<'a, A: Address>(
+    alloc: Global,
+    table: &'a AddressTable<A, u32>,
+    default: &'a Option<u32>,
+) -> Result<Vec<Entry<A, &'a u32>>, AllocError>
+    ensures { IfOk result (λ entries. IsShortestTable A.order A.number A.WIDTH
+        (box_items table.now) default.now (map shown entries.items)) }
+{
+    match default {
+        Some(value) => shortest_with(alloc, table, value),
+        None => shortest(alloc, table),
+    }
 }
 
 fn shortest_of<'a>(
     alloc: Global,
     table: &'a Table,
-    default: Option<&'a u32>,
+    defaults: &'a Defaults,
 ) -> Result<Prefixes<'a>, AllocError>
-    ensures { IfOk result (λ prefixes. AreShortest (option_copied default.entry) table.now
+    ensures { IfOk result (λ prefixes. AreShortest defaults.now table.now
         (map shown prefixes.v4.items) (map shown prefixes.v6.items)) }
 {
-    match default {
-        Some(value) => {
-            let v4 = shortest_with(alloc, &table.v4, value)?;
-            let v6 = shortest_with(alloc, &table.v6, value)?;
-            Ok(Prefixes { v4, v6 })
-        }
-        None => {
-            let v4 = shortest(alloc, &table.v4)?;
-            let v6 = shortest(alloc, &table.v6)?;
-            Ok(Prefixes { v4, v6 })
-        }
-    }
+    let v4 = shortest_or(alloc, &table.v4, &defaults.v4)?;
+    let v6 = shortest_or(alloc, &table.v6, &defaults.v6)?;
+    Ok(Prefixes { v4, v6 })
 }
 
 /// Writes the prefixes with values that a table is, those of IPv4 first, each on a line, ascending.
@@ -239,15 +267,14 @@ pub fn write_shortest<W: Write>(
     form: Form,
     values: &[Vec<u8>],
     table: &Table,
-    default: Option<&u32>,
+    defaults: &Defaults,
     out: &mut W,
 ) -> Result<(), PrintError>
     ensures written { OnOk result (Writes (W.contents out.old) (W.contents out.new)
-        (IsPrintedShortest form (map (λ v. v.items) values.now) (option_copied default.entry)
-        table.now)) }
+        (IsPrintedShortest form (map (λ v. v.items) values.now) defaults.now table.now)) }
     ensures silent { result ≡ Err Memory → out.new ≡ out.old }
 {
-    match shortest_of(alloc, table, default) {
+    match shortest_of(alloc, table, defaults) {
         Ok(prefixes) => write_prefixes(form, values, &prefixes, out),
         Err(_) => Err(PrintError::Memory),
     }

@@ -41,15 +41,15 @@ impl Rows {
         }
     }
 
-    /// Takes out the addresses, and keeps the numbers of the values.
+    /// Takes out the addresses with their memory, and keeps the numbers of the values.
     ///
     /// What is read after that has the same number for the same value.
-    pub fn clear(&mut self)
+    pub fn clear(&mut self, alloc: Global)
         ensures texts { self.new.texts ≡ self.old.texts }
         ensures none { Hold self.new [] }
     {
-        self.v4.clear();
-        self.v6.clear();
+        self.v4 = Vec::new(alloc);
+        self.v6 = Vec::new(alloc);
     }
 
     /// Adds the addresses that a line says, with a value.

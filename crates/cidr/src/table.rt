@@ -6,7 +6,7 @@ use crate::source;
 use address_lists::Addresses;
 use address_table_lists::changes::{Changes, changes_of};
 use address_table_lists::parts::select;
-use address_table_lists::print::PrintError;
+use address_table_lists::print::{Defaults, PrintError};
 use address_table_lists::read::Reading;
 use address_table_lists::sought::Halt;
 use address_table_lists::{
@@ -184,20 +184,39 @@ fn unless_unwritable(written: io::Result<()>) -> Result<(), PrintError> {
     }
 }
 
+/// The value of all other addresses, of one family or both.
+fn defaults_of(number: u32, only: Option<Family>) -> Defaults {
+    match only {
+        None => Defaults {
+            v4: Some(number),
+            v6: Some(number),
+        },
+        Some(Family::V4) => Defaults {
+            v4: Some(number),
+            v6: None,
+        },
+        Some(Family::V6) => Defaults {
+            v4: None,
+            v6: Some(number),
+        },
+    }
+}
+
 fn print_shape<W: Write>(
     alloc: Global,
     shape: TableShape<'_>,
+    only: Option<Family>,
     form: Form,
     rows: &mut Rows,
     table: &Table,
     out: &mut W,
 ) -> Result<(), PrintError> {
-    let default = match shape {
+    let defaults = match shape {
         TableShape::Shortest(Some(text)) => match rows.texts.number_of(text) {
-            Ok(number) => Some(number),
+            Ok(number) => defaults_of(number, only),
             Err(_) => return Err(PrintError::Memory),
         },
-        _ => None,
+        _ => Defaults::NONE,
     };
     let Ok(values) = values_in(alloc, form, &rows.texts) else {
         return Err(PrintError::Memory);
@@ -207,7 +226,7 @@ fn print_shape<W: Write>(
         TableShape::Ranges => unless_unwritable(write_table(form, values, table, out)),
         TableShape::Disjoint => write_disjoint(alloc, form, values, table, out),
         TableShape::Shortest(_) => {
-            write_shortest(alloc, form, values, table, default.as_ref(), out)
+            write_shortest(alloc, form, values, table, &defaults, out)
         }
     }
 }
@@ -222,8 +241,8 @@ fn print_table<W: Write>(
 ) -> Answered {
     let alloc = rt.alloc();
     let mut rows = Rows::new(alloc);
-    read_files(rt, asked, asked.request.tables.as_slice(), &mut rows, left_out)?;
-    let mut table = match made(alloc, asked, &rows) {
+    let names = asked.request.tables.as_slice();
+    let mut table = match read_table(rt, asked, names, &mut rows, left_out)? {
         Ok(table) => table,
         Err(stop) => return Ok(Err(stop)),
     };
@@ -232,7 +251,7 @@ fn print_table<W: Write>(
         Err(stop) => return Ok(Err(stop)),
     }
     let form = form_of(asked.request);
-    let printed = print_shape(alloc, shape, form, &mut rows, &table, out);
+    let printed = print_shape(alloc, shape, asked.output.only, form, &mut rows, &table, out);
     Ok(flushed(printed, out))
 }
 
@@ -245,7 +264,9 @@ fn read_table(
     left_out: &mut Vec<u64>,
 ) -> anyhow::Result<Result<Table, Stop>> {
     read_files(rt, asked, names, rows, left_out)?;
-    Ok(made(rt.alloc(), asked, rows))
+    let table = made(rt.alloc(), asked, rows);
+    rows.clear(rt.alloc());
+    Ok(table)
 }
 
 /// Prints the values of addresses.
@@ -365,7 +386,6 @@ fn differences(
         Ok(table) => table,
         Err(stop) => return Ok(Err(stop)),
     };
-    rows.clear();
     let after = match read_table(rt, asked, second, rows, left_out)? {
         Ok(table) => table,
         Err(stop) => return Ok(Err(stop)),
