@@ -2,5 +2,5 @@
 mod Ends
 mod Fields
 mod Marks
-pub mod Texts
+pub mod Numbers
 mod Written

@@ -29,11 +29,14 @@ mark_of Json = 92
 mark_of Nginx = 92
 mark_of Nft = 92
 
--- the text with these marks
+-- a byte with its mark, if it has one
+abbrev pub one_marked : Form → ℕ → List ℕ
+one_marked form byte = if is_marked form byte then mark_of form ∷ byte ∷ [] else byte ∷ []
+
+-- a text with these marks
 abbrev pub marked : Form → List ℕ → List ℕ
 marked form [] = []
-marked form (byte ∷ text) =
-    (if is_marked form byte then mark_of form ∷ byte ∷ [] else byte ∷ []) ++ marked form text
+marked form (byte ∷ text) = one_marked form byte ++ marked form text
 
 -- and between quotes
 abbrev pub quoted : Form → List ℕ → List ℕ

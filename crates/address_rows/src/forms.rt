@@ -1,7 +1,7 @@
 //! Tables in each form that is printed: their values.
 
-ghost use Rattle.std.specs.Prelude.{◌≡◌, ◌++◌, ◌∷◌, [], IfOk, OnOk, List, ℕ, IsTrue, ◌↔◌, map};
-ghost use Rattle.address_rows.specs.Forms.{is_marked, json_text, mark_of, needs_quotes, quoted, value_text};
+ghost use Rattle.std.specs.Prelude.{◌≡◌, ◌++◌, IfOk, OnOk, map};
+ghost use Rattle.address_rows.specs.Forms.{is_marked, json_text, mark_of, needs_quotes, one_marked, quoted, value_text};
 
 use crate::texts::Texts;
 use serde_json::Value;
@@ -45,6 +45,17 @@ fn mark_of(form: Form) -> u8
     }
 }
 
+/// Adds a byte, with a mark before it where it wants one.
+fn push_marked(form: Form, byte: u8, bytes: &mut Vec<u8>) -> Result<(), AllocError>
+    ensures { OnOk result (bytes.new.items ≡ bytes.old.items ++ one_marked form byte) }
+{
+    if is_marked(form, byte) {
+        bytes.push(mark_of(form))?;
+    }
+    bytes.push(byte)?;
+    Ok(())
+}
+
 /// The text between quotes, with a mark before each byte that wants one.
 fn quoted_text(alloc: Global, form: Form, text: &[u8]) -> Result<Vec<u8>, AllocError>
     ensures { IfOk result (λ bytes. bytes.items ≡ quoted form text.now) }
@@ -52,10 +63,7 @@ fn quoted_text(alloc: Global, form: Form, text: &[u8]) -> Result<Vec<u8>, AllocE
     let mut bytes = Vec::new(alloc);
     bytes.push(b'"')?;
     for byte in text {
-        if is_marked(form, *byte) {
-            bytes.push(mark_of(form))?;
-        }
-        bytes.push(*byte)?;
+        push_marked(form, *byte, &mut bytes)?;
     }
     bytes.push(b'"')?;
     Ok(bytes)
@@ -81,8 +89,7 @@ fn json_string(alloc: Global, text: &str) -> Result<Vec<u8>, AllocError>
 fn needs_quotes(text: &[u8]) -> bool
     ensures { result ≡ needs_quotes text.now }
 {
-    text.iter()
-        .any(|byte| *byte == b',' || *byte == b'"' || *byte == b'\n' || *byte == b'\r')
+    text.iter().any(|byte| *byte == b',' || *byte == b'"' || *byte == b'\n' || *byte == b'\r')
 }
 
 /// The text of a value in this form.
@@ -100,11 +107,7 @@ fn value_in(alloc: Global, form: Form, text: &str) -> Result<Vec<u8>, AllocError
 /// The texts of values in a form, by their numbers.
 ///
 /// Allocates a copy of each, so that printing allocates nothing.
-pub fn values_in(
-    alloc: Global,
-    form: Form,
-    texts: &Texts,
-) -> Result<Vec<Vec<u8>>, AllocError>
+pub fn values_in(alloc: Global, form: Form, texts: &Texts) -> Result<Vec<Vec<u8>>, AllocError>
     ensures { IfOk result (λ values. map (λ v. v.items) values.items
         ≡ map (value_text form) texts.now) }
 {

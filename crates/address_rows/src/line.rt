@@ -169,11 +169,7 @@ fn wrong_addresses(before: usize, text: &[u8]) -> Wrong {
 }
 
 /// What two parts of a line say, the one of which stands for addresses and the other is their value.
-pub fn row_of_parts<'a>(
-    addresses: &[u8],
-    value: &'a [u8],
-    strict: bool,
-) -> Option<(Line, &'a str)>
+pub fn row_of_parts<'a>(addresses: &[u8], value: &'a [u8], strict: bool) -> Option<(Line, &'a str)>
     ensures cases { MatchOption result ((row : Row) → ¬ IsRow strict addresses.now value.now row)
         (λ found. IsRow strict addresses.now value.now
         (record { addresses = found.0; value = found.1.now })) }

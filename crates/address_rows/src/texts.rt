@@ -43,10 +43,10 @@ impl Texts {
     {
         let text = String::from_str(self.alloc, text)?;
         let (number, _) = self.set.insert_full(text)?;
-        match u32::try_from(number) {
-            Ok(number) => Ok(number),
-            Err(_) => Err(AllocError),
+        if number > u32::MAX as usize {
+            return Err(AllocError);
         }
+        Ok(number as u32)
     }
 
     /// How many texts there are.

@@ -95,12 +95,7 @@ fn opening(block: Block) -> &'static [u8]
 }
 
 /// Writes what stands before the value of a line.
-fn write_before<W: Write>(
-    form: Form,
-    family: Family,
-    block: Block,
-    out: &mut W,
-) -> io::Result<()>
+fn write_before<W: Write>(form: Form, family: Family, block: Block, out: &mut W) -> io::Result<()>
     requires { Fits family block }
     ensures { OnOk result (Appends (W.contents out.old) (W.contents out.new)
         (text_before form family block)) }

@@ -23,9 +23,9 @@ module _ {K : Type 0} (text : K → List ℕ) where
       → (more : List (List ℕ)) × (map text later ≡ map text keys ++ more)
   kept same keys later key is =
       let added : (b : Bool) → (more : List (List ℕ))
-          × (map text (cond b keys (keys ++ key ∷ [])) ≡ map text keys ++ more) =
+      × (map text (cond b keys (keys ++ key ∷ [])) ≡ map text keys ++ more) =
       λ b. elim b as (λ b. (more : List (List ℕ))
-          × (map text (cond b keys (keys ++ key ∷ [])) ≡ map text keys ++ more)) [
+      × (map text (cond b keys (keys ++ key ∷ [])) ≡ map text keys ++ more)) [
         | true ↦ ([], sym (append-nil (map text keys)))
         | false ↦ (text key ∷ [], map_push text keys key)
       ] in
