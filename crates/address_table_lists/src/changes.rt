@@ -9,16 +9,15 @@ ghost use Rattle.btree_range_map.specs.Range.{ClonesAreEqual};
 ghost use Rattle.line_program.specs.Listing.{SpellsEach, Writes};
 ghost use Rattle.address_table_lists.specs.Changes.{AreChanges, AreTableChanges, IsChangeLine, IsPrintedChanges, change_of, change_text, first_change_text, first_text, has_some, side_text};
 
-use address_rows::forms::Form;
 use crate::print::text_of;
 use crate::table::Table;
-use address_rows::write::{Block, write_line};
 use address_keys::{Address, Ipv4, Ipv6};
 use address_lists::print::FamilyAddress;
 use address_prefixes::span::span_of;
+use address_rows::forms::Form;
+use address_rows::write::{Block, write_line};
 use address_tables::AddressTable;
-use btree_range_map::MapError;
-use btree_range_map::UpdateError;
+use btree_range_map::{MapError, UpdateError};
 use std::alloc::Global;
 use std::convert::Infallible;
 use std::io::{self, Write};
@@ -92,7 +91,13 @@ fn write_side<A: FamilyAddress, W: Write>(
         Some(number) => {
             out.write_all(sign)?;
             let text = text_of(values, number);
-            write_line(Form::Lines, A::family(), Block::Range(block.0, block.1), text, out)
+            write_line(
+                Form::Lines,
+                A::family(),
+                Block::Range(block.0, block.1),
+                text,
+                out,
+            )
         }
         None => Ok(()),
     }
@@ -134,11 +139,7 @@ fn write_family_changes<A: FamilyAddress, W: Write>(
 /// For each range, as wide as it goes, there is a line `< 10.0.0.0-10.0.0.5 US` with its value
 /// before, and a line `> 10.0.0.0-10.0.0.5 DE` with the one after; none where it has no value.
 /// Allocates nothing.
-pub fn write_changes<W: Write>(
-    values: &[Vec<u8>],
-    changes: &Changes,
-    out: &mut W,
-) -> io::Result<()>
+pub fn write_changes<W: Write>(values: &[Vec<u8>], changes: &Changes, out: &mut W) -> io::Result<()>
     ensures { OnOk result (Writes (W.contents out.old) (W.contents out.new)
         (IsPrintedChanges (map (λ v. v.items) values.now) changes.now)) }
 {

@@ -5,8 +5,8 @@ ghost use Rattle.std.specs.Prelude.{OnOk};
 use crate::parts::select;
 use crate::print::PrintError;
 use crate::table::Table;
-use address_rows::Texts;
 use address_lists::write_counts;
+use address_rows::Texts;
 use std::alloc::Global;
 use std::io::Write;
 

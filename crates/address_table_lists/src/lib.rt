@@ -26,6 +26,7 @@ pub mod rows;
 pub mod sought;
 pub mod table;
 
+pub use address_rows::{Form, Layout, RowFault, Texts, values_in};
 pub use changes::{write_changes, write_first_change};
 pub use count::write_value_counts;
 pub use lookup::write_values;
@@ -34,4 +35,3 @@ pub use read::{TableError, read_rows};
 pub use rows::{Binding, Rows};
 pub use sought::write_values_of_lines;
 pub use table::{Precedence, Table, table_of};
-pub use address_rows::{Form, Layout, RowFault, Texts, values_in};

@@ -8,12 +8,12 @@ ghost use Rattle.line_program.specs.Listing.{SpellsEach, Writes};
 ghost use Rattle.address_lists.specs.Lookups.{ip_family};
 ghost use Rattle.address_table_lists.specs.Lookups.{FitIn, HasValue, IsFoundIn, IsStoredAround, IsValueLine, value_line};
 
-use address_rows::forms::Form;
 use crate::print::text_of;
 use crate::table::Table;
-use address_rows::write::{Block, write_line};
 use address_keys::{Address, Ipv4, Ipv6};
 use address_prefixes::span::span_of;
+use address_rows::forms::Form;
+use address_rows::write::{Block, write_line};
 use address_tables::AddressTable;
 use address_text::Family;
 use std::io::{self, Write};
@@ -75,7 +75,13 @@ fn write_stored<W: Write>(
         Some(Stored { first, last, value }) => {
             let text = text_of(values, value);
             write!(out, "{address} ")?;
-            write_line(Form::Lines, family_of(address), Block::Range(first, last), text, out)
+            write_line(
+                Form::Lines,
+                family_of(address),
+                Block::Range(first, last),
+                text,
+                out,
+            )
         }
         None => writeln!(out, "{address} -"),
     }

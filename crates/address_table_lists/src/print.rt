@@ -8,12 +8,12 @@ ghost use Rattle.address_table_lists.specs.Printed.{AreDisjoint, ArePrefixLines,
 ghost use Rattle.address_table_lists.specs.Framed.{IsFramed};
 ghost use Rattle.address_table_lists.specs.declared.print.PrintError.TheVariants.{Memory, Unwritable};
 
-use address_rows::forms::Form;
 use crate::table::Table;
-use address_rows::write::{Block, family_closing, family_opening, write_line};
-use address_lists::print::FamilyAddress;
 use address_keys::{Address, Ipv4, Ipv6};
+use address_lists::print::FamilyAddress;
 use address_prefixes::span::span_of;
+use address_rows::forms::Form;
+use address_rows::write::{Block, family_closing, family_opening, write_line};
 use address_tables::{AddressTable, Entry, disjoint_prefixes, shortest, shortest_with};
 use std::alloc::{AllocError, Global};
 use std::io::{self, Write};

@@ -11,12 +11,12 @@ ghost use Rattle.address_table_lists.specs.Rows.{Hold};
 ghost use Rattle.address_table_lists.specs.declared.read.Found.TheVariants.{Other};
 ghost use Rattle.address_table_lists.specs.declared.read.TableError.TheVariants.{Memory, Unread};
 
+use crate::rows::Rows;
+use address_lists::BadLines;
 use address_rows::line::{
     Layout, RowFault, Wrong, decimal_row_of, is_skipped, pair_of, record_of, row_of_parts,
     split_word, trimmed_of, wrong_of,
 };
-use crate::rows::Rows;
-use address_lists::BadLines;
 use address_text::{Excerpt, Line, content_of, excerpt_at};
 use std::alloc::{AllocError, Global};
 use std::fmt;
@@ -88,12 +88,7 @@ fn add_parts(
 }
 
 /// Adds what a text with quotes says. Returns whether it says a row.
-fn add_record(
-    alloc: Global,
-    rows: &mut Rows,
-    text: &[u8],
-    strict: bool,
-) -> Result<bool, AllocError>
+fn add_record(alloc: Global, rows: &mut Rows, text: &[u8], strict: bool) -> Result<bool, AllocError>
     ensures { IfOk result (IsAddedIf (SaysRecord strict text.now) rows.old rows.new) }
 {
     let Some(record) = record_of(alloc, text)? else {
@@ -106,12 +101,7 @@ fn add_record(
 }
 
 /// Adds what a text with two fields says. Returns whether it says a row.
-fn add_fields(
-    alloc: Global,
-    rows: &mut Rows,
-    text: &str,
-    strict: bool,
-) -> Result<bool, AllocError>
+fn add_fields(alloc: Global, rows: &mut Rows, text: &str, strict: bool) -> Result<bool, AllocError>
     ensures { IfOk result (IsAddedIf (SaysFields strict text.now) rows.old rows.new) }
 {
     if text.split_once('"').is_some() {
@@ -216,7 +206,10 @@ fn read_row<R: BufRead>(
     if is_skipped(line, header) {
         return Ok(Found::Nothing);
     }
-    match (add_line(alloc, rows, line, reading.layout, reading.strict), reading.bad_lines) {
+    match (
+        add_line(alloc, rows, line, reading.layout, reading.strict),
+        reading.bad_lines,
+    ) {
         (Ok(true), _) => Ok(Found::Said),
         (Ok(false), BadLines::Skipped) => Ok(Found::Other),
         (Ok(false), BadLines::Refused) => {

@@ -5,8 +5,8 @@ ghost use Rattle.address_text.specs.Lines.{AreAddresses};
 ghost use Rattle.address_rows.specs.Rows.{Row};
 ghost use Rattle.address_table_lists.specs.Rows.{Hold};
 
-use address_rows::Texts;
 use address_keys::{Ipv4, Ipv6};
+use address_rows::Texts;
 use address_text::{Family, Line};
 use std::alloc::{AllocError, Global};
 

@@ -207,7 +207,16 @@ fn answer<W: Write>(
         }
         Task::Table(request, output) => {
             let output = *output;
-            answer_tables(rt, Asked { request, reading, output }, left_out, out)
+            answer_tables(
+                rt,
+                Asked {
+                    request,
+                    reading,
+                    output,
+                },
+                left_out,
+                out,
+            )
         }
     }
 }

@@ -225,9 +225,7 @@ fn print_shape<W: Write>(
     match shape {
         TableShape::Ranges => unless_unwritable(write_table(form, values, table, out)),
         TableShape::Disjoint => write_disjoint(alloc, form, values, table, out),
-        TableShape::Shortest(_) => {
-            write_shortest(alloc, form, values, table, &defaults, out)
-        }
+        TableShape::Shortest(_) => { write_shortest(alloc, form, values, table, &defaults, out) }
     }
 }
 
@@ -251,7 +249,15 @@ fn print_table<W: Write>(
         Err(stop) => return Ok(Err(stop)),
     }
     let form = form_of(asked.request);
-    let printed = print_shape(alloc, shape, asked.output.only, form, &mut rows, &table, out);
+    let printed = print_shape(
+        alloc,
+        shape,
+        asked.output.only,
+        form,
+        &mut rows,
+        &table,
+        out,
+    );
     Ok(flushed(printed, out))
 }
 

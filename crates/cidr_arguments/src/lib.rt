@@ -14,6 +14,4 @@ mod usage;
 pub use crate::request::{
     Command, Form, Lines, Output, Request, Sought, Task, Wanted, read_request,
 };
-pub use crate::table::{
-    Restriction, TableForm, TableLayout, TableRequest, TableShape, TableTask,
-};
+pub use crate::table::{Restriction, TableForm, TableLayout, TableRequest, TableShape, TableTask};

@@ -176,11 +176,7 @@ fn address_of(alloc: Global, name: &str, word: &str) -> Result<IpAddr, clap::Err
 }
 
 /// The addresses that the words are.
-fn addresses_of(
-    alloc: Global,
-    name: &str,
-    words: &[&str],
-) -> Result<Vec<IpAddr>, clap::Error> {
+fn addresses_of(alloc: Global, name: &str, words: &[&str]) -> Result<Vec<IpAddr>, clap::Error> {
     let mut addresses = Vec::new(alloc);
     for word in words {
         addresses.push(address_of(alloc, name, word)?)?;
@@ -199,11 +195,7 @@ fn combined<'a>(alloc: Global, name: &str, found: &ArgMatches<'a>) -> Result<Tas
 }
 
 /// The addresses that the command of this name is given.
-pub(crate) fn sought_of(
-    alloc: Global,
-    name: &str,
-    words: &[&str],
-) -> Result<Sought, clap::Error> {
+pub(crate) fn sought_of(alloc: Global, name: &str, words: &[&str]) -> Result<Sought, clap::Error> {
     match words {
         ["-"] => Ok(Sought::Lines),
         _ => Ok(Sought::These(addresses_of(alloc, name, words)?)),

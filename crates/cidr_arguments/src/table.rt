@@ -81,7 +81,9 @@ impl<'a> TableRequest<'a> {
     /// The name of what is read after so many others: the tables, and then a list.
     pub fn file(&self, place: usize) -> Option<&'a str> {
         let list = match &self.task {
-            TableTask::Print(_, Restriction::Only(list) | Restriction::Without(list)) => Some(*list),
+            TableTask::Print(_, Restriction::Only(list) | Restriction::Without(list)) => Some(
+                *list,
+            ),
             _ => None,
         };
         self.tables.as_slice().get(place).copied().or(list)

@@ -58,11 +58,7 @@ const LINES: Taken = (
     "Print lines of addresses and values, however tables are read",
 );
 
-const OBJECTS: Taken = (
-    "json",
-    Kind::Flag(&["form"]),
-    "Print a JSON object a line",
-);
+const OBJECTS: Taken = ("json", Kind::Flag(&["form"]), "Print a JSON object a line");
 
 const NGINX: Taken = (
     "nginx",
@@ -82,7 +78,11 @@ const DEFAULT: Taken = (
     "The value of all addresses that have none",
 );
 
-const IN: Taken = ("in", Kind::NeededList, "The list of addresses; - is standard input");
+const IN: Taken = (
+    "in",
+    Kind::NeededList,
+    "The list of addresses; - is standard input",
+);
 
 const VALUES: Taken = ("VALUE", Kind::Words(1, usize::MAX), "A value of the table");
 
@@ -105,8 +105,8 @@ pub(crate) static TABLE_COMMANDS: [Usage; 11] = [
         name: "disjoint",
         about: "Print tables as one, in the fewest prefixes that do not overlap",
         takes: &[
-            TABLES, CSV, DECIMAL, HEADER, LONGEST, STRICT, SKIP_BAD, V4, V6, LINES, OBJECTS,
-            NGINX, NFT,
+            TABLES, CSV, DECIMAL, HEADER, LONGEST, STRICT, SKIP_BAD, V4, V6, LINES, OBJECTS, NGINX,
+            NFT,
         ],
     },
     Usage {
@@ -121,16 +121,16 @@ pub(crate) static TABLE_COMMANDS: [Usage; 11] = [
         name: "only",
         about: "Print what a table says of the addresses of a list",
         takes: &[
-            ONE_TABLE, IN, CSV, DECIMAL, HEADER, LONGEST, STRICT, SKIP_BAD, V4, V6, LINES,
-            OBJECTS, NGINX, NFT,
+            ONE_TABLE, IN, CSV, DECIMAL, HEADER, LONGEST, STRICT, SKIP_BAD, V4, V6, LINES, OBJECTS,
+            NGINX, NFT,
         ],
     },
     Usage {
         name: "without",
         about: "Print what a table says of all addresses but those of a list",
         takes: &[
-            ONE_TABLE, IN, CSV, DECIMAL, HEADER, LONGEST, STRICT, SKIP_BAD, V4, V6, LINES,
-            OBJECTS, NGINX, NFT,
+            ONE_TABLE, IN, CSV, DECIMAL, HEADER, LONGEST, STRICT, SKIP_BAD, V4, V6, LINES, OBJECTS,
+            NGINX, NFT,
         ],
     },
     Usage {
@@ -151,20 +151,40 @@ pub(crate) static TABLE_COMMANDS: [Usage; 11] = [
     Usage {
         name: "values",
         about: "Print how many addresses of each family have each value",
-        takes: &[TABLES, CSV, DECIMAL, HEADER, LONGEST, STRICT, SKIP_BAD, V4, V6],
+        takes: &[
+            TABLES, CSV, DECIMAL, HEADER, LONGEST, STRICT, SKIP_BAD, V4, V6,
+        ],
     },
     Usage {
         name: "diff",
         about: "Print where two tables differ, < before the values of the first and > before the others",
         takes: &[
-            ONE_TABLE, SECOND_TABLE, CSV, DECIMAL, HEADER, LONGEST, STRICT, SKIP_BAD, V4, V6,
+            ONE_TABLE,
+            SECOND_TABLE,
+            CSV,
+            DECIMAL,
+            HEADER,
+            LONGEST,
+            STRICT,
+            SKIP_BAD,
+            V4,
+            V6,
         ],
     },
     Usage {
         name: "check",
         about: "Exit with 0 if two routing tables route alike, else print the first address where not",
         takes: &[
-            ONE_TABLE, SECOND_TABLE, CSV, DECIMAL, HEADER, STRICT, SKIP_BAD, V4, V6, QUIET,
+            ONE_TABLE,
+            SECOND_TABLE,
+            CSV,
+            DECIMAL,
+            HEADER,
+            STRICT,
+            SKIP_BAD,
+            V4,
+            V6,
+            QUIET,
         ],
     },
 ];
