@@ -8,11 +8,13 @@
 //!   `specs/{Commands,Shown}.antt`, `proofs/{Commands,Kept}.antt`; of `compare`,
 //!   `src/compare.rt`, `specs/Relations.antt`, `proofs/Compared.antt`; of `has`, `src/lookup.rt`,
 //!   `proofs/LookedUp.antt`; of `has` over lines and of `grep`, `src/lines.rt`, `specs/Lines.antt`
+//! - files of firewalls: `src/firewall.rt`, `specs/Firewalls.antt`
 //! - the commands over tables: `src/table.rt`
 //! - what is written, and why that failed: `src/output.rt`
 #![tactic(auto)]
 
 mod compare;
+mod firewall;
 mod inputs;
 mod lines;
 mod lookup;
@@ -78,7 +80,7 @@ fn combine_files<W: Write>(
     command: Command,
     files: &[&str],
     reading: Reading,
-    output: Output,
+    output: Output<'_>,
     left_out: &mut Vec<u64>,
     out: &mut W,
 ) -> anyhow::Result<Result<bool, Stop>> {

@@ -28,7 +28,7 @@ use std::net::IpAddr;
 pub struct Asked<'a> {
     pub request: &'a TableRequest<'a>,
     pub reading: ListReading,
-    pub output: Output,
+    pub output: Output<'a>,
 }
 
 /// Whether all is as was asked, as an exit status tells it, or why nothing more is printed.
@@ -358,7 +358,7 @@ fn select_addresses<W: Write>(
     let Ok(list) = select(alloc, &table, numbers.as_slice()) else {
         return Ok(Err(Stop::Memory));
     };
-    Ok(print(alloc, asked.output.form, &list, out).map(|()| true))
+    Ok(print(alloc, asked.output, &list, out).map(|()| true))
 }
 
 /// Prints how many addresses each value has.

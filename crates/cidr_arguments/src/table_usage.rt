@@ -42,7 +42,7 @@ const DECIMAL: Taken = (
 
 const HEADER: Taken = (
     "header",
-    Kind::Text("NAME"),
+    Kind::Word("NAME"),
     "Leave lines alone whose first field is NAME: the name of a column",
 );
 
@@ -74,7 +74,7 @@ const NFT: Taken = (
 
 const DEFAULT: Taken = (
     "default",
-    Kind::Text("VALUE"),
+    Kind::Word("VALUE"),
     "The value of all addresses that have none",
 );
 

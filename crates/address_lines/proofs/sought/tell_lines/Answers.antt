@@ -7,7 +7,7 @@ use Rattle.address_lines.proofs.sought.tell_lines.Goals as goal
 pub loop-number-preserved : goal.loop-number-preserved
 loop-number-preserved g c =
     let left = g.R.Read.remaining c.loop-number.input in
-    let later = g.R.Read.remaining c.next_line.new.input in
+    let later = g.R.Read.remaining c.next_line.new.self in
     line_told c.args.list.now (g.R.Read.remaining c.args.input.now) left later
     (g.W.Write.contents c.args.out.now) (g.W.Write.contents c.loop-number.out)
     (g.W.Write.contents c.tell_line.new.out) c.loop-number.number c.loop-number.has_all c.in-Ok.has
@@ -25,7 +25,7 @@ returns-in-Ok-false-clause-told g c =
 
 pub returns-in-Err-clause-bad : goal.returns-in-Err-clause-bad
 returns-in-Err-clause-bad g c = λ error same.
-    let unread = c.in-Err.ensures.unread in
+    let other = c.from.ensures in
     unread_told c.args.list.now (g.R.Read.remaining c.args.input.now)
     (g.R.Read.remaining c.loop-number.input) (g.W.Write.contents c.args.out.now)
     (g.W.Write.contents c.loop-number.out) c.loop-number.number c.loop-number.has_all error
@@ -34,7 +34,7 @@ returns-in-Err-clause-bad g c = λ error same.
 pub returns-in-Err-tell_line-clause-bad : goal.returns-in-Err-tell_line-clause-bad
 returns-in-Err-tell_line-clause-bad g c = λ error same.
     let left = g.R.Read.remaining c.loop-number.input in
-    let later = g.R.Read.remaining c.next_line.new.input in
+    let later = g.R.Read.remaining c.next_line.new.self in
     let bad = c.in-Err-tell_line.ensures.bad error same in
     subst (λ out. IfSome (g.R.Read.remaining c.args.input.now) (λ bytes. AreToldUntil
     c.args.list.now bytes (g.W.Write.contents c.args.out.now) (g.W.Write.contents out) error))
