@@ -24,6 +24,7 @@ mod reads;
 mod relations;
 mod remove;
 mod retain;
+mod shared;
 mod text;
 mod try_insert;
 mod union;

@@ -90,7 +90,7 @@ fn later_end<'a, T: PartialEnum>(end: Bound<&'a T>, other: Bound<&'a T>) -> Boun
 
 /// Puts a clone of the range after the others.
 #[inline(always)]
-fn push_clone<T: PartialEnum + Clone>(
+pub(crate) fn push_clone<T: PartialEnum + Clone>(
     ranges: &mut Vec<Item<AnyRange<T>, ()>>,
     range: AnyRange<&T>,
 ) -> Result<(), AllocError>
