@@ -1,8 +1,9 @@
 //! Two lists of ranges as one list of pieces, on each of which both are constant.
 ghost use Rattle.std.specs.Prelude.{◌≡◌, Option, Some, None};
 ghost use Rattle.std.specs.declared.cmp.Ordering.TheVariants.{Equal};
+ghost use Rattle.std.specs.declared.ops.Bound.TheVariants.{Excluded, Included};
 ghost use Rattle.range_keys.specs.Directed.{reference_position};
-ghost use Rattle.range_keys.specs.Position.{bound_of, position_cmp, end_position};
+ghost use Rattle.range_keys.specs.Position.{bound_of, position_cmp, start_position, end_position};
 ghost use Rattle.range_algebra.specs.Cuts.{lower, past};
 ghost use Rattle.range_algebra.specs.Intervals.{Lt};
 ghost use Rattle.range_algebra.specs.Range.{IsKnownBound};
@@ -52,7 +53,22 @@ pub fn keys_of<'a, K: PartialEnum, V>(part: Part<'a, K, V>) -> AnyRange<&'a K>
     AnyRange::new(part.start, part.range.end_bound())
 }
 
-/// How the places of two bounds compare, at once where both bounds are keys of their ranges.
+/// How the place just past a key compares with another key.
+#[inline(always)]
+fn compare_past<K: PartialEnum>(key: &K, other: &K) -> Ordering
+    ensures { result
+        ≡ position_cmp K.order.cmp (start_position K.order (Excluded key.now))
+        (start_position K.order (Included other.now)) }
+{
+    match key.succ() {
+        Some(next) => next.cmp(other),
+        None if key.cmp(other).is_lt() => Ordering::Less,
+        None => Ordering::Greater,
+    }
+}
+
+/// How the places of two bounds compare, at once where both bounds are keys of their ranges, or
+/// where a range goes on past a key.
 #[inline(always)]
 pub fn compare_bounds<K: PartialEnum>(
     bound: Directed<Bound<&K>>,
@@ -62,9 +78,17 @@ pub fn compare_bounds<K: PartialEnum>(
         ≡ position_cmp K.order.cmp (reference_position K.order bound.entry)
         (reference_position K.order other.entry) }
 {
-    match (bound.unwrap(), other.unwrap()) {
-        (Bound::Included(key), Bound::Included(other_key)) => key.cmp(other_key),
-        _ => bound.cmp(&other),
+    match (bound, other) {
+        (Directed::Start(Bound::Excluded(key)), Directed::Start(Bound::Included(other_key))) => {
+            compare_past(key, other_key)
+        }
+        (Directed::Start(Bound::Included(key)), Directed::Start(Bound::Excluded(other_key))) => {
+            compare_past(other_key, key).reverse()
+        }
+        _ => match (bound.unwrap(), other.unwrap()) {
+            (Bound::Included(key), Bound::Included(other_key)) => key.cmp(other_key),
+            _ => bound.cmp(&other),
+        },
     }
 }
 
