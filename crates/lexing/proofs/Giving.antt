@@ -1,7 +1,7 @@
 -- What the calls of `next` give, one after the other.
-use Rattle.std.proofs.Common.{◌≡◌, refl, sym, subst, ℕ, List, [], ◌∷◌, length, map, Some, None, Ok, Err}
+use Rattle.std.proofs.Common.{refl, sym, subst, ℕ, List, [], ◌∷◌, length, map, Some, None, Ok, Err}
 use Rattle.std.specs.Prelude.{Result}
-use Rattle.std.specs.Iterator.{Yields, YieldsThen}
+use Rattle.std.specs.Iterator.{YieldsThen}
 use Rattle.std.specs.List.{AllByRecursion}
 use Rattle.lexing.specs.declared.lexer.Lexer.{Lexer}
 use Rattle.lexing.specs.declared.placed.Placed.{Placed}

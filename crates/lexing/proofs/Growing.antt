@@ -7,9 +7,9 @@ use Rattle.lexing.specs.declared.lexer.Lexer.{Lexer}
 use Rattle.lexing.specs.declared.states.States.{States}
 use Rattle.state_sets.specs.Listed.{KeepsAll}
 use Rattle.state_sets.specs.Tokens.{IsFirstAmong}
-use Rattle.state_sets.proofs.Lists.{slice_get-push, keeps_pushed}
+use Rattle.state_sets.proofs.Lists.{slice_get-push}
 use Rattle.lexing.specs.Lexers.{rules_in, Accepts}
-use Rattle.lexing.specs.Machines.{Row, RowBinds, Goes, IsRowOf, AreDense, AreStates}
+use Rattle.lexing.specs.Machines.{Row, Goes, IsRowOf, AreDense, AreStates}
 use Rattle.lexing.specs.Building.{AreFirst, IsRowAt, AddsDense}
 
 -- what stands at an index of before has stood there

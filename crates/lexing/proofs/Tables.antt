@@ -17,7 +17,7 @@ use Rattle.lexing.specs.declared.states.States.{States}
 use Rattle.lexing.specs.declared.table.TableState.{TableState}
 use Rattle.lexing.specs.Lexers.{rules_in, Accepts, IsAcceptedBy}
 use Rattle.lexing.specs.Machines.{Row, AreStates, Goes, IsMachine}
-use Rattle.lexing.specs.Tables.{AreLeadsOf, AreRising, IsFirstFor, lead_at, next_from, rule_at, rule_in, state_after}
+use Rattle.lexing.specs.Tables.{AreLeadsOf, AreRising, IsFirstFor, lead_at, next_from, rule_at, state_after}
 
 -- the states of a table are those of a machine
 pub record AreTableStates (states : States) (table : List TableState) : Type 0 where

@@ -1,4 +1,4 @@
-use Rattle.std.proofs.Common.{◌≡◌, refl, ◌<◌, length, arith}
+use Rattle.std.proofs.Common.{refl, length, arith}
 use Rattle.std.proofs.lemmas.Option.{slice_get_read}
 use Rattle.lexing.proofs.Growing.{states_grow}
 use Rattle.lexing.proofs.build.grow.Goals as goal

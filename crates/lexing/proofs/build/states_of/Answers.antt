@@ -1,5 +1,4 @@
 use Rattle.std.proofs.Common.{arith}
-use Rattle.lexing.specs.Lexers.{rules_in}
 use Rattle.lexing.proofs.Growing.{states_none}
 use Rattle.lexing.proofs.Meeting.{met_first}
 use Rattle.lexing.proofs.build.states_of.Goals as goal

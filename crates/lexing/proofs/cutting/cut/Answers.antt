@@ -1,4 +1,4 @@
-use Rattle.std.proofs.Common.{refl, arith}
+use Rattle.std.proofs.Common.{arith}
 use Rattle.std.proofs.lemmas.Str.{IsCharBoundary-start}
 use Rattle.lexing.proofs.TokenLists.{tokens_more, token_boundary, reason_of_all}
 use Rattle.lexing.proofs.cutting.cut.Goals as goal

@@ -1,4 +1,4 @@
-use Rattle.std.proofs.Common.{◌≡◌, refl, ◌∷◌, arith}
+use Rattle.std.proofs.Common.{refl, arith}
 use Rattle.btree_range_map.specs.Characters.{character_counted}
 use Rattle.btree_range_map.specs.Counted.{counted_complete}
 use Rattle.lexing.specs.declared.table.Lead.{Lead}

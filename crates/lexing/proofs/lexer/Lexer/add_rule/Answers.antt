@@ -1,4 +1,4 @@
-use Rattle.std.proofs.Common.{◌≡◌, refl, length, Some, arith}
+use Rattle.std.proofs.Common.{◌≡◌, length, Some, arith}
 use Rattle.std.specs.List.{slice_get}
 use Rattle.lexing.specs.declared.lexer.Kind.{Kind}
 use Rattle.state_sets.proofs.Lists.{slice_get-push, keeps_pushed}

@@ -1,5 +1,4 @@
-use Rattle.std.proofs.Common.{◌≡◌, subst, take_all, arith}
-use Rattle.lexing.specs.Places.{place_after}
+use Rattle.std.proofs.Common.{take_all, arith}
 use Rattle.lexing.proofs.Places.{after_more, near_taken}
 use Rattle.lexing.proofs.place.Place.behind.Goals as goal
 

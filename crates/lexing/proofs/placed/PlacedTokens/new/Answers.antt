@@ -1,4 +1,3 @@
-use Rattle.std.proofs.Common.{refl}
 use Rattle.std.proofs.lemmas.Str.{IsCharBoundary-start}
 use Rattle.lexing.proofs.placed.PlacedTokens.new.Goals as goal
 

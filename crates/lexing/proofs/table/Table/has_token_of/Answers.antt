@@ -1,7 +1,7 @@
-use Rattle.std.proofs.Common.{◌≡◌, refl, inl, inr, length, Some, arith}
+use Rattle.std.proofs.Common.{◌≡◌, refl, inl, inr, length, arith}
 use Rattle.std.proofs.lemmas.Bool.{cases_lt}
 use Rattle.std.proofs.lemmas.Option.{slice_get_read, slice_get_within}
-use Rattle.lexing.specs.Tables.{LeadsToRule, LeadsToRuleFrom}
+use Rattle.lexing.specs.Tables.{LeadsToRuleFrom}
 use Rattle.lexing.proofs.Leads.{any_at, none_of_all, token_leads}
 use Rattle.lexing.proofs.table.Table.has_token_of.Goals as goal
 
