@@ -19,13 +19,18 @@ abbrev pub ipset_head : List ℕ → Family → List ℕ
 ipset_head set V4 = codes "create " ++ set ++ codes " hash:net family inet maxelem 4294967295\n"
 ipset_head set V6 = codes "create " ++ set ++ codes " hash:net family inet6 maxelem 4294967295\n"
 
+-- how a set is named, with its table
+abbrev pub nft_name : List ℕ → List ℕ → List ℕ
+nft_name table set = codes "inet " ++ (table ++ (codes " " ++ set))
+
+abbrev pub nft_set : List ℕ → Family → List ℕ
+nft_set name V4 = codes "add set " ++ name ++ codes " { type ipv4_addr; flags interval; }\n"
+nft_set name V6 = codes "add set " ++ name ++ codes " { type ipv6_addr; flags interval; }\n"
+
 abbrev pub nft_head : List ℕ → List ℕ → Family → List ℕ
-nft_head table set V4 = codes "add table inet " ++ table ++ codes "\nadd set inet " ++ table
-    ++ codes " " ++ set ++ codes " { type ipv4_addr; flags interval; }\nflush set inet " ++ table
-    ++ codes " " ++ set ++ codes "\n"
-nft_head table set V6 = codes "add table inet " ++ table ++ codes "\nadd set inet " ++ table
-    ++ codes " " ++ set ++ codes " { type ipv6_addr; flags interval; }\nflush set inet " ++ table
-    ++ codes " " ++ set ++ codes "\n"
+nft_head table set family = codes "add table inet " ++ (table ++ (codes "\n"
+    ++ (nft_set (nft_name table set) family
+    ++ (codes "flush set " ++ (nft_name table set ++ codes "\n")))))
 
 -- what a file has of a set for `ipset`: a line for each prefix, which adds it. It takes none of
 -- length 0

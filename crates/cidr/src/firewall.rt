@@ -3,7 +3,7 @@
 ghost use Rattle.std.specs.Prelude.{◌≡◌, ◌↔◌, IfOk, IsTrue, OnOk, string_bytes};
 ghost use Rattle.line_program.specs.Listing.{Writes};
 ghost use Rattle.address_text.specs.declared.family.Family.TheVariants.{V4, V6};
-ghost use Rattle.cidr.specs.Firewalls.{HasNone, IsFilled, IsFirewallFile, IsIpsetText, IsNftText, IsSetText, ipset_head, nft_head, set_name};
+ghost use Rattle.cidr.specs.Firewalls.{HasNone, IsFilled, IsFirewallFile, IsIpsetText, IsNftText, IsSetText, ipset_head, nft_head, nft_name, nft_set, set_name};
 ghost use Rattle.cidr.specs.declared.firewall.Firewall.{Firewall};
 
 use address_lists::{Addresses, write_family_prefixes};
@@ -54,19 +54,27 @@ fn ipset_head(alloc: Global, set: &str, family: Family) -> Result<String, AllocE
     }
 }
 
+fn nft_name(alloc: Global, table: &str, set: &str) -> Result<String, AllocError>
+    ensures { IfOk result (λ text. string_bytes text ≡ nft_name table.now set.now) }
+{
+    format!(in alloc; "inet {table} {set}")
+}
+
+fn nft_set(alloc: Global, name: &str, family: Family) -> Result<String, AllocError>
+    ensures { IfOk result (λ text. string_bytes text ≡ nft_set name.now family) }
+{
+    match family {
+        Family::V4 => format!(in alloc; "add set {name} {{ type ipv4_addr; flags interval; }}\n"),
+        Family::V6 => format!(in alloc; "add set {name} {{ type ipv6_addr; flags interval; }}\n"),
+    }
+}
+
 fn nft_head(alloc: Global, table: &str, set: &str, family: Family) -> Result<String, AllocError>
     ensures { IfOk result (λ text. string_bytes text ≡ nft_head table.now set.now family) }
 {
-    match family {
-        Family::V4 => format!(in alloc;
-            "add table inet {table}\nadd set inet {table} {set} {{ type ipv4_addr; flags interval; }}\n\
-            flush set inet {table} {set}\n"
-        ),
-        Family::V6 => format!(in alloc;
-            "add table inet {table}\nadd set inet {table} {set} {{ type ipv6_addr; flags interval; }}\n\
-            flush set inet {table} {set}\n"
-        ),
-    }
+    let name = nft_name(alloc, table, set)?;
+    let set = nft_set(alloc, name.as_str(), family)?;
+    format!(in alloc; "add table inet {table}\n{set}flush set {name}\n")
 }
 
 fn ipset_text(alloc: Global, set: &str, family: Family) -> Result<SetText, AllocError>
