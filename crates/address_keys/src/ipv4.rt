@@ -62,9 +62,9 @@ impl Bounded for Ipv4 {
         Ipv4(u32::MAX)
     }
 
-    ghost told_least = { refl };
+    ghost known_least = { refl };
 
-    ghost told_greatest = { refl };
+    ghost known_greatest = { refl };
 }
 
 impl Measure for Ipv4 {

@@ -60,9 +60,9 @@ impl Bounded for Ipv6 {
         Ipv6(u128::MAX)
     }
 
-    ghost told_least = { refl };
+    ghost known_least = { refl };
 
-    ghost told_greatest = { refl };
+    ghost known_greatest = { refl };
 }
 
 /// All addresses together are 2^128, one more than a `u128` can say: none is counted.

@@ -21,16 +21,16 @@ part_lines family length count network =
     series (λ n. prefix_line family n length) (2 ^ (width family - length)) count network
 
 -- a prefix of a length is shorter than another length, and addresses have so many bits
-abbrev pub IsDivided : Family → ℕ → ℕ → Type 0
-IsDivided family length prefix_length = (prefix_length < length) × (length ≤ width family)
+abbrev pub IsDivisible : Family → ℕ → ℕ → Type 0
+IsDivisible family length prefix_length = (prefix_length < length) × (length ≤ width family)
 
 -- the lines of the prefixes of the length that have the addresses of a prefix, or its own where it
 -- is not divided
 abbrev pub IsSplitText : Family → ℕ → ℕ → ℕ → List ℕ → Type 0
 IsSplitText family length prefix_length network text =
-    (IsDivided family length prefix_length
+    (IsDivisible family length prefix_length
     × (text ≡ part_lines family length (2 ^ (length - prefix_length)) network))
-    ⊎ ((¬ IsDivided family length prefix_length)
+    ⊎ ((¬ IsDivisible family length prefix_length)
     × (text ≡ prefix_line family network prefix_length))
 
 module _ {A : Type 0} (family : Family) (number : A → ℕ) (length : ℕ) where

@@ -84,13 +84,13 @@ impl Addresses {
     }
 
     /// The addresses that just one of both lists has.
-    pub fn difference(&self, other: &Addresses) -> Result<Addresses, MapError>
+    pub fn symmetric_difference(&self, other: &Addresses) -> Result<Addresses, MapError>
         ensures { IfOk result (λ new. HasJust new
             (λ family n. (Has self.now family n × ¬ Has other.now family n)
             ⊎ ((¬ Has self.now family n) × Has other.now family n))) }
     {
-        let v4 = sets::difference(&self.v4, &other.v4)?;
-        let v6 = sets::difference(&self.v6, &other.v6)?;
+        let v4 = sets::symmetric_difference(&self.v4, &other.v4)?;
+        let v6 = sets::symmetric_difference(&self.v6, &other.v6)?;
         Ok(Addresses { v4, v6 })
     }
 

@@ -47,7 +47,7 @@ pub(crate) fn keep_common<A: Address>(
 }
 
 /// The addresses that just one of both sets has.
-pub(crate) fn difference<A: Address>(
+pub(crate) fn symmetric_difference<A: Address>(
     set: &AddressSet<A>,
     other: &AddressSet<A>,
 ) -> Result<AddressSet<A>, MapError>

@@ -7,7 +7,7 @@ use Rattle.btree_range_map.specs.Intervals.{Any}
 use Rattle.btree_range_map.specs.Neighbours.{EachNext}
 use Rattle.btree_range_map.specs.Order.{KeyOrder}
 use Rattle.address_keys.specs.Families.{IsFamily}
-use Rattle.address_prefixes.specs.Runs.{AreRuns, IsIn, IsRun, IsSpan}
+use Rattle.address_prefixes.specs.Runs.{AreRuns, IsIn, IsMaximalRun, IsSpan}
 
 abbrev pub AreRising : List (ℕ × ℕ) → Type 0
 AreRising runs = EachNext (λ run next. run.1 < next.0) runs
@@ -26,7 +26,7 @@ abbrev pub AreSpans : ℕ → List (ℕ × ℕ) → Type 0
 AreSpans width runs = AllByRecursion (IsSpan width) runs
 
 each_span : (P : ℕ → Type 0) (width : ℕ) (runs : List (ℕ × ℕ))
-    → AllByRecursion (λ run. (run.0 ≤ run.1) × IsRun P (2 ^ width) run) runs
+    → AllByRecursion (λ run. (run.0 ≤ run.1) × IsMaximalRun P (2 ^ width) run) runs
     → AreSpans width runs
 each_span P width [] each = tt
 each_span P width (run ∷ runs) each = grind (arith, each_span P width runs each.1)
@@ -49,7 +49,7 @@ module _ {A : Type 0} {order : KeyOrder A} {number : A → ℕ} {at : ℕ → A}
   module _ (Q : A → Type 0) where
     abbrev pub Each : List (ℕ × ℕ) → Type 0
     Each runs =
-        AllByRecursion (λ run. (run.0 ≤ run.1) × IsRun (λ n. Q (at n)) (2 ^ width) run) runs
+        AllByRecursion (λ run. (run.0 ≤ run.1) × IsMaximalRun (λ n. Q (at n)) (2 ^ width) run) runs
 
     abbrev pub Runs : List (ℕ × ℕ) → Type 0
     Runs runs = AreRuns (λ n. Q (at n)) (2 ^ width) runs

@@ -15,7 +15,7 @@ IsIn n run = (run.0 ≤ n) × (n ≤ run.1)
 module _ (P : ℕ → Type 0) (bound : ℕ) where
   -- of the numbers of which this is so, those from the first to the last are all, and neither the
   -- one before nor the one after is another; all are less than a bound
-  pub record IsRun (run : ℕ × ℕ) : Type 0 where
+  pub record IsMaximalRun (run : ℕ × ℕ) : Type 0 where
     pub fits : run.1 < bound
     pub each : (n : ℕ) → IsIn n run → P n
     pub starts : (n : ℕ) → n + 1 ≡ run.0 → ¬ P n
@@ -23,10 +23,10 @@ module _ (P : ℕ → Type 0) (bound : ℕ) where
 
   -- a run that a number is in
   abbrev pub IsRunAround : ℕ → ℕ × ℕ → Type 0
-  IsRunAround n run = IsIn n run × IsRun run
+  IsRunAround n run = IsIn n run × IsMaximalRun run
 
   -- all runs of these numbers, in ascending order
   pub record AreRuns (runs : List (ℕ × ℕ)) : Type 0 where
-    pub each : AllByRecursion (λ run. (run.0 ≤ run.1) × IsRun run) runs
+    pub each : AllByRecursion (λ run. (run.0 ≤ run.1) × IsMaximalRun run) runs
     pub all : (n : ℕ) → n < bound → P n → Any (IsIn n) runs
     pub ascending : EachNext (λ run next. run.1 < next.0) runs

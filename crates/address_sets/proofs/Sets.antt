@@ -12,7 +12,7 @@ use Rattle.btree_range_map.specs.Counted.{is_not_above, not_above_is}
 use Rattle.btree_range_map.specs.FreeRanges.{item_ranges}
 use Rattle.btree_range_map.specs.Item.{Item}
 use Rattle.btree_range_map.specs.Order.{Below, KeyOrder, NotAbove}
-use Rattle.btree_range_map.specs.Range.{EndHolds, Holds, IsKeyless, IsKnownBound, IsKnownRange, StartHolds}
+use Rattle.btree_range_map.specs.Range.{EndHolds, Holds, IsKeyless, IsBoundOfKey, IsKeyRange, StartHolds}
 use Rattle.address_keys.specs.Families.{IsFamily}
 use Rattle.address_prefixes.specs.Spans.{HasSpan, past_number, start_number}
 
@@ -28,7 +28,7 @@ module _ {A : Type 0} {order : KeyOrder A} {number : A → ℕ} {at : ℕ → A}
   coarse_rest i items c = grind arith
 
   abbrev pub Known : List Stored → Type 0
-  Known items = AllByRecursion (λ i. IsKnownRange order i.key) items
+  Known items = AllByRecursion (λ i. IsKeyRange order i.key) items
 
   abbrev pub from_of : AnyRange A → ℕ
   from_of r = start_number number r.start
@@ -64,7 +64,7 @@ module _ {A : Type 0} {order : KeyOrder A} {number : A → ℕ} {at : ℕ → A}
       → Holds order r a ↔ ((from_of r ≤ number a) × (number a < past_of r))
   holds_is r a key = grind (arith, start_holds, end_holds)
 
-  pub top_by : (b : Bound A) → IsKnownBound order b → past_number number width b ≤ 2 ^ width
+  pub top_by : (b : Bound A) → IsBoundOfKey order b → past_number number width b ≤ 2 ^ width
   top_by (Included x) key = let h = family.counted.in_size x key in omega (arith, h)
   top_by (Excluded x) key = let h = family.counted.in_size x key in omega (arith, h)
   top_by Unbounded key = omega arith
@@ -72,7 +72,7 @@ module _ {A : Type 0} {order : KeyOrder A} {number : A → ℕ} {at : ℕ → A}
   pub some_by : (r : AnyRange A) → ¬ IsKeyless order r → from_of r < past_of r
   some_by r keyed = grind (arith, cases_lt, holds_is)
 
-  pub last_held : (r : AnyRange A) → IsKnownRange order r → ¬ IsKeyless order r
+  pub last_held : (r : AnyRange A) → IsKeyRange order r → ¬ IsKeyless order r
       → (a : A) × order.is_key a × Holds order r a × (number a + 1 ≡ past_of r)
   last_held r known keyed =
       let some = some_by r keyed in
@@ -86,7 +86,7 @@ module _ {A : Type 0} {order : KeyOrder A} {number : A → ℕ} {at : ℕ → A}
         omega (arith, e, some),
       )
 
-  pub first_held : (r : AnyRange A) → IsKnownRange order r → ¬ IsKeyless order r
+  pub first_held : (r : AnyRange A) → IsKeyRange order r → ¬ IsKeyless order r
       → (a : A) × order.is_key a × Holds order r a × (number a ≡ from_of r)
   first_held r known keyed =
       let some = some_by r keyed in

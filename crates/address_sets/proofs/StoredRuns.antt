@@ -10,9 +10,9 @@ use Rattle.btree_range_map.specs.Intervals.{Any}
 use Rattle.btree_range_map.specs.KeySets.{HoldsKey}
 use Rattle.btree_range_map.specs.Neighbours.{BeforeFirst, EachNext}
 use Rattle.btree_range_map.specs.Order.{KeyOrder}
-use Rattle.btree_range_map.specs.Range.{Holds, IsKeyless, IsKnownRange}
+use Rattle.btree_range_map.specs.Range.{Holds, IsKeyless, IsKeyRange}
 use Rattle.address_keys.specs.Families.{IsFamily}
-use Rattle.address_prefixes.specs.Runs.{AreRuns, IsIn, IsRun, IsRunAround}
+use Rattle.address_prefixes.specs.Runs.{AreRuns, IsIn, IsMaximalRun, IsRunAround}
 use Rattle.address_prefixes.specs.Spans.{HasSpan, span}
 use Rattle.address_prefixes.proofs.Runs.{same_address}
 use Rattle.address_sets.proofs.Sets.{Coarse, Known, Stored, below_number, coarse_rest, first_held, from_of, holds_is, last_held, not_above_number, number_not_above, past_of, some_by, top_by}
@@ -25,7 +25,7 @@ module _ {A : Type 0} {order : KeyOrder A} {number : A → ℕ} {at : ℕ → A}
   IsStoredRange items r = Any (λ i. i.key ≡ r) items
 
   is_range : (items : List (Stored family)) (r : AnyRange A) → Known family items
-      → Coarse family items → IsStoredRange items r → IsKnownRange order r × ¬ IsKeyless order r
+      → Coarse family items → IsStoredRange items r → IsKeyRange order r × ¬ IsKeyless order r
   is_range [] r known coarse none = absurd none
   is_range (i ∷ items) r known coarse (inl same) = grind arith
   is_range (i ∷ items) r known coarse (inr later) =
@@ -144,7 +144,7 @@ module _ {A : Type 0} {order : KeyOrder A} {number : A → ℕ} {at : ℕ → A}
       → (left : List (Stored family)) → Known family left → Coarse family left
       → ((r : AnyRange A) → IsStoredRange left r → IsStoredRange items r)
       → AllByRecursion (λ run. (run.0 ≤ run.1)
-      × IsRun (λ n. HoldsKey order items (at n)) (2 ^ width) run) (Runs left)
+      × IsMaximalRun (λ n. HoldsKey order items (at n)) (2 ^ width) run) (Runs left)
   each_run items known coarse [] left_known left_coarse stored = tt
   each_run items known coarse (i ∷ left) left_known left_coarse stored =
       let here = stored i.key (inl refl) in

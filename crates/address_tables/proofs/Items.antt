@@ -11,7 +11,7 @@ use Rattle.btree_range_map.specs.Counted.{counted_lawful}
 use Rattle.btree_range_map.specs.HeldKeys.{held_later_is_above, held_or_not}
 use Rattle.btree_range_map.specs.Item.{Item}
 use Rattle.btree_range_map.specs.Order.{KeyOrder}
-use Rattle.btree_range_map.specs.Range.{Holds, IsKnownRange}
+use Rattle.btree_range_map.specs.Range.{Holds, IsKeyRange}
 use Rattle.address_keys.specs.Families.{IsFamily}
 use Rattle.address_prefixes.specs.Spans.{HasSpan}
 use Rattle.address_sets.proofs.Sets.{below_number, first_held, from_of, holds_is, last_held, past_of, some_by, top_by}
@@ -24,7 +24,7 @@ use Rattle.address_tables.proofs.Places.{at_place, same_place}
 module _ {A V : Type 0} {order : KeyOrder A} {number : A → ℕ} {at : ℕ → A} {width : ℕ}
     (family : IsFamily order number at width) (same_value : V → V → Bool) where
   abbrev pub Known : List (Item (AnyRange A) V) → Type 0
-  Known items = AllByRecursion (λ i. IsKnownRange order i.key) items
+  Known items = AllByRecursion (λ i. IsKeyRange order i.key) items
 
   abbrev pub Coarse : List (Item (AnyRange A) V) → Type 0
   Coarse items = IsCoarse order same_value items

@@ -10,7 +10,7 @@ use Rattle.btree_range_map.specs.Lookups.{Overlap}
 use Rattle.btree_range_map.specs.Names.{u32_order}
 use Rattle.btree_range_map.specs.Overlapping.{AreOverlapping}
 use Rattle.btree_range_map.specs.Position.{start_position, end_position, position_cmp}
-use Rattle.btree_range_map.specs.Range.{IsEmptyRange, IsKnownRange}
+use Rattle.btree_range_map.specs.Range.{IsEmptyRange, IsKeyRange}
 use Rattle.btree_range_map.specs.Relations.{LiesBefore}
 use Rattle.btree_range_map.specs.Stored.{IsStored}
 use Rattle.bookings.specs.Calendars.{AreInTheWay, Booking, Bookings, HasSomeOf}
@@ -59,7 +59,7 @@ greater_or_not Greater = inl refl
 
 -- what meets the minutes has some of them, and all other bookings have none
 pub are_in_the_way : (bookings met : Bookings) (minutes : AnyRange ℕ)
-    → IsStored u32_order string_eq bookings → IsKnownRange u32_order minutes
+    → IsStored u32_order string_eq bookings → IsKeyRange u32_order minutes
     → (IsEmptyRange u32_order minutes → met ≡ [])
     → (¬ IsEmptyRange u32_order minutes → AreOverlapping u32_order bookings minutes met)
     → AreInTheWay bookings minutes met
@@ -84,7 +84,7 @@ are_in_the_way bookings met minutes stored known none some =
                 (is_among_later i are.before (met ++ are.after)
                 (is_among_earlier i met are.after among)))
                 (λ i among overlap. share_minute i.key minutes
-                (of_all (λ j. IsKnownRange u32_order j.key) i bookings stored.known among) known
+                (of_all (λ j. IsKeyRange u32_order j.key) i bookings stored.known among) known
                 (of_all (λ j. ¬ IsEmptyRange u32_order j.key) i bookings stored.nonempty among) full
                 overlap)
                 are.meet,

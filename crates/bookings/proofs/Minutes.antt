@@ -8,7 +8,7 @@ use Rattle.btree_range_map.specs.AnyRange.{AnyRange}
 use Rattle.btree_range_map.specs.Lookups.{Overlap}
 use Rattle.btree_range_map.specs.Names.{u32_order}
 use Rattle.btree_range_map.specs.Position.{start_position, end_position, position_cmp}
-use Rattle.btree_range_map.specs.Range.{StartHolds, EndHolds, IsEmptyRange, IsKnownBound, IsKnownRange}
+use Rattle.btree_range_map.specs.Range.{StartHolds, EndHolds, IsEmptyRange, IsBoundOfKey, IsKeyRange}
 use Rattle.btree_range_map.specs.Relations.{ShareKey}
 
 -- the first minute that a start holds
@@ -43,13 +43,13 @@ end_held (Included b) m key h = grind (arith, nat_tests)
 end_held (Excluded b) m key h = grind (arith, nat_tests)
 end_held Unbounded m key h = omega arith
 
-past_fits : (b : Bound ℕ) → IsKnownBound u32_order b → past_of b ≤ 4294967296
+past_fits : (b : Bound ℕ) → IsBoundOfKey u32_order b → past_of b ≤ 4294967296
 past_fits (Included b) known = omega arith
 past_fits (Excluded b) known = omega arith
 past_fits Unbounded known = omega arith
 
 -- of a range that is not empty
-some_minute : (s e : Bound ℕ) → IsKnownBound u32_order s → IsKnownBound u32_order e
+some_minute : (s e : Bound ℕ) → IsBoundOfKey u32_order s → IsBoundOfKey u32_order e
     → (position_cmp u32_order.cmp (start_position u32_order s) (end_position u32_order e) ≡ Greater
     → ⊥) → first_of s < past_of e
 some_minute (Included a) (Included b) known known' some = grind (arith, nat_tests)
@@ -63,7 +63,7 @@ some_minute Unbounded (Excluded b) known known' some = grind (arith, nat_tests)
 some_minute Unbounded Unbounded known known' some = grind (arith, nat_tests)
 
 -- of a range that does not end before another starts
-starts_within : (e s : Bound ℕ) → IsKnownBound u32_order e → IsKnownBound u32_order s
+starts_within : (e s : Bound ℕ) → IsBoundOfKey u32_order e → IsBoundOfKey u32_order s
     → (position_cmp u32_order.cmp (end_position u32_order e) (start_position u32_order s) ≡ Less
     → ⊥) → first_of s < past_of e
 starts_within (Included b) (Included a) known known' some = grind (arith, nat_tests)
@@ -103,7 +103,7 @@ not_empty Unbounded (Included b) m key h more = grind (arith, nat_tests)
 not_empty Unbounded (Excluded b) m key h more = grind (arith, nat_tests)
 not_empty Unbounded Unbounded m key h more = grind (arith, nat_tests)
 
-pub share_minute : (r s : AnyRange ℕ) → IsKnownRange u32_order r → IsKnownRange u32_order s
+pub share_minute : (r s : AnyRange ℕ) → IsKeyRange u32_order r → IsKeyRange u32_order s
     → ¬ IsEmptyRange u32_order r → ¬ IsEmptyRange u32_order s → Overlap u32_order r s
     → ShareKey u32_order r s
 share_minute r s known known' some some' meet =

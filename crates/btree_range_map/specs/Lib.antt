@@ -13,7 +13,7 @@ pub use Rattle.range_keys.specs.Position
 pub use Rattle.range_keys.specs.PositionOrder
 pub use Rattle.range_keys.specs.Signed
 pub use Rattle.range_keys.specs.Unsigned
-pub use Rattle.range_keys.specs.Untold
+pub use Rattle.range_keys.specs.BareOrders
 pub use Rattle.range_algebra.specs.Clones
 pub use Rattle.range_algebra.specs.Combined
 pub use Rattle.range_algebra.specs.Compared
@@ -31,7 +31,7 @@ pub use Rattle.range_algebra.specs.Texts
 pub use Rattle.range_store.specs.Counting
 pub use Rattle.range_tree.specs.Depth
 pub use Rattle.range_tree.specs.Holding
-pub use Rattle.range_store.specs.ListPlaces
+pub use Rattle.range_store.specs.ListRanks
 pub use Rattle.range_runs.specs.Answers
 pub use Rattle.range_bulk.specs.Appending
 pub use Rattle.range_map.specs.Askable

@@ -91,7 +91,7 @@ fn combine(command: Command, list: &mut Addresses, other: &Addresses) -> Result<
         Command::Common => list.keep_common(other),
         Command::Except => list.take_out(other),
         Command::Diff => {
-            *list = list.difference(other)?;
+            *list = list.symmetric_difference(other)?;
             Ok(())
         }
     }

@@ -7,7 +7,7 @@ use Rattle.state_sets.proofs.Lists.{slice_get-push}
 use Rattle.lexing_patterns.specs.declared.part.Edge.{Edge}
 use Rattle.lexing_patterns.specs.declared.part.Part.{Part}
 use Rattle.lexing_patterns.specs.declared.draft.End.{End}
-use Rattle.character_leads.specs.Leads.{Leads}
+use Rattle.lexing_classes.specs.Leads.{Leads}
 use Rattle.lexing_patterns.specs.Parts.{HasEdge, IsAmong, Path, Reads}
 use Rattle.lexing_patterns.specs.Built.{IsBuilt}
 use Rattle.lexing_patterns.specs.Drafts.{HasEnd, DraftReads, AreDrafted}

@@ -1,7 +1,7 @@
 -- Parts put together, and what they read then.
 use Rattle.std.proofs.Common.{◌≡◌, refl, sym, ap, subst, ◌↔◌, ◌⊎◌, inl, inr, ℕ, ◌≤◌, ◌<◌, IsTrue, List, [], ◌∷◌, ◌++◌, arith, append-nil, append_assoc}
-use Rattle.character_leads.specs.Leads.{Leads, LeadsBy}
-use Rattle.character_leads.proofs.Any.{any-append}
+use Rattle.lexing_classes.specs.Leads.{Leads, LeadsBy}
+use Rattle.lexing_classes.proofs.Any.{any-append}
 use Rattle.lexing_patterns.specs.declared.part.Edge.{Edge}
 use Rattle.lexing_patterns.specs.declared.part.Part.{Part}
 use Rattle.lexing_patterns.specs.Languages.{InTurn, RoundsOf, one_text, more_texts}

@@ -10,7 +10,7 @@ use Rattle.lexing_patterns.specs.declared.part.Part.{Part}
 use Rattle.lexing_patterns.specs.Languages.{IsLanguage}
 use Rattle.lexing_patterns.specs.Built.{IsBuilt}
 use Rattle.lexing_patterns.specs.Sizes.{HasSize, Size, class_size, size_of, step_count, text_size, turn_size}
-use Rattle.character_leads.proofs.Ranges.{in_ranges_any}
+use Rattle.lexing_classes.proofs.Ranges.{in_ranges_any}
 use Rattle.lexing_patterns.proofs.Meanings.{language_same, language_empty, language_cat, language_char_in, language_literal, language_through}
 
 -- the pattern of these characters matches them alone

@@ -7,7 +7,7 @@ use Rattle.btree_range_map.specs.Characters.{character_order}
 use Rattle.btree_range_map.specs.Order.{NotAbove}
 use Rattle.lexing_patterns.specs.declared.draft.End.{End}
 use Rattle.lexing_patterns.specs.Drafts.{HasEnd, EndsAtOne}
-use Rattle.character_leads.proofs.Any.{any-append}
+use Rattle.lexing_classes.proofs.Any.{any-append}
 
 pub same_both : {A B C : Type 0} → A ↔ B → B ↔ C → A ↔ C
 same_both ab bc = (λ a. bc.0 (ab.0 a), λ c. ab.1 (bc.1 c))

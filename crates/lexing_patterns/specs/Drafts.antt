@@ -6,7 +6,7 @@ use Rattle.lexing_patterns.specs.declared.part.Edge.{Edge}
 use Rattle.lexing_patterns.specs.declared.draft.End.{End}
 use Rattle.lexing_patterns.specs.declared.draft.Draft.{Draft}
 use Rattle.lexing_patterns.specs.Languages.{IsLanguage}
-use Rattle.character_leads.specs.Leads.{AnyOf}
+use Rattle.lexing_classes.specs.Leads.{AnyOf}
 use Rattle.lexing_patterns.specs.Leaves.{IsTaken}
 use Rattle.lexing_patterns.specs.Parts.{HasEdge, IsAmong, Path}
 use Rattle.lexing_patterns.specs.Sizes.{step_budget, total_steps}

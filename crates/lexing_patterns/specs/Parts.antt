@@ -1,6 +1,6 @@
 -- What a part of an automaton accepts.
 use Rattle.std.specs.Prelude.{◌≡◌, ℕ, ◌≤◌, ◌<◌, List, [], ◌∷◌, IsTrue}
-use Rattle.character_leads.specs.Leads.{AnyOf, LeadsBy, Leads}
+use Rattle.lexing_classes.specs.Leads.{AnyOf, LeadsBy, Leads}
 use Rattle.lexing_patterns.specs.declared.part.Edge.{Edge}
 use Rattle.lexing_patterns.specs.declared.part.Part.{Part}
 

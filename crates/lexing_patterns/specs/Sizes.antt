@@ -1,7 +1,7 @@
 -- How large the parts of patterns are, and how many steps it takes to make them.
 use Rattle.std.specs.Prelude.{◌≡◌, ℕ, ◌+◌, ◌*◌, Bool, true, false, ◌&&◌, ◌||◌, if◌then◌else◌, List, [], ◌∷◌, length, vec_len}
 use Rattle.std.specs.Str.{chars}
-use Rattle.character_leads.specs.Leads.{lead_count}
+use Rattle.lexing_classes.specs.Leads.{lead_count}
 use Rattle.regex_hir.specs.Re.{Re, empty, literal, byte_in, char_in, look, cat, alt, group, plus}
 use Rattle.lexing_patterns.specs.declared.part.Part.{Part}
 

@@ -2,12 +2,12 @@
 ghost use Rattle.std.specs.Prelude.{ℕ, ◌≤◌, ◌<◌, ◌+◌, ◌≡◌, ◌↔◌, ◌⊎◌, [], ◌∷◌, List, length, true, if◌then◌else◌, IsTrue, IfOk, OnOk, vec_len};
 ghost use Rattle.std.specs.Str.{all_scalars};
 ghost use Rattle.regex_class.specs.Ranges.{in_ranges};
-ghost use Rattle.character_leads.specs.Leads.{Leads};
+ghost use Rattle.lexing_classes.specs.Leads.{Leads};
 ghost use Rattle.lexing_patterns.specs.Languages.{InTurn, OneOf, RoundsOf};
 ghost use Rattle.lexing_patterns.specs.Parts.{HasEdge, IsAmong, Reads, IsWithin};
 ghost use Rattle.lexing_patterns.specs.Sizes.{HasSize, Size, choice_size, class_size, empty_size, rounds_size, turn_size};
 
-use character_leads::{Lead, leads_of};
+use lexing_classes::{Lead, leads_of};
 use regex_class::ClassRange;
 use std::alloc::{AllocError, Global};
 

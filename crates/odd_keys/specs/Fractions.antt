@@ -7,14 +7,14 @@ use Rattle.std.specs.Cmp.{IsTotalOrder, nat_cmp_total, nat_cmp_is, ranks, ranked
 use Rattle.std.proofs.Common.{sym, ap, ◌∙◌, arith}
 use Rattle.std.proofs.Math.Nat.{mul-lt-mul_of_pos_right, lt_of_mul-lt-mul_right}
 use Rattle.btree_range_map.specs.Order.{KeyOrder, IsLawful, IsMeasure}
-use Rattle.btree_range_map.specs.Untold.{untold_order, untold_lawful, untold_measured}
+use Rattle.btree_range_map.specs.BareOrders.{bare_order, bare_lawful, bare_measured}
 use Rattle.odd_keys.specs.declared.fraction.Fraction.{Fraction}
 
 abbrev pub fraction_cmp : Fraction → Fraction → Ordering
 fraction_cmp a b = nat_cmp (a.numerator * b.denominator) (b.numerator * a.denominator)
 
 abbrev pub fraction_order : KeyOrder Fraction
-fraction_order = untold_order fraction_cmp
+fraction_order = bare_order fraction_cmp
 
 scaled_by : (x y k : ℕ) → 0 < k → (o : Ordering)
     → MatchOrdering o (x < y) (x ≡ y) (y < x)
@@ -61,7 +61,7 @@ fraction_total = record {
 }
 
 pub fraction_lawful : IsLawful fraction_order
-fraction_lawful = untold_lawful fraction_cmp fraction_total
+fraction_lawful = bare_lawful fraction_cmp fraction_total
 
 pub fraction_measured : IsMeasure fraction_order (λ _. 0) (λ _ _. 0)
-fraction_measured = untold_measured fraction_cmp fraction_total
+fraction_measured = bare_measured fraction_cmp fraction_total

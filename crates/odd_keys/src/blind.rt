@@ -1,7 +1,7 @@
 //! Keys whose neighbours and ends are not known.
 
 ghost use Rattle.std.specs.Prelude.{refl};
-ghost use Rattle.btree_range_map.specs.Untold.{untold_order, untold_lawful, untold_measured};
+ghost use Rattle.btree_range_map.specs.BareOrders.{bare_order, bare_lawful, bare_measured};
 ghost use Rattle.odd_keys.specs.Blinds.{blind_cmp, blind_total};
 
 use btree_range_map::range::traits::{MaybeBounded, Measure, PartialEnum};
@@ -18,7 +18,7 @@ pub struct Blind<T>(pub T);
 pub type Never = Blind<Infallible>;
 
 impl<T: Ord + Copy> MaybeBounded for Blind<T> {
-    ghost order = { untold_order (blind_cmp T.cmp) };
+    ghost order = { bare_order (blind_cmp T.cmp) };
 
     fn min() -> Option<Blind<T>> {
         None
@@ -42,7 +42,7 @@ impl<T: Ord + Copy> PartialEnum for Blind<T> {
         None
     }
 
-    ghost lawful = { untold_lawful (blind_cmp T.cmp) (blind_total T.total) };
+    ghost lawful = { bare_lawful (blind_cmp T.cmp) (blind_total T.total) };
 }
 
 impl<T: Ord + Copy> Measure for Blind<T> {
@@ -58,5 +58,5 @@ impl<T: Ord + Copy> Measure for Blind<T> {
         0
     }
 
-    ghost measured = { untold_measured (blind_cmp T.cmp) (blind_total T.total) };
+    ghost measured = { bare_measured (blind_cmp T.cmp) (blind_total T.total) };
 }

@@ -103,9 +103,9 @@ impl Bounded for Half {
         Half(254)
     }
 
-    ghost told_least = { refl };
+    ghost known_least = { refl };
 
-    ghost told_greatest = { refl };
+    ghost known_greatest = { refl };
 }
 
 impl Measure for Half {

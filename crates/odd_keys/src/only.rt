@@ -52,9 +52,9 @@ impl Bounded for Only {
         Only
     }
 
-    ghost told_least = { refl };
+    ghost known_least = { refl };
 
-    ghost told_greatest = { refl };
+    ghost known_greatest = { refl };
 }
 
 impl Measure for Only {

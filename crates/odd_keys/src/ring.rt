@@ -5,7 +5,7 @@ ghost use Rattle.std.specs.Prelude.{◌≡◌, ◌+◌, ◌<◌, ◌≤◌, ◌+
 ghost use Rattle.std.specs.Option.{ForSome};
 ghost use Rattle.std.specs.VecDeque.{deque_len, deque_capacity};
 ghost use Rattle.std.proofs.Common.{arith, refl};
-ghost use Rattle.btree_range_map.specs.ListPlaces.{place_before};
+ghost use Rattle.btree_range_map.specs.ListRanks.{rank_or_len};
 
 use btree_range_map::storage::{Probe, Storage};
 use std::alloc::{AllocError, Global};
@@ -115,10 +115,10 @@ impl<T: Drop> Storage<T> for RingStorage<T> {
         requires good { ForSome before (λ p. p < length self.old.stored.items) }
         requires has_room { 1 ≤ self.old.room }
         ensures list { self.new.stored.items ≡ insert self.old.stored.items
-            (place_before (λ q. q) (length self.old.stored.items) before) item }
+            (rank_or_len (λ q. q) (length self.old.stored.items) before) item }
         ensures space { self.old.room ≡ self.new.room + 1 }
         ensures position { (result < length self.new.stored.items)
-            × (result ≡ place_before (λ q. q) (length self.old.stored.items) before) }
+            × (result ≡ rank_or_len (λ q. q) (length self.old.stored.items) before) }
     {
         let at = match before {
             Some(p) => p,

@@ -70,7 +70,7 @@ impl Bounded for Single {
         Single(u8::MAX)
     }
 
-    ghost told_least = { refl };
+    ghost known_least = { refl };
 
-    ghost told_greatest = { refl };
+    ghost known_greatest = { refl };
 }

@@ -11,7 +11,7 @@ use Rattle.range_keys.specs.declared.inner.position.Position.TheVariants.{MinusI
 use Rattle.range_keys.specs.declared.inner.position.Side.TheVariants.{Before, At, After}
 use Rattle.range_keys.proofs.Orderings.{both_equal, not_greater, less_unless_greater}
 use Rattle.range_keys.proofs.BoundPositions.{IsStart, IsEnd, starts_lie_at_starts, ends_lie_at_ends}
-use Rattle.range_algebra.specs.Range.{Holds, HoldSame, IsEmptyRange, IsKnownRange}
+use Rattle.range_algebra.specs.Range.{Holds, HoldSame, IsEmptyRange, IsKeyRange}
 use Rattle.range_algebra.specs.declared.any.AnyRange.{AnyRange}
 use Rattle.range_algebra.specs.RangeOrder.{range_cmp, range_total}
 use Rattle.range_algebra.proofs.Holding.{holds_by_position}
@@ -62,7 +62,7 @@ module _ {K : Type 0} (order : KeyOrder K) (lawful : IsLawful order)
   key_to (Beside a After) q s t h = absurd s
   key_to MinusInfinity q s t h = absurd s
 
-  module _ (r s : AnyRange K) (known : IsKnownRange order r) (others : IsKnownRange order s)
+  module _ (r s : AnyRange K) (known : IsKeyRange order r) (others : IsKeyRange order s)
       (full : IsEmptyRange order s → ⊥) (same : HoldSame order r s) where
     -- the start of r is not before that of s
     start_not_before : IsBefore (start_position order r.start) (start_position order s.start) → ⊥
@@ -116,7 +116,7 @@ module _ {K : Type 0} (order : KeyOrder K) (lawful : IsLawful order)
       both _ total p q (not_lt _ total p q g) (not_lt _ total q p f)
 
   -- nonempty ranges that hold the same keys are equal
-  pub same_is_equal : (r s : AnyRange K) → IsKnownRange order r → IsKnownRange order s
+  pub same_is_equal : (r s : AnyRange K) → IsKeyRange order r → IsKeyRange order s
       → (IsEmptyRange order r → ⊥) → (IsEmptyRange order s → ⊥) → HoldSame order r s
       → range_cmp order r s ≡ Equal
   same_is_equal r s known others full full' same =

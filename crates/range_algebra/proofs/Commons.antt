@@ -14,7 +14,7 @@ use Rattle.range_keys.specs.declared.inner.position.Side.TheVariants.{At}
 use Rattle.range_algebra.specs.declared.any.AnyRange.{AnyRange}
 use Rattle.range_algebra.specs.Intervals.{Le}
 use Rattle.range_algebra.specs.Orders.{le_refl, lt_le, eq_ge, le_trans}
-use Rattle.range_algebra.specs.Range.{StartHolds, EndHolds, Holds, IsKnownRange}
+use Rattle.range_algebra.specs.Range.{StartHolds, EndHolds, Holds, IsKeyRange}
 use Rattle.range_algebra.specs.Combined.{later_start, earlier_end, earlier_start, later_end, common}
 use Rattle.range_algebra.proofs.Holding.{start_holds, end_holds}
 
@@ -153,6 +153,6 @@ module _ {K : Type 0} (order : KeyOrder K) (lawful : IsLawful order) where
       ↔ (Holds order r k × Holds order s k)
   common_holds r s k key = grind (arith, start_both, end_both)
 
-  pub common_known : (r s : AnyRange K) → IsKnownRange order r → IsKnownRange order s
-      → IsKnownRange order (common order r s)
+  pub common_known : (r s : AnyRange K) → IsKeyRange order r → IsKeyRange order s
+      → IsKeyRange order (common order r s)
   common_known r s h k = grind arith

@@ -12,7 +12,7 @@ use Rattle.range_keys.specs.declared.inner.position.Side.TheVariants.{Before, At
 use Rattle.range_keys.specs.PositionOrder.{position_total}
 use Rattle.range_keys.proofs.Orderings.{not_greater_unless_greater}
 use Rattle.range_keys.proofs.BoundPositions.{IsStart, IsEnd, starts_lie_at_starts, ends_lie_at_ends}
-use Rattle.range_algebra.specs.Range.{Holds, IsKeyless, IsEmptyRange, IsKnownRange}
+use Rattle.range_algebra.specs.Range.{Holds, IsKeyless, IsEmptyRange, IsKeyRange}
 use Rattle.range_algebra.specs.declared.any.AnyRange.{AnyRange}
 use Rattle.range_algebra.proofs.Holding.{holds_by_position}
 
@@ -68,7 +68,7 @@ module _ {K : Type 0} (order : KeyOrder K) (lawful : IsLawful order)
   places_have_key_between s MinusInfinity p q h = absurd q
   places_have_key_between s (Beside b After) p q h = absurd q
 
-  pub nonempty_holds : (r : AnyRange K) → IsKnownRange order r
+  pub nonempty_holds : (r : AnyRange K) → IsKeyRange order r
       → is_gt (position_cmp order.cmp (start_position order r.start) (end_position order r.end))
       ≡ false → (k : K) × order.is_key k × Holds order r k
   unfolding HasKey
@@ -79,7 +79,7 @@ module _ {K : Type 0} (order : KeyOrder K) (lawful : IsLawful order)
       (ends_lie_at_ends order lawful r.end known.1) h in
       (found.0, found.1, (holds_by_position order lawful r found.0 found.1).1 (found.2, found.3))
 
-  keyless_by : (r : AnyRange K) → IsKnownRange order r → IsKeyless order r → (o : Ordering)
+  keyless_by : (r : AnyRange K) → IsKeyRange order r → IsKeyless order r → (o : Ordering)
       → position_cmp order.cmp (start_position order r.start) (end_position order r.end) ≡ o
       → o ≡ Greater
   keyless_by r known none Less e = let found =
@@ -88,6 +88,6 @@ module _ {K : Type 0} (order : KeyOrder K) (lawful : IsLawful order)
       nonempty_holds r known (ap is_gt e) in absurd (none found.0 found.1 found.2)
   keyless_by r known none Greater e = refl
 
-  pub keyless_is_empty : (r : AnyRange K) → IsKnownRange order r → IsKeyless order r
+  pub keyless_is_empty : (r : AnyRange K) → IsKeyRange order r → IsKeyless order r
       → IsEmptyRange order r
   keyless_is_empty r known none = search (rules, keyless_by)

@@ -13,7 +13,7 @@ use Rattle.range_keys.specs.declared.inner.position.Side.TheVariants.{At}
 use Rattle.range_keys.proofs.Orderings.{not_greater, not_greater_unless_equal}
 use Rattle.range_algebra.proofs.Completeness.{no_pred, none_is_not_some}
 use Rattle.range_algebra.specs.Orders.{le_refl, lt_not_le}
-use Rattle.range_algebra.specs.Range.{StartHolds, EndHolds, Holds, IsEmptyRange, IsKnownBound, IsKnownRange, start_key, end_key}
+use Rattle.range_algebra.specs.Range.{StartHolds, EndHolds, Holds, IsEmptyRange, IsBoundOfKey, IsKeyRange, start_key, end_key}
 use Rattle.range_algebra.specs.Extremes.{IsLeastOf, IsGreatestOf, HasNoLeast, HasNoGreatest}
 use Rattle.range_algebra.specs.declared.any.AnyRange.{AnyRange}
 use Rattle.range_algebra.proofs.Pieces.{start_up, end_down}
@@ -25,15 +25,15 @@ module _ {K : Type 0} (order : KeyOrder K) (lawful : IsLawful order) where
       → Holds order r k
   holds_congr r m k e h = grind arith
 
-  start_named : (b : Bound K) (m : K) → start_key order b ≡ Some m → IsKnownBound order b
+  start_named : (b : Bound K) (m : K) → start_key order b ≡ Some m → IsBoundOfKey order b
       → (start_position order b ≡ Beside m At) × order.is_key m
   start_named b m e key = grind arith
 
-  end_named : (b : Bound K) (m : K) → end_key order b ≡ Some m → IsKnownBound order b
+  end_named : (b : Bound K) (m : K) → end_key order b ≡ Some m → IsBoundOfKey order b
       → (end_position order b ≡ Beside m At) × order.is_key m
   end_named b m e key = grind arith
 
-  module _ (r : AnyRange K) (known : IsKnownRange order r) (full : ¬ IsEmptyRange order r) where
+  module _ (r : AnyRange K) (known : IsKeyRange order r) (full : ¬ IsEmptyRange order r) where
     least_at : (m k : K) → start_key order r.start ≡ Some m → order.cmp m k ≡ Equal
         → IsLeastOf order r k
     least_at m k e same =
@@ -72,7 +72,7 @@ module _ {K : Type 0} (order : KeyOrder K) (lawful : IsLawful order) where
     last_is_greatest p h = grind (arith, greatest_at)
 
   module _ (complete : IsComplete order) where
-    no_least_by : (s e : Bound K) → IsKnownBound order s → start_key order s ≡ None → (k : K)
+    no_least_by : (s e : Bound K) → IsBoundOfKey order s → start_key order s ≡ None → (k : K)
         → order.is_key k → StartHolds order s k → EndHolds order e k
         → ((j : K) → order.is_key j → StartHolds order s j × EndHolds order e j
         → NotAbove order k j) → ⊥
@@ -91,11 +91,11 @@ module _ {K : Type 0} (order : KeyOrder K) (lawful : IsLawful order) where
     ]
 
     -- where the start names no key, no held key is the least
-    pub no_least : (r : AnyRange K) → IsKnownRange order r → start_key order r.start ≡ None
+    pub no_least : (r : AnyRange K) → IsKeyRange order r → start_key order r.start ≡ None
         → HasNoLeast order r
     no_least r known n k key h = no_least_by r.start r.end known.0 n k key h.0.0 h.0.1 h.1
 
-    no_greatest_by : (s e : Bound K) → IsKnownBound order e → end_key order e ≡ None → (k : K)
+    no_greatest_by : (s e : Bound K) → IsBoundOfKey order e → end_key order e ≡ None → (k : K)
         → order.is_key k → StartHolds order s k → EndHolds order e k
         → ((j : K) → order.is_key j → StartHolds order s j × EndHolds order e j
         → NotAbove order j k) → ⊥
@@ -113,14 +113,14 @@ module _ {K : Type 0} (order : KeyOrder K) (lawful : IsLawful order) where
           (all c in_type (start_up order lawful s k c (ap is_gt l) g, tt))
     ]
 
-    pub no_greatest : (r : AnyRange K) → IsKnownRange order r → end_key order r.end ≡ None
+    pub no_greatest : (r : AnyRange K) → IsKeyRange order r → end_key order r.end ≡ None
         → HasNoGreatest order r
     no_greatest r known n k key h = no_greatest_by r.start r.end known.1 n k key h.0.0 h.0.1 h.1
 
-  pub first_none : (r : AnyRange K) → IsComplete order → IsKnownRange order r → (p : Option K)
+  pub first_none : (r : AnyRange K) → IsComplete order → IsKeyRange order r → (p : Option K)
       → SameAnswer order (start_key order r.start) p → IfNone p (HasNoLeast order r)
   first_none r complete known p h = grind (arith, no_least)
 
-  pub last_none : (r : AnyRange K) → IsComplete order → IsKnownRange order r → (p : Option K)
+  pub last_none : (r : AnyRange K) → IsComplete order → IsKeyRange order r → (p : Option K)
       → SameAnswer order (end_key order r.end) p → IfNone p (HasNoGreatest order r)
   last_none r complete known p h = grind (arith, no_greatest)

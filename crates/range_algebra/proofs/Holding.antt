@@ -7,7 +7,7 @@ use Rattle.std.specs.Ordering.{is_ge, is_gt, is_le, is_lt}
 use Rattle.std.specs.Range.Bound.{bounds_contain}
 use Rattle.std.specs.Cmp.{upto}
 use Rattle.range_keys.specs.Order.{KeyOrder, IsLawful, Below, NotAbove, Tells}
-use Rattle.range_keys.specs.Position.{start_position, end_position, position_cmp, at_told}
+use Rattle.range_keys.specs.Position.{start_position, end_position, position_cmp, at_known}
 use Rattle.range_keys.specs.PositionOrder.{position_total}
 use Rattle.range_algebra.specs.Range.{StartHolds, EndHolds, Holds, IsKeyless, IsEmptyRange, LiesWithin}
 use Rattle.range_keys.specs.declared.inner.position.Position.TheVariants.{Beside}
@@ -37,7 +37,7 @@ module _ {K : Type 0} (order : KeyOrder K) (lawful : IsLawful order) where
 
   end_told : (b k : K) (o : Option K) → order.pred b ≡ o → order.is_key k
       → EndHolds order (Excluded b) k
-      ↔ is_gt (position_cmp order.cmp (Beside k At) (at_told o (Beside b Before))) ≡ false
+      ↔ is_gt (position_cmp order.cmp (Beside k At) (at_known o (Beside b Before))) ≡ false
   end_told b k o e key = grind (arith, not_after, pred_below)
 
   pub end_holds : (b : Bound K) (k : K) → order.is_key k → EndHolds order b k
@@ -45,7 +45,7 @@ module _ {K : Type 0} (order : KeyOrder K) (lawful : IsLawful order) where
   end_holds b k key = grind (arith, end_told)
 
   told_end_before : (b k : K) (o : Option K) → order.pred b ≡ o → order.is_key k
-      → is_lt (position_cmp order.cmp (at_told o (Beside b Before)) (Beside k At))
+      → is_lt (position_cmp order.cmp (at_known o (Beside b Before)) (Beside k At))
       ≡ is_le (order.cmp b k)
   told_end_before b k None e key = grind arith
   told_end_before b k (Some a) e key = grind (arith, not_after, pred_below)
@@ -57,7 +57,7 @@ module _ {K : Type 0} (order : KeyOrder K) (lawful : IsLawful order) where
   excluded_end_before b k key = told_end_before b k (order.pred b) refl key
 
   past_told_end : (b k : K) (o : Option K) → order.pred b ≡ o → order.is_key k
-      → is_gt (position_cmp order.cmp (Beside k At) (at_told o (Beside b Before)))
+      → is_gt (position_cmp order.cmp (Beside k At) (at_known o (Beside b Before)))
       ≡ is_ge (order.cmp k b)
   past_told_end b k None e key = grind arith
   past_told_end b k (Some a) e key = grind (arith, not_after, pred_below)

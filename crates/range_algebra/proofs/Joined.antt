@@ -12,7 +12,7 @@ use Rattle.range_keys.specs.declared.inner.position.Side.TheVariants.{At}
 use Rattle.range_keys.proofs.Orderings.{less_unless_equal, not_greater}
 use Rattle.range_algebra.specs.Orders.{le_refl, lt_not_le, not_le, cases, lt_le_trans, le_lt_trans}
 use Rattle.range_algebra.proofs.Pieces.{start_up, end_down}
-use Rattle.range_algebra.specs.Range.{Holds, IsKnownRange, IsEmptyRange}
+use Rattle.range_algebra.specs.Range.{Holds, IsKeyRange, IsEmptyRange}
 use Rattle.range_algebra.specs.declared.any.AnyRange.{AnyRange}
 use Rattle.range_algebra.specs.declared.ordering.RangeOrdering.TheVariants.{Before, After}
 use Rattle.range_algebra.specs.Compared.{range_ordering, is_before, is_after, starts_at_end}
@@ -39,7 +39,7 @@ module _ {K : Type 0} (order : KeyOrder K) (lawful : IsLawful order) where
       ((holds_by_position order lawful s b key').0 g).0)
 
 module _ {K : Type 0} (order : KeyOrder K) (lawful : IsLawful order) (complete : IsComplete order)
-    (r s : AnyRange K) (known : IsKnownRange order r) (others : IsKnownRange order s) (y z : K)
+    (r s : AnyRange K) (known : IsKeyRange order r) (others : IsKeyRange order s) (y z : K)
     (key : order.is_key y) (key' : order.is_key z) (here : Holds order r y)
     (there : Holds order s z) (below : AreBelow order r s) where
   not_below_itself : (k : K) → Below order k k → ⊥
@@ -114,11 +114,11 @@ module _ {K : Type 0} (order : KeyOrder K) (lawful : IsLawful order) where
       (told_after (position_total order.cmp lawful.total) _ _ _ _ _ _ _ _ _ _ t e).0
 
   module _ (complete : IsComplete order) where
-    filled_range_has_key : (r : AnyRange K) → IsKnownRange order r → ¬ IsEmptyRange order r
+    filled_range_has_key : (r : AnyRange K) → IsKeyRange order r → ¬ IsEmptyRange order r
         → (k : K) × order.is_key k × Holds order r k
     filled_range_has_key r known full = grind (arith, nonempty_holds)
 
-    pub joined_touch : (r s : AnyRange K) → IsKnownRange order r → IsKnownRange order s
+    pub joined_touch : (r s : AnyRange K) → IsKeyRange order r → IsKeyRange order s
         → (¬ IsEmptyRange order r) → (¬ IsEmptyRange order s) → AreJoined order r s
         → Touches order r s
     unfolding NotPast IsBefore KeyFrom
@@ -133,7 +133,7 @@ module _ {K : Type 0} (order : KeyOrder K) (lawful : IsLawful order) where
         ]
 
     -- the flag of one that ends before the other says whether they are joined
-    flag_joined : (r s : AnyRange K) → IsKnownRange order r → IsKnownRange order s
+    flag_joined : (r s : AnyRange K) → IsKeyRange order r → IsKeyRange order s
         → (¬ IsEmptyRange order r) → (¬ IsEmptyRange order s) → LiesBefore order r s → (t : Bool)
         → starts_at_end order r.end (start_position order s.start) ≡ t → IsTrue t
         ↔ AreJoined order r s
@@ -145,14 +145,14 @@ module _ {K : Type 0} (order : KeyOrder K) (lawful : IsLawful order) where
           λ joined. sym e ∙ joined_touch r s known others full full' joined,
         )
 
-    pub before_joined : (r s : AnyRange K) → IsKnownRange order r → IsKnownRange order s
+    pub before_joined : (r s : AnyRange K) → IsKeyRange order r → IsKeyRange order s
         → (¬ IsEmptyRange order r) → (¬ IsEmptyRange order s) → (t : Bool)
         → range_ordering order r s ≡ Before t → IsTrue t ↔ AreJoined order r s
     before_joined r s known others full full' t e =
         let told = told_before (position_total order.cmp lawful.total) _ _ _ _ _ _ _ _ _ _ t e in
         flag_joined r s known others full full' told.0 t told.1
 
-    pub after_joined : (r s : AnyRange K) → IsKnownRange order r → IsKnownRange order s
+    pub after_joined : (r s : AnyRange K) → IsKeyRange order r → IsKeyRange order s
         → (¬ IsEmptyRange order r) → (¬ IsEmptyRange order s) → (t : Bool)
         → range_ordering order r s ≡ After t → IsTrue t ↔ AreJoined order s r
     after_joined r s known others full full' t e =
@@ -160,7 +160,7 @@ module _ {K : Type 0} (order : KeyOrder K) (lawful : IsLawful order) where
         flag_joined s r others known full' full told.0 t told.1
 
     -- and nonempty ranges of which the one is below the other are compared so
-    pub below_before : (r s : AnyRange K) → IsKnownRange order r → IsKnownRange order s
+    pub below_before : (r s : AnyRange K) → IsKeyRange order r → IsKeyRange order s
         → (¬ IsEmptyRange order r) → (¬ IsEmptyRange order s) → AreBelow order r s
         → IsTrue (is_before (range_ordering order r s) false)
     below_before r s known others full full' below =
@@ -169,7 +169,7 @@ module _ {K : Type 0} (order : KeyOrder K) (lawful : IsLawful order) where
         is_before_of order lawful complete r s known others y.0 z.0 y.1 z.1 y.2 z.2 below false
         (λ joined e. cc)
 
-    pub below_after : (r s : AnyRange K) → IsKnownRange order r → IsKnownRange order s
+    pub below_after : (r s : AnyRange K) → IsKeyRange order r → IsKeyRange order s
         → (¬ IsEmptyRange order r) → (¬ IsEmptyRange order s) → AreBelow order s r
         → IsTrue (is_after (range_ordering order r s) false)
     below_after r s known others full full' below =

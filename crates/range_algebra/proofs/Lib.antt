@@ -11,7 +11,7 @@ pub mod Measuring
 pub mod Meeting
 pub mod Numbers
 pub mod Pieces
-pub mod Places
+pub mod Positions
 pub mod Products
 pub mod Results
 pub mod Taking

@@ -8,7 +8,7 @@ use Rattle.std.specs.Ordering.{is_gt}
 use Rattle.std.specs.Cmp.{upto}
 use Rattle.range_keys.specs.Order.{KeyOrder, IsLawful, IsMeasure, Below, NotAbove, Tells}
 use Rattle.range_keys.specs.Counted.{IsCountedMeasure, counted_lawful}
-use Rattle.range_keys.specs.Position.{start_position, end_position, position_cmp, at_told}
+use Rattle.range_keys.specs.Position.{start_position, end_position, position_cmp, at_known}
 use Rattle.range_keys.specs.PositionOrder.{position_total}
 use Rattle.range_keys.specs.declared.inner.position.Position.{Position}
 use Rattle.range_keys.specs.declared.inner.position.Position.TheVariants.{Beside}
@@ -18,16 +18,16 @@ use Rattle.range_algebra.specs.declared.any.AnyRange.{AnyRange}
 use Rattle.range_algebra.specs.Cuts.{past, lower, upper}
 use Rattle.range_algebra.specs.Intervals.{Le, Any}
 use Rattle.range_algebra.specs.Orders.{lt_le_trans, lt_trans}
-use Rattle.range_algebra.specs.Range.{Holds, IsKnownBound, IsKnownRange, IsEmptyRange}
+use Rattle.range_algebra.specs.Range.{Holds, IsBoundOfKey, IsKeyRange, IsEmptyRange}
 use Rattle.range_algebra.specs.Relations.{LiesBefore}
-use Rattle.range_algebra.specs.Measures.{told_bound, measure_between, measure_sum, range_measure, list_measure, AreInOrder}
+use Rattle.range_algebra.specs.Measures.{closed_by, measure_between, measure_sum, range_measure, list_measure, AreInOrder}
 use Rattle.range_algebra.specs.Numbers.{IsNumberOfKeys}
 use Rattle.range_algebra.proofs.Distances.{IsPlace, gap, gap_adds, gap_fits}
 use Rattle.range_algebra.proofs.Meeting.{before_is, not_greater}
 use Rattle.range_algebra.proofs.Joined.{ends_below}
 use Rattle.range_algebra.proofs.Measuring.{included_included, included_excluded, excluded_included, excluded_excluded, told_start, told_end, told_known, told_reach, full_measure, measure_is_number}
 use Rattle.range_algebra.proofs.Numbers.{number_none, number_both}
-use Rattle.range_algebra.proofs.Places.{reaching_is_before_past}
+use Rattle.range_algebra.proofs.Positions.{reaching_is_before_past}
 
 -- a sum that is there has both parts
 sum_parts : (o p : Option ℕ) (n : ℕ) → measure_sum o p ≡ Some n
@@ -35,13 +35,13 @@ sum_parts : (o p : Option ℕ) (n : ℕ) → measure_sum o p ≡ Some n
 sum_parts o p n e = grind arith
 
 module _ {K : Type 0} (order : KeyOrder K) (lawful : IsLawful order) where
-  ends_after : (s e : Bound K) → IsKnownBound order s → IsKnownBound order e
+  ends_after : (s e : Bound K) → IsBoundOfKey order s → IsBoundOfKey order e
       → Le (position_cmp order.cmp) (start_position order s) (end_position order e)
       → Le (position_cmp order.cmp) (start_position order s) (past order (end_position order e))
   ends_after s e known known' h = grind (arith, reaching_is_before_past)
 
   -- where the one lies before the other, its upper place is at most the other's lower one
-  before_is_below : (r s : AnyRange K) → IsKnownRange order r → IsKnownRange order s
+  before_is_below : (r s : AnyRange K) → IsKeyRange order r → IsKeyRange order s
       → LiesBefore order r s → Le (position_cmp order.cmp) (upper order r) (lower order s)
   before_is_below r s known others h =
       (before_is order lawful r.end s.start known.1 others.0).0 h
@@ -62,7 +62,7 @@ module _ {K : Type 0} (order : KeyOrder K) (lawful : IsLawful order) where
   rest_in_order r ranges h = grind arith
 
   pub first_known : (r : AnyRange K) (ranges : List (AnyRange K)) → AreInOrder order (r ∷ ranges)
-      → IsKnownRange order r × ¬ IsEmptyRange order r
+      → IsKeyRange order r × ¬ IsEmptyRange order r
   first_known r ranges h = grind arith
 
   -- the keys of the first range are below those of all others
@@ -106,16 +106,16 @@ module _ {K : Type 0} (order : KeyOrder K) (lawful : IsLawful order) where
 
     -- the place after a key
     measure_after_key : (a : K) (o : Option K) → order.succ a ≡ o → order.is_key a
-        → LiesAbove a (at_told o (Beside a After)) (len a)
+        → LiesAbove a (at_known o (Beside a After)) (len a)
     measure_after_key a o e key = grind (arith, past_place, behind_key, key_place, between_keys)
 
     -- the place before a key, after the neighbour that is told
     before_by : (a b : K) (o : Option K) → order.succ a ≡ o → Tells order o b → order.is_key b
-        → LiesAbove b (at_told o (Beside a After)) 0
+        → LiesAbove b (at_known o (Beside a After)) 0
     before_by a b o e t key = grind (arith, key_place, between_keys)
 
     before_key : (b : K) (o : Option K) → order.pred b ≡ o → order.is_key b
-        → LiesAbove b (past order (at_told o (Beside b Before))) 0
+        → LiesAbove b (past order (at_known o (Beside b Before))) 0
     before_key b None e key = at_key b key
     before_key b (Some a) e key = before_by a b (order.succ a) refl (lawful.pred_succ a b e) key
 
@@ -142,7 +142,7 @@ module _ {K : Type 0} (order : KeyOrder K) (lawful : IsLawful order) where
         let j = end.much in
         record { low = start.is_place; high = end.is_place; much = omega arith }
 
-    bounds_gap : (s e : Bound K) (n : ℕ) → IsKnownBound order s → IsKnownBound order e
+    bounds_gap : (s e : Bound K) (n : ℕ) → IsBoundOfKey order s → IsBoundOfKey order e
         → Le (position_cmp order.cmp) (start_position order s) (end_position order e)
         → measure_between len distance s e ≡ Some n
         → IsGap (start_position order s) (past order (end_position order e)) n
@@ -174,17 +174,17 @@ module _ {K : Type 0} (order : KeyOrder K) (lawful : IsLawful order) where
         (before_key b (order.pred b) refl known')
         (ends_after (Excluded a) (Excluded b) known known' h) (grind arith)
 
-    range_gap : (r : AnyRange K) (n : ℕ) → IsKnownRange order r → ¬ IsEmptyRange order r
+    range_gap : (r : AnyRange K) (n : ℕ) → IsKeyRange order r → ¬ IsEmptyRange order r
         → range_measure order len distance r ≡ Some n → IsGap (lower order r) (upper order r) n
     range_gap r n known full e =
         let told =
-        bounds_gap (told_bound order.least r.start) (told_bound order.greatest r.end) n
+        bounds_gap (closed_by order.least r.start) (closed_by order.greatest r.end) n
         (told_known order lawful order.least r.start lawful.least_key known.0)
         (told_known order lawful order.greatest r.end lawful.greatest_key known.1)
         (told_reach order lawful r full)
         (sym (full_measure order lawful len distance r full) ∙ e) in
         subst (λ p. IsGap p (upper order r) n) (told_start order lawful r.start)
-        (subst (λ q. IsGap (start_position order (told_bound order.least r.start)) q n)
+        (subst (λ q. IsGap (start_position order (closed_by order.least r.start)) q n)
         (ap (past order) (told_end order lawful r.end)) told)
 
     first_place : (s : AnyRange K) (ranges : List (AnyRange K)) (n : ℕ)

@@ -18,13 +18,13 @@ use Rattle.range_algebra.specs.declared.ordering.RangeOrdering.{RangeOrdering}
 use Rattle.range_algebra.specs.declared.ordering.RangeOrdering.TheVariants as lying
 use Rattle.range_algebra.specs.Intervals.{Le, Lt}
 use Rattle.range_algebra.specs.Orders.{le_refl, eq_ge, lt_not_le, cases, not_le, not_lt, lt_le_trans, both}
-use Rattle.range_algebra.specs.Range.{IsEmptyRange, StartHolds, EndHolds, Holds, IsKnownBound, IsKnownRange}
+use Rattle.range_algebra.specs.Range.{IsEmptyRange, StartHolds, EndHolds, Holds, IsBoundOfKey, IsKeyRange}
 use Rattle.range_algebra.specs.Compared.{flipped, start_is_at, starts_at_end, range_ordering, matches, is_before, is_after}
 use Rattle.range_algebra.specs.Combined.{earlier_end, common}
 use Rattle.range_algebra.specs.Cuts.{past, lower, upper}
 use Rattle.range_algebra.specs.Relations.{LiesBetween, Meets, ShareKey, AreConnected}
 use Rattle.range_algebra.proofs.Holding.{start_holds, end_holds, holds_by_position}
-use Rattle.range_algebra.proofs.Places.{held_between, reaching_is_before_past, key_reaches, flipped_bound_is_past, unbounded_end}
+use Rattle.range_algebra.proofs.Positions.{held_between, reaching_is_before_past, key_reaches, flipped_bound_is_past, unbounded_end}
 use Rattle.range_algebra.proofs.Completeness.{nonempty_holds}
 use Rattle.range_algebra.proofs.Canonical.{NotPast, IsBefore, KeyFrom, key_from}
 use Rattle.range_algebra.proofs.Commons.{later_is, earlier_is, common_holds, common_known}
@@ -82,7 +82,7 @@ module _ {K : Type 0} (order : KeyOrder K) (lawful : IsLawful order) where
   Full r = PLe (start_position order r.start) (end_position order r.end)
 
   -- an end lies before a start where the place past it is at most that start
-  pub before_is : (e s : Bound K) → IsKnownBound order e → IsKnownBound order s
+  pub before_is : (e s : Bound K) → IsBoundOfKey order e → IsBoundOfKey order s
       → PLt (end_position order e) (start_position order s)
       ↔ PLe (past order (end_position order e)) (start_position order s)
   before_is e s known others =
@@ -106,7 +106,7 @@ module _ {K : Type 0} (order : KeyOrder K) (lawful : IsLawful order) where
 
   -- a nonempty range starts where an end ends that lies before it, where the place past that end is
   -- at least its start
-  pub touches_is : (e : Bound K) (s : AnyRange K) → IsKnownRange order s → Full s
+  pub touches_is : (e : Bound K) (s : AnyRange K) → IsKeyRange order s → Full s
       → PLe (past order (end_position order e)) (lower order s)
       → IsTrue (starts_at_end order e (lower order s))
       ↔ PLe (lower order s) (past order (end_position order e))
@@ -147,8 +147,8 @@ module _ {K : Type 0} (order : KeyOrder K) (lawful : IsLawful order) where
         let other = (holds_by_position order lawful s k key).0 g in
         (upto total _ _ _ own.0 other.1, upto total _ _ _ other.0 own.1)
 
-    module _ (complete : IsComplete order) (known : IsKnownRange order r)
-        (others : IsKnownRange order s) where
+    module _ (complete : IsComplete order) (known : IsKeyRange order r)
+        (others : IsKeyRange order s) where
       meets_share : PLe (start_position order r.start) (end_position order s.end)
           × PLe (start_position order s.start) (end_position order r.end) → ShareKey order r s
       meets_share h =
@@ -185,7 +185,7 @@ module _ {K : Type 0} (order : KeyOrder K) (lawful : IsLawful order) where
   Gap r s k = (¬ EndHolds order r.end k) × (¬ StartHolds order s.start k)
 
   -- where there is such a key the one lies before the other, and they do not touch
-  pub gap_apart : (r s : AnyRange K) (k : K) → IsKnownRange order r → IsKnownRange order s → Full s
+  pub gap_apart : (r s : AnyRange K) (k : K) → IsKeyRange order r → IsKeyRange order s → Full s
       → order.is_key k → Gap r s k
       → PLt (end_position order r.end) (start_position order s.start)
       × (IsTrue (starts_at_end order r.end (start_position order s.start)) → ⊥)
@@ -209,7 +209,7 @@ module _ {K : Type 0} (order : KeyOrder K) (lawful : IsLawful order) where
   past_is_start e q complete h l = grind (arith, excluded_start_is_one)
 
   -- a key from the place past the one on, before the start of the other, lies between their keys
-  pub between_places : (r s : AnyRange K) → IsKnownRange order r → IsKnownRange order s → (k : K)
+  pub between_places : (r s : AnyRange K) → IsKeyRange order r → IsKeyRange order s → (k : K)
       → PLe (upper order r) (Beside k At) → PLt (Beside k At) (lower order s)
       → LiesBetween order r s k
   between_places r s known others k from upto = let total = position_total order.cmp lawful.total in (
@@ -221,8 +221,8 @@ module _ {K : Type 0} (order : KeyOrder K) (lawful : IsLawful order) where
         ((held_between order lawful s b others key).0 h).0),
   )
 
-  module _ (complete : IsComplete order) (r s : AnyRange K) (known : IsKnownRange order r)
-      (others : IsKnownRange order s) where
+  module _ (complete : IsComplete order) (r s : AnyRange K) (known : IsKeyRange order r)
+      (others : IsKeyRange order s) where
     -- one that lies before the other touches it, or a key lies between their places
     pub touch_or_key : Full s → PLt (end_position order r.end) (start_position order s.start)
         → IsTrue (starts_at_end order r.end (start_position order s.start))
@@ -261,7 +261,7 @@ module _ {K : Type 0} (order : KeyOrder K) (lawful : IsLawful order) where
   swap_connected : (r s : AnyRange K) → AreConnected order r s → AreConnected order s r
   swap_connected r s h a b k key key' key'' held held' l l' = grind arith
 
-  module _ (r s : AnyRange K) (known : IsKnownRange order r) (others : IsKnownRange order s)
+  module _ (r s : AnyRange K) (known : IsKeyRange order r) (others : IsKeyRange order s)
       (full : ¬ IsEmptyRange order r) (full' : ¬ IsEmptyRange order s) where
     connects_is : IsTrue (matches (range_ordering order r s) true)
         ↔ ((PLt (end_position order r.end) (start_position order s.start)

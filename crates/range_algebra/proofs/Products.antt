@@ -14,12 +14,12 @@ use Rattle.range_algebra.specs.declared.range.parts.ProductArg.{ProductArg}
 use Rattle.range_algebra.specs.declared.range.parts.ProductArg.TheVariants.{Subject, Object}
 use Rattle.range_algebra.specs.Intervals.{Le, Lt}
 use Rattle.range_algebra.specs.Orders.{eq_le, lt_not_le, lt_le_trans, le_lt_trans, lt_trans}
-use Rattle.range_algebra.specs.Range.{StartHolds, EndHolds, Holds, IsKnownBound, IsKnownRange, IsKeyless}
+use Rattle.range_algebra.specs.Range.{StartHolds, EndHolds, Holds, IsBoundOfKey, IsKeyRange, IsKeyless}
 use Rattle.range_algebra.specs.Compared.{flipped}
 use Rattle.range_algebra.specs.Combined.{later_start, earlier_end, common}
 use Rattle.range_algebra.specs.Parts.{is_empty_range, unless_empty, part_to, part_from, part_before, part_after, product, full_product, RangeHolds, PartHolds, IsOfSubject, IsOfObject, IsProduct}
 use Rattle.range_algebra.proofs.Holding.{start_holds, end_holds, empty_is_keyless}
-use Rattle.range_algebra.proofs.Places.{flipped_bound_is_past, flipped_back, flipped_known}
+use Rattle.range_algebra.proofs.Positions.{flipped_bound_is_past, flipped_back, flipped_known}
 use Rattle.range_algebra.proofs.Commons.{later_over, earlier_under, common_holds}
 use Rattle.range_algebra.proofs.Meeting.{before_is}
 use Rattle.std.specs.Cmp.{upto}
@@ -34,7 +34,7 @@ module _ {K : Type 0} (order : KeyOrder K) (lawful : IsLawful order) where
 
   -- a start on the other side of an end lies past it, and so an end on the other side of a start
   -- before that
-  flipped_past : (b i : Bound K) → flipped b ≡ Some i → IsKnownBound order b
+  flipped_past : (b i : Bound K) → flipped b ≡ Some i → IsBoundOfKey order b
       → PLt (end_position order b) (start_position order i)
   flipped_past b i e known =
       (before_is order lawful b i known (flipped_known order lawful b i e known)).1
@@ -46,7 +46,7 @@ module _ {K : Type 0} (order : KeyOrder K) (lawful : IsLawful order) where
 
   -- there is a part before another range only where the range starts before it
   to_some : (r x : AnyRange K) (b : Bound K) (o : Option (Bound K)) → flipped b ≡ o
-      → IsKnownBound order b → part_to order r o ≡ Some x
+      → IsBoundOfKey order b → part_to order r o ≡ Some x
       → PLt (start_position order r.start) (start_position order b)
   to_some r x b None e known h = absurd (cc)
   to_some r x b (Some i) e known h =
@@ -57,7 +57,7 @@ module _ {K : Type 0} (order : KeyOrder K) (lawful : IsLawful order) where
       (flipped_past i b (flipped_back order lawful b i e) (flipped_known order lawful b i e known))
 
   from_some : (r x : AnyRange K) (b : Bound K) (o : Option (Bound K)) → flipped b ≡ o
-      → IsKnownBound order b → part_from order r o ≡ Some x
+      → IsBoundOfKey order b → part_from order r o ≡ Some x
       → PLt (end_position order b) (end_position order r.end)
   from_some r x b None e known h = absurd (cc)
   from_some r x b (Some i) e known h =
@@ -77,7 +77,7 @@ module _ {K : Type 0} (order : KeyOrder K) (lawful : IsLawful order) where
   end_under b k key h = grind (arith, end_holds)
 
   -- not both ranges have a part before the other
-  no_before : (r s : AnyRange K) (k : K) → IsKnownRange order s → order.is_key k
+  no_before : (r s : AnyRange K) (k : K) → IsKeyRange order s → order.is_key k
       → (o : Option (AnyRange K)) → part_before order r s ≡ o
       → RangeHolds order (part_before order s r) k → o ≡ None
   no_before r s k known key None e h = refl
@@ -89,7 +89,7 @@ module _ {K : Type 0} (order : KeyOrder K) (lawful : IsLawful order) where
       absurd (lt_not_le _ total (Beside k At) _ over
       ((start_holds order lawful s.start k key).0 own.0.0))
 
-  no_after : (r s : AnyRange K) (k : K) → IsKnownRange order s → order.is_key k
+  no_after : (r s : AnyRange K) (k : K) → IsKeyRange order s → order.is_key k
       → (o : Option (AnyRange K)) → part_after order r s ≡ o
       → RangeHolds order (part_after order s r) k → o ≡ None
   no_after r s k known key None e h = refl
@@ -139,7 +139,7 @@ module _ {K : Type 0} (order : KeyOrder K) (lawful : IsLawful order) where
       (lt_trans _ total (Beside a At) _ (Beside b At) (start_over s.start a key h)
       (le_lt_trans _ total _ _ (Beside b At) full (end_under s.end b key' g)))
 
-  module _ (r s : AnyRange K) (known : IsKnownRange order r) (others : IsKnownRange order s) where
+  module _ (r s : AnyRange K) (known : IsKeyRange order r) (others : IsKeyRange order s) where
     in_order : PLe (start_position order r.start) (end_position order r.end)
         → PLe (start_position order s.start) (end_position order s.end) → (a b : K) → order.is_key a
         → order.is_key b

@@ -7,7 +7,7 @@ use Rattle.std.specs.declared.cmp.Ordering.TheVariants.{Equal}
 use Rattle.std.specs.Ordering.{ordering_then}
 use Rattle.std.specs.Cmp.{tied_itself}
 use Rattle.range_keys.specs.Order.{KeyOrder, IsLawful, SameAnswer}
-use Rattle.range_keys.specs.Position.{start_position, end_position, position_cmp, at_told}
+use Rattle.range_keys.specs.Position.{start_position, end_position, position_cmp, at_known}
 use Rattle.range_keys.specs.PositionOrder.{position_total}
 use Rattle.range_keys.specs.declared.inner.position.Position.{Position}
 use Rattle.range_keys.specs.declared.inner.position.Position.TheVariants.{MinusInfinity, Beside, PlusInfinity}
@@ -66,7 +66,7 @@ level o p e f = rw e f
 module _ {K : Type 0} (order : KeyOrder K) (lawful : IsLawful order) where
   told_same : (o p : Option K) (q r : Position K) → SameAnswer order o p
       → position_cmp order.cmp q r ≡ Equal
-      → position_cmp order.cmp (at_told o q) (at_told p r) ≡ Equal
+      → position_cmp order.cmp (at_known o q) (at_known p r) ≡ Equal
   told_same None None q r h e = e
   told_same None (Some y) q r h e = absurd h
   told_same (Some x) None q r h e = absurd h
@@ -79,7 +79,7 @@ module _ {K : Type 0} (order : KeyOrder K) (lawful : IsLawful order) where
       told_same (order.succ a) (order.succ b) (Beside a After) (Beside b After)
       (lawful.succ_congr a b h) (level (order.cmp a b) Equal h refl)
   same_start Unbounded Unbounded h =
-      tied_itself (position_total order.cmp lawful.total) (at_told order.least MinusInfinity)
+      tied_itself (position_total order.cmp lawful.total) (at_known order.least MinusInfinity)
   same_start (Included a) (Excluded b) h = absurd h
   same_start (Included a) Unbounded h = absurd h
   same_start (Excluded a) (Included b) h = absurd h
@@ -94,7 +94,7 @@ module _ {K : Type 0} (order : KeyOrder K) (lawful : IsLawful order) where
       told_same (order.pred a) (order.pred b) (Beside a Before) (Beside b Before)
       (lawful.pred_congr a b h) (level (order.cmp a b) Equal h refl)
   same_end Unbounded Unbounded h =
-      tied_itself (position_total order.cmp lawful.total) (at_told order.greatest PlusInfinity)
+      tied_itself (position_total order.cmp lawful.total) (at_known order.greatest PlusInfinity)
   same_end (Included a) (Excluded b) h = absurd h
   same_end (Included a) Unbounded h = absurd h
   same_end (Excluded a) (Included b) h = absurd h

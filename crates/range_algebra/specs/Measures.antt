@@ -6,15 +6,15 @@ use Rattle.std.specs.Ordering.{is_gt}
 use Rattle.range_keys.specs.Order.{KeyOrder}
 use Rattle.range_keys.specs.Position.{start_position, end_position, position_cmp}
 use Rattle.range_algebra.specs.declared.any.AnyRange.{AnyRange}
-use Rattle.range_algebra.specs.Range.{IsKnownRange, IsEmptyRange}
+use Rattle.range_algebra.specs.Range.{IsKeyRange, IsEmptyRange}
 use Rattle.range_algebra.specs.Relations.{LiesBefore}
 
--- a told end, included, stands for an unbounded bound
-abbrev pub told_bound : {K : Type 0} → Option K → Bound K → Bound K
-told_bound told (Included a) = Included a
-told_bound told (Excluded a) = Excluded a
-told_bound (Some a) Unbounded = Included a
-told_bound None Unbounded = Unbounded
+-- a known end, included, stands for an unbounded bound
+abbrev pub closed_by : {K : Type 0} → Option K → Bound K → Bound K
+closed_by told (Included a) = Included a
+closed_by told (Excluded a) = Excluded a
+closed_by (Some a) Unbounded = Included a
+closed_by None Unbounded = Unbounded
 
 -- the distance from the start's key to the end's, less the length of an excluded start, plus that
 -- of an included end
@@ -34,20 +34,20 @@ measure_sum (Some m) None = None
 measure_sum None n = None
 
 module _ {K : Type 0} (order : KeyOrder K) where
-  -- the range is unbounded towards an end that the type does not tell
-  abbrev pub HasUntoldEnd : AnyRange K → Type 0
-  HasUntoldEnd r =
+  -- the range is unbounded towards an end that is not known
+  abbrev pub HasUnknownEnd : AnyRange K → Type 0
+  HasUnknownEnd r =
       ((r.start ≡ Unbounded) × (order.least ≡ None)) ⊎
       ((r.end ≡ Unbounded) × (order.greatest ≡ None))
 
   -- 0 where the start lies past the end, and otherwise what lies between the bounds, where both are
-  -- told
+  -- known
   abbrev pub range_measure : (K → ℕ) → (K → K → ℕ) → AnyRange K → Option ℕ
   range_measure len distance r =
       if is_gt (position_cmp order.cmp (start_position order r.start) (end_position order r.end))
       then Some 0
-      else measure_between len distance (told_bound order.least r.start)
-      (told_bound order.greatest r.end)
+      else measure_between len distance (closed_by order.least r.start)
+      (closed_by order.greatest r.end)
 
   -- the measures of the ranges together
   abbrev pub list_measure : (K → ℕ) → (K → K → ℕ) → List (AnyRange K) → Option ℕ
@@ -55,10 +55,10 @@ module _ {K : Type 0} (order : KeyOrder K) where
   list_measure len distance (r ∷ ranges) =
       measure_sum (range_measure len distance r) (list_measure len distance ranges)
 
-  -- the ranges are known and nonempty, and each ends before the next starts
+  -- the ranges are of keys and nonempty, and each ends before the next starts
   abbrev pub AreInOrder : List (AnyRange K) → Type 0
   AreInOrder [] = ⊤
-  AreInOrder (r ∷ []) = IsKnownRange order r × ¬ IsEmptyRange order r
+  AreInOrder (r ∷ []) = IsKeyRange order r × ¬ IsEmptyRange order r
   AreInOrder (r ∷ s ∷ ranges) =
-      IsKnownRange order r × (¬ IsEmptyRange order r) × LiesBefore order r s
+      IsKeyRange order r × (¬ IsEmptyRange order r) × LiesBefore order r s
       × AreInOrder (s ∷ ranges)

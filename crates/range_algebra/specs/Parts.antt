@@ -114,8 +114,8 @@ module _ {K : Type 0} (order : KeyOrder K) where
   PartHolds (Some (Object r)) k = Holds order r k
 
   -- each key of the first is less than each key of the second
-  abbrev pub AreRising : (K → Type 0) → (K → Type 0) → Type 0
-  AreRising P Q = (a b : K) → order.is_key a → order.is_key b → P a → Q b → order.cmp a b ≡ Less
+  abbrev pub ComesBefore : (K → Type 0) → (K → Type 0) → Type 0
+  ComesBefore P Q = (a b : K) → order.is_key a → order.is_key b → P a → Q b → order.cmp a b ≡ Less
 
   -- the parts of two ranges, by the keys that they hold
   pub record IsProduct (r s : AnyRange K) (p : Product K) : Type 0 where
@@ -132,6 +132,6 @@ module _ {K : Type 0} (order : KeyOrder K) where
     pub objects : (k : K) → order.is_key k → IsOfObject p.before k ⊎ IsOfObject p.after k
         → Holds order s k × ¬ Holds order r k
     -- in order
-    pub before_shared : AreRising (PartHolds p.before) (RangeHolds p.intersection)
-    pub shared_after : AreRising (RangeHolds p.intersection) (PartHolds p.after)
-    pub before_after : AreRising (PartHolds p.before) (PartHolds p.after)
+    pub before_shared : ComesBefore (PartHolds p.before) (RangeHolds p.intersection)
+    pub shared_after : ComesBefore (RangeHolds p.intersection) (PartHolds p.after)
+    pub before_after : ComesBefore (PartHolds p.before) (PartHolds p.after)

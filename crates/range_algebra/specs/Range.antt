@@ -50,14 +50,14 @@ module _ {K : Type 0} (order : KeyOrder K) where
       × (is_gt (position_cmp order.cmp (Beside k At) (end_position order r.end)) ≡ false)
 
   -- the bound's value, if it has one, is a key
-  abbrev pub IsKnownBound : Bound K → Type 0
-  IsKnownBound b = IsOverKeys order b
+  abbrev pub IsBoundOfKey : Bound K → Type 0
+  IsBoundOfKey b = IsOverKeys order b
 
-  abbrev pub IsKnownRange : AnyRange K → Type 0
-  IsKnownRange r = IsKnownBound r.start × IsKnownBound r.end
+  abbrev pub IsKeyRange : AnyRange K → Type 0
+  IsKeyRange r = IsBoundOfKey r.start × IsBoundOfKey r.end
 
   -- the least key that a start bound names, and the greatest that an end bound names, where they
-  -- are told
+  -- are known
   abbrev pub start_key : Bound K → Option K
   start_key (Included a) = Some a
   start_key (Excluded a) = order.succ a

@@ -5,7 +5,7 @@ use Rattle.std.specs.declared.cmp.Ordering.TheVariants.{Less}
 use Rattle.range_keys.specs.Order.{KeyOrder, Below}
 use Rattle.range_keys.specs.Position.{start_position, end_position, position_cmp}
 use Rattle.range_algebra.specs.declared.any.AnyRange.{AnyRange}
-use Rattle.range_algebra.specs.Range.{StartHolds, EndHolds, Holds, IsEmptyRange, IsKnownRange}
+use Rattle.range_algebra.specs.Range.{StartHolds, EndHolds, Holds, IsEmptyRange, IsKeyRange}
 use Rattle.range_algebra.specs.Compared.{range_ordering, matches, starts_at_end}
 
 module _ {K : Type 0} (order : KeyOrder K) where
@@ -47,7 +47,7 @@ module _ {K : Type 0} (order : KeyOrder K) where
 
   -- R is true of every two nonempty ranges over keys
   abbrev pub OfAnyNonempty : (AnyRange K → AnyRange K → Type 0) → Type 0
-  OfAnyNonempty R = (r s : AnyRange K) → IsKnownRange order r → IsKnownRange order s
+  OfAnyNonempty R = (r s : AnyRange K) → IsKeyRange order r → IsKeyRange order s
       → ¬ IsEmptyRange order r → ¬ IsEmptyRange order s → R r s
 
   -- the third range holds just the keys that both others hold

@@ -6,7 +6,7 @@ ghost use Rattle.range_algebra.specs.Clones.{IsBoundClone, IsBoundInfallible, Is
 ghost use Rattle.std.specs.declared.cmp.Ordering.TheVariants.{Equal};
 ghost use Rattle.std.specs.Option.{option_or};
 ghost use Rattle.range_keys.specs.Order.{IsComplete, SameAnswer};
-ghost use Rattle.range_algebra.specs.Range.{IsEmptyRange, IsKeyless, Holds, HoldSame, LiesWithin, IsKnownRange, ClonesAreEqual, start_key, end_key};
+ghost use Rattle.range_algebra.specs.Range.{IsEmptyRange, IsKeyless, Holds, HoldSame, LiesWithin, IsKeyRange, ClonesAreEqual, start_key, end_key};
 ghost use Rattle.std.proofs.Common.{refl, ap, ◌∙◌};
 ghost use Rattle.std.specs.Ordering.{eq_by_cmp, as_partial_cmp, is_eq};
 ghost use Rattle.std.specs.Cmp.{eq_by_cmp_equiv, partial_equiv_from_equiv, partial_order_from_total};

@@ -30,7 +30,7 @@ pub fn by_reference<T: Drop>(range: &AnyRange<T>) -> AnyRange<&T>
     AnyRange::new(range.start_bound(), range.end_bound())
 }
 
-/// The bound on the other side of the same place.
+/// The bound on the other side of the same position.
 fn flipped<'a, T>(bound: Bound<&'a T>) -> Option<Bound<&'a T>>
     ensures { option_map bound_of result ≡ flipped (bound_of bound.entry) }
 {

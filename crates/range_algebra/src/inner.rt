@@ -4,7 +4,7 @@ ghost use Rattle.std.specs.Prelude.{◌≡◌, ◌↔◌, IsTrue, MatchResult};
 ghost use Rattle.range_keys.specs.Position.{bound_of, start_position};
 ghost use Rattle.range_algebra.specs.Clones.{IsBoundClone, IsBoundInfallible};
 ghost use Rattle.range_algebra.specs.Compared.{range_ordering, bounds_ordering, starts_at_end, starts_past_end};
-ghost use Rattle.range_algebra.specs.Range.{Holds, LiesWithin, IsKnownBound, IsKnownRange};
+ghost use Rattle.range_algebra.specs.Range.{Holds, LiesWithin, IsBoundOfKey, IsKeyRange};
 
 use crate::any::AnyRange;
 use crate::ordering::RangeOrdering;
@@ -16,7 +16,7 @@ use std::ops::{Bound, RangeBounds};
 
 /// Does nothing, and promises that the bound's value is a key.
 pub fn known_bound<T: PartialEnum>(bound: Bound<&T>)
-    ensures { IsKnownBound T.order (bound_of bound.entry) }
+    ensures { IsBoundOfKey T.order (bound_of bound.entry) }
 {
     match bound {
         Bound::Included(key) | Bound::Excluded(key) => key.known(),
@@ -26,7 +26,7 @@ pub fn known_bound<T: PartialEnum>(bound: Bound<&T>)
 
 /// Does nothing, and promises that the bounds are keys.
 pub fn known<T: PartialEnum>(range: &AnyRange<T>)
-    ensures { IsKnownRange T.order range.now }
+    ensures { IsKeyRange T.order range.now }
 {
     known_bound(range.start_bound());
     known_bound(range.end_bound());
@@ -34,7 +34,7 @@ pub fn known<T: PartialEnum>(range: &AnyRange<T>)
 
 /// Does nothing, and promises that the bounds are keys.
 pub fn known_range<R: AsRange>(range: &R)
-    ensures { IsKnownRange R.Item.order (R.range range.now) }
+    ensures { IsKeyRange R.Item.order (R.range range.now) }
 {
     known_bound(range.start());
     known_bound(range.end());

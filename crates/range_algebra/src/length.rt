@@ -5,9 +5,9 @@ ghost use Rattle.std.specs.Range.Bound.{bound_map};
 ghost use Rattle.range_keys.specs.Counted.{IsCountedMeasure};
 ghost use Rattle.range_keys.specs.Position.{bound_of, key_value, start_position, end_position, position_cmp};
 ghost use Rattle.range_algebra.specs.Intervals.{Le};
-ghost use Rattle.range_algebra.specs.Measures.{told_bound, measure_between, range_measure, HasUntoldEnd};
+ghost use Rattle.range_algebra.specs.Measures.{closed_by, measure_between, range_measure, HasUnknownEnd};
 ghost use Rattle.range_algebra.specs.Numbers.{IsNumberOfKeys};
-ghost use Rattle.range_algebra.specs.Range.{IsEmptyRange, IsKnownBound, Holds};
+ghost use Rattle.range_algebra.specs.Range.{IsEmptyRange, IsBoundOfKey, Holds};
 
 use crate::any::AnyRange;
 use crate::inner;
@@ -52,7 +52,7 @@ impl<T: Measure> AnyRange<T> {
     pub fn bounded_len(&self) -> Option<u128>
         ensures measure { result ≡ range_measure T.order T.len T.distance self.now }
         ensures empty { IsEmptyRange T.order self.now → result ≡ Some 0 }
-        ensures untold { IsNone result ↔ HasUntoldEnd T.order self.now }
+        ensures unknown { IsNone result ↔ HasUnknownEnd T.order self.now }
         ensures counted { IsCountedMeasure T.order T.len T.distance
             → IsSomeAnd result (IsNumberOfKeys T.order (Holds T.order self.now)) }
     {
@@ -68,7 +68,7 @@ impl<T: Measure> AnyRange<T> {
 
 /// The bound, or the known end in place of none.
 fn with_told<T: PartialEnum>(bound: Bound<&T>, told: Option<T>) -> Bound<KeyRef<'_, T>>
-    ensures { bound_map key_value result ≡ told_bound told (bound_of bound.entry) }
+    ensures { bound_map key_value result ≡ closed_by told (bound_of bound.entry) }
 {
     match (bound, told) {
         (Bound::Included(key), _) => Bound::Included(KeyRef::Given(key)),
@@ -80,8 +80,8 @@ fn with_told<T: PartialEnum>(bound: Bound<&T>, told: Option<T>) -> Bound<KeyRef<
 
 /// How much lies from the start to the end, where both name a key.
 fn measured<T: Measure>(start: &Bound<KeyRef<'_, T>>, end: &Bound<KeyRef<'_, T>>) -> Option<u128>
-    requires known_start { IsKnownBound T.order (bound_map key_value start.now) }
-    requires known_end { IsKnownBound T.order (bound_map key_value end.now) }
+    requires known_start { IsBoundOfKey T.order (bound_map key_value start.now) }
+    requires known_end { IsBoundOfKey T.order (bound_map key_value end.now) }
     requires nonempty { Le (position_cmp T.order.cmp)
         (start_position T.order (bound_map key_value start.now))
         (end_position T.order (bound_map key_value end.now)) }

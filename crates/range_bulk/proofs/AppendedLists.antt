@@ -1,6 +1,6 @@
 -- One stored list after another: its form, and what it binds.
 use Rattle.range_algebra.specs.Orders
-use Rattle.range_bulk.proofs.Common.{Ordering, IsTotalOrder, ◌⊎◌, position_total, common_steps, ◌≡◌, refl, ap, ◌↔◌, ◌+◌, ◌-◌, ◌≤◌, ℕ, zero, suc, Bool, true, false, List, [], ◌∷◌, ◌++◌, length, get_or, inl, inr, arith, if◌then◌else◌, slice_set, and_from, and_parts, IsEquivalence, KeyOrder, IsLawful, Position, Le, Lt, Every, IsKnownRange, LiesBefore, AnyRange, every_append, every_right, every_weaker, Item, BindAlike, line_of, Leads, Follows, Respects, IsStored, item_lower, item_upper, IsApartFromLast, LieBefore, appended, are_one, as_one, joined, every_with, same_is_symmetric, follows_like, chain_before, chain_right, chain_above, places, Known, Chained, Hold, before_is, touches_is, stored_chain, stored_known, chain_stored, same_binds, le_refl, lt_le, le_trans, le_lt_trans, lt_trans, both}
+use Rattle.range_bulk.proofs.Common.{Ordering, IsTotalOrder, ◌⊎◌, position_total, common_steps, ◌≡◌, refl, ap, ◌↔◌, ◌+◌, ◌-◌, ◌≤◌, ℕ, zero, suc, Bool, true, false, List, [], ◌∷◌, ◌++◌, length, get_or, inl, inr, arith, if◌then◌else◌, slice_set, and_from, and_parts, IsEquivalence, KeyOrder, IsLawful, Position, Le, Lt, Every, IsKeyRange, LiesBefore, AnyRange, every_append, every_right, every_weaker, Item, BindAlike, line_of, Leads, Follows, Respects, IsStored, item_lower, item_upper, IsApartFromLast, LieBefore, appended, are_one, as_one, joined, every_with, same_is_symmetric, follows_like, chain_before, chain_right, chain_above, places, Known, Chained, Hold, before_is, touches_is, stored_chain, stored_known, chain_stored, same_binds, le_refl, lt_le, le_trans, le_lt_trans, lt_trans, both}
 
 -- two intervals, the one of which ends where the other starts, hold what one over both does
 two_as_one : {L : Type 0} {cmp : L → L → Ordering} (total : IsTotalOrder cmp) (a b c d p : L)
@@ -74,8 +74,8 @@ module _ {K : Type 0} {order : KeyOrder K} (lawful : IsLawful order) {V : Type 0
       record { known = known; chain = chain; holds = λ W p respects. (λ h. h, λ h. h) }
 
   -- items that are to be one meet at one place, with equal values
-  module _ (i j : Item (AnyRange K) V) (known : IsKnownRange order i.key)
-      (other_known : IsKnownRange order j.key)
+  module _ (i j : Item (AnyRange K) V) (known : IsKeyRange order i.key)
+      (other_known : IsKeyRange order j.key)
       (good : Lt (places order lawful) (item_lower order i) (item_upper order i))
       (other_good : Lt (places order lawful) (item_lower order j) (item_upper order j))
       (before : LiesBefore order i.key j.key) where

@@ -1,5 +1,5 @@
 -- The keys that a list binds, by its parts and by its values.
-use Rattle.range_bulk.proofs.Common.{arith, common_steps, ◌∙◌, ◌↔◌, ◌⊎◌, inl, inr, Bool, IsTrue, Option, List, [], ◌∷◌, ◌++◌, IsEquivalence, KeyOrder, IsLawful, position_cmp, Position, Overlap, Beside, At, Le, Lt, Every, Any, Holds, IsKnownRange, AnyRange, Item, IsBound, BindsTo, Binds, binds_bound, item_lower, item_ranges, holds_by_position, held_or_not, held_between, le_trans, lt_not_le}
+use Rattle.range_bulk.proofs.Common.{arith, common_steps, ◌∙◌, ◌↔◌, ◌⊎◌, inl, inr, Bool, IsTrue, Option, List, [], ◌∷◌, ◌++◌, IsEquivalence, KeyOrder, IsLawful, position_cmp, Position, Overlap, Beside, At, Le, Lt, Every, Any, Holds, IsKeyRange, AnyRange, Item, IsBound, BindsTo, Binds, binds_bound, item_lower, item_ranges, holds_by_position, held_or_not, held_between, le_trans, lt_not_le}
 
 one_more : {H A B C : Type 0} → A ↔ (B ⊎ C) → (H ⊎ A) ↔ ((H ⊎ B) ⊎ C)
 one_more later = grind (arith, common_steps)
@@ -71,7 +71,7 @@ module _ {K : Type 0} (order : KeyOrder K) {V : Type 0} where
 
     -- a key before a place is bound by none that starts there or later
     pub below_all : (items : List (Item (AnyRange K) V)) (p : Position K) (k : K) → order.is_key k
-        → Lt (position_cmp order.cmp) (Beside k At) p → Every (λ j. IsKnownRange order j.key) items
+        → Lt (position_cmp order.cmp) (Beside k At) p → Every (λ j. IsKeyRange order j.key) items
         → Every (λ j. Le (position_cmp order.cmp) p (item_lower order j)) items
         → ¬ IsBound order items k
     below_all [] p k key below known above bound = bound

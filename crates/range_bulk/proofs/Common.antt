@@ -22,15 +22,15 @@ pub use Rattle.range_keys.specs.declared.inner.position.Side.TheVariants.{At}
 pub use Rattle.range_algebra.proofs.Holding.{holds_by_position}
 pub use Rattle.range_algebra.proofs.Lists.{every_append, every_left, every_right, every_weaker}
 pub use Rattle.range_algebra.proofs.Meeting.{held_or_not}
-pub use Rattle.range_algebra.proofs.Places.{held_between, unbounded_end, unbounded_start}
+pub use Rattle.range_algebra.proofs.Positions.{held_between, unbounded_end, unbounded_start}
 pub use Rattle.range_algebra.specs.Clones.{SameBound}
 pub use Rattle.range_algebra.specs.Cuts.{lower}
 pub use Rattle.range_algebra.specs.Intervals.{Any, Le, Lt}
-pub use Rattle.range_algebra.specs.Range.{Holds, IsEmptyRange, IsKnownBound, IsKnownRange}
+pub use Rattle.range_algebra.specs.Range.{Holds, IsEmptyRange, IsBoundOfKey, IsKeyRange}
 pub use Rattle.range_algebra.specs.Relations.{LiesBefore}
 pub use Rattle.range_algebra.specs.declared.any.AnyRange.{AnyRange}
-pub use Rattle.range_store.proofs.ListPlaces.{place_at}
-pub use Rattle.range_store.specs.ListPlaces.{place_before}
+pub use Rattle.range_store.proofs.ListRanks.{place_at}
+pub use Rattle.range_store.specs.ListRanks.{rank_or_len}
 pub use Rattle.range_store.specs.declared.storage.Item.{Item}
 pub use Rattle.range_runs.proofs.Chains.{chain_above, chain_before, chain_right, follows_like, same_is_symmetric}
 pub use Rattle.range_runs.proofs.Forms.{Chained, Hold, Known, before_is, bound_hold, chain_stored, nonempty_good, places, same_binds, stored_chain, stored_known, touches_is}

@@ -1,5 +1,5 @@
 -- Items put one after the other, where two that touch with equal values become one.
-use Rattle.range_bulk.proofs.Common.{arith, common_steps, inl, inr, Bool, Some, None, List, [], ◌∷◌, ◌++◌, if◌then◌else◌, IsEquivalence, KeyOrder, IsLawful, position_cmp, Position, Beside, At, lower, Le, Lt, Every, Holds, IsEmptyRange, IsKnownRange, AnyRange, every_weaker, Item, BindAlike, BindsTo, IsBound, IsStored, item_lower, item_upper, full_range, held_between, unbounded_start, every_with, before_is, nonempty_good, stored_known, LieBefore, appended, are_one, joined, lt_le, le_trans, lt_not_le, lt_le_trans}
+use Rattle.range_bulk.proofs.Common.{arith, common_steps, inl, inr, Bool, Some, None, List, [], ◌∷◌, ◌++◌, if◌then◌else◌, IsEquivalence, KeyOrder, IsLawful, position_cmp, Position, Beside, At, lower, Le, Lt, Every, Holds, IsEmptyRange, IsKeyRange, AnyRange, every_weaker, Item, BindAlike, BindsTo, IsBound, IsStored, item_lower, item_upper, full_range, held_between, unbounded_start, every_with, before_is, nonempty_good, stored_known, LieBefore, appended, are_one, joined, lt_le, le_trans, lt_not_le, lt_le_trans}
 use Rattle.range_bulk.proofs.BoundKeys.{bound_split, binds_split}
 use Rattle.range_bulk.proofs.Ascending.{IsAscending, stored_ascends}
 use Rattle.range_bulk.proofs.AppendedLists.{appended_binds, appended_stored, lie_before_from}
@@ -30,7 +30,7 @@ module _ {K : Type 0} (order : KeyOrder K) {V : Type 0} where
   abbrev pub RisesFrom : Position K → List (Item (AnyRange K) V) → Type 0
   RisesFrom m [] = Unit {0}
   RisesFrom m (i ∷ rest) =
-      IsKnownRange order i.key × (¬ IsEmptyRange order i.key)
+      IsKeyRange order i.key × (¬ IsEmptyRange order i.key)
       × Le (position_cmp order.cmp) m (item_lower order i) × RisesFrom (item_upper order i) rest
 
   -- in stored form, up to a place, and with the bindings of those that were given
@@ -45,7 +45,7 @@ module _ {K : Type 0} (order : KeyOrder K) {V : Type 0} where
 
 module _ {K : Type 0} {order : KeyOrder K} (lawful : IsLawful order) {V : Type 0} where
   rises_from : (m : Position K) (items : List (Item (AnyRange K) V))
-      → Every (λ i. IsKnownRange order i.key) items → IsAscending order items
+      → Every (λ i. IsKeyRange order i.key) items → IsAscending order items
       → Every (λ i. Le (position_cmp order.cmp) m (item_lower order i)) items
       → RisesFrom order m items
   rises_from m [] known up from = tt
@@ -59,7 +59,7 @@ module _ {K : Type 0} {order : KeyOrder K} (lawful : IsLawful order) {V : Type 0
 
   -- known ranges that ascend rise from the least place
   pub ascending_rises : (items : List (Item (AnyRange K) V))
-      → Every (λ i. IsKnownRange order i.key) items → IsAscending order items
+      → Every (λ i. IsKeyRange order i.key) items → IsAscending order items
       → RisesFrom order (lower order full_range) items
   ascending_rises items known up =
       grind (arith, common_steps, rises_from, every_weaker, unbounded_start)
@@ -90,7 +90,7 @@ module _ {K : Type 0} {order : KeyOrder K} (lawful : IsLawful order) {V : Type 0
 
   -- one item more
   pub built_more : (m n : Position K) (given built : List (Item (AnyRange K) V))
-      (j : Item (AnyRange K) V) → IsKnownRange order j.key → (¬ IsEmptyRange order j.key)
+      (j : Item (AnyRange K) V) → IsKeyRange order j.key → (¬ IsEmptyRange order j.key)
       → Le (position_cmp order.cmp) m (item_lower order j)
       → Le (position_cmp order.cmp) (item_upper order j) n → IsBuilt order same m given built
       → IsBuilt order same n (given ++ j ∷ []) (appended order same built (j ∷ []))

@@ -1,5 +1,5 @@
 -- Lists that are sorted up to a place, and what a map is built of.
-use Rattle.range_bulk.proofs.Common.{common_steps, ◌≡◌, refl, ◌∙◌, ◌+◌, ◌<◌, ◌≤◌, ℕ, zero, suc, take, map, get_or, length, Some, List, [], ◌∷◌, ◌++◌, arith, map_more, take-map, KeyOrder, IsLawful, lower, Every, IsKnownRange, AnyRange, Item, full_range, IsFirstFault, IsNext, IsSorted, last_key}
+use Rattle.range_bulk.proofs.Common.{common_steps, ◌≡◌, refl, ◌∙◌, ◌+◌, ◌<◌, ◌≤◌, ℕ, zero, suc, take, map, get_or, length, Some, List, [], ◌∷◌, ◌++◌, arith, map_more, take-map, KeyOrder, IsLawful, lower, Every, IsKeyRange, AnyRange, Item, full_range, IsFirstFault, IsNext, IsSorted, last_key}
 use Rattle.range_bulk.proofs.JoinedItems.{RisesFrom, ascending_rises}
 use Rattle.range_bulk.proofs.Ascending.{ascends}
 
@@ -66,7 +66,7 @@ module _ {K : Type 0} (order : KeyOrder K) {V : Type 0} where
   module _ (lawful : IsLawful order) where
     -- a sorted list rises
     pub sorted_rises : (xs : List (Item (AnyRange K) V))
-        → Every (λ i. IsKnownRange order i.key) xs → IsSorted order xs
+        → Every (λ i. IsKeyRange order i.key) xs → IsSorted order xs
         → RisesFrom order (lower order full_range) xs
     sorted_rises xs known sorted =
         ascending_rises lawful xs known (ascends lawful xs sorted.nonempty sorted.rising)

@@ -1,8 +1,8 @@
 -- A stored list cut in two at a key.
 use Rattle.range_keys.proofs.Orderings.{any_then_equal}
-use Rattle.range_bulk.proofs.Common.{common_steps, ◌≡◌, sym, ◌∙◌, ◌+◌, ◌≤◌, Bool, true, IsTrue, List, [], ◌∷◌, ◌++◌, length, arith, subst, Equal, inl, Bound, Included, Excluded, Unbounded, IsEquivalence, append_assoc, length-append, KeyOrder, IsLawful, Below, NotAbove, start_position, Position, Beside, At, SameBound, Le, Lt, Every, Holds, IsKnownBound, AnyRange, MeetsSome, Overlap, before_is, unbounded_end, lt_le_trans, lt_not_le, every_append, every_left, every_right, every_weaker, Item, line_of, IsLeft, IsRight, IsStored, item_lower, item_upper, held_between, same_is_symmetric, chain_before, places, Known, bound_hold, chain_stored, same_binds, stored_chain, stored_known, le_refl, lt_le, le_trans, not_lt, both}
+use Rattle.range_bulk.proofs.Common.{common_steps, ◌≡◌, sym, ◌∙◌, ◌+◌, ◌≤◌, Bool, true, IsTrue, List, [], ◌∷◌, ◌++◌, length, arith, subst, Equal, inl, Bound, Included, Excluded, Unbounded, IsEquivalence, append_assoc, length-append, KeyOrder, IsLawful, Below, NotAbove, start_position, Position, Beside, At, SameBound, Le, Lt, Every, Holds, IsBoundOfKey, AnyRange, MeetsSome, Overlap, before_is, unbounded_end, lt_le_trans, lt_not_le, every_append, every_left, every_right, every_weaker, Item, line_of, IsLeft, IsRight, IsStored, item_lower, item_upper, held_between, same_is_symmetric, chain_before, places, Known, bound_hold, chain_stored, same_binds, stored_chain, stored_known, le_refl, lt_le, le_trans, not_lt, both}
 use Rattle.range_runs.specs.Edits.{with_start}
-use Rattle.range_bulk.specs.Splitting.{IsDivided}
+use Rattle.range_bulk.specs.Splitting.{IsStoredSplit}
 use Rattle.range_runs.proofs.ChainSides.{left_whole, left_cut, right_whole, right_cut, none_above, none_below}
 use Rattle.range_runs.proofs.CutParts.{cut_end}
 use Rattle.range_runs.proofs.RangePieces.{IsFull, all_full}
@@ -63,7 +63,8 @@ module _ {K : Type 0} {order : KeyOrder K} (lawful : IsLawful order) {V : Type 0
         → Known order lawful same equal front → Known order lawful same equal back
         → IsLeft (line_of order lawful same equal) items front cut
         → IsRight (line_of order lawful same equal) items back cut
-        → length front + length back ≤ length items + 1 → IsDivided order same key items front back
+        → length front + length back ≤ length items + 1
+        → IsStoredSplit order same key items front back
     divided items front back known front_known back_known left right few =
         let line = line_of order lawful same equal in
         record {
@@ -88,7 +89,7 @@ module _ {K : Type 0} {order : KeyOrder K} (lawful : IsLawful order) {V : Type 0
 
     -- no item is cut
     pub parted : (front back : List (Item (AnyRange K) V)) → IsStored order same (front ++ back)
-        → Front front → Back back → IsDivided order same key (front ++ back) front back
+        → Front front → Back back → IsStoredSplit order same key (front ++ back) front back
     parted front back form ends starts =
         let line = line_of order lawful same equal in
         let known = stored_known order lawful same equal (front ++ back) form in
@@ -106,7 +107,7 @@ module _ {K : Type 0} {order : KeyOrder K} (lawful : IsLawful order) {V : Type 0
 
       -- the last item that starts below the key does not hold it
       pub last_parted : (Holds order x.key key → ⊥)
-          → IsDivided order same key ((front ++ x ∷ []) ++ rest) (front ++ x ∷ []) rest
+          → IsStoredSplit order same key ((front ++ x ∷ []) ++ rest) (front ++ x ∷ []) rest
       last_parted out =
           let line = line_of order lawful same equal in
           let whole = subst (IsStored order same) together form in
@@ -122,9 +123,9 @@ module _ {K : Type 0} {order : KeyOrder K} (lawful : IsLawful order) {V : Type 0
           (ends, tt)) starts
 
       -- it holds the key, and is cut there
-      pub last_cut : (b : Bound K) (v : V) → IsKnownBound order b
+      pub last_cut : (b : Bound K) (v : V) → IsBoundOfKey order b
           → SameBound order (Excluded key) b → IsTrue (same x.value v) → Holds order x.key key
-          → IsDivided order same key ((front ++ x ∷ []) ++ rest)
+          → IsStoredSplit order same key ((front ++ x ∷ []) ++ rest)
           (front ++ (record { key = record { start = x.key.start; end = b }; value = v }) ∷ [])
           (with_start x (Included key) ∷ rest)
       last_cut b v b_known same_b alike held =
@@ -144,7 +145,7 @@ module _ {K : Type 0} {order : KeyOrder K} (lawful : IsLawful order) {V : Type 0
           let at_end = cut_end order lawful x.key.start (Included key) b x_known.0 low same_b in
           let sum = length-append front (x ∷ rest) in
           let sum_front = length-append front (y ∷ []) in
-          subst (λ items. IsDivided order same key items (front ++ y ∷ []) (z ∷ rest))
+          subst (λ items. IsStoredSplit order same key items (front ++ y ∷ []) (z ∷ rest))
           (sym together) (divided (front ++ x ∷ rest) (front ++ y ∷ []) _ known
           (every_append _ front (y ∷ []) front_known ((x_known.0, b_known), tt))
           ((key_known, x_known.1), rest_known)

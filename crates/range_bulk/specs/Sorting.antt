@@ -18,7 +18,7 @@ module _ {K : Type 0} (order : KeyOrder K) where
       pub nonempty : Every (λ i. ¬ IsEmptyRange order i.key) items
       pub rising : EachNext (λ i j. LiesBefore order i.key j.key) items
 
-    -- the items before the place are sorted, and with the one there they are not
+    -- the items before the index are sorted, and with the one there they are not
     abbrev pub IsFirstFault : List (Item (AnyRange K) V) → ℕ → Type 0
     IsFirstFault items n = IsSorted (take n items) × ¬ IsSorted (take (n + 1) items)
 

@@ -13,7 +13,7 @@ module _ {K : Type 0} (order : KeyOrder K) {V : Type 0} (same_value : V → V �
     pub none_below : (k : K) → order.is_key k → Below order k key → ¬ IsBound order back k
 
   -- both lists are in the map's form, and have one item more than before at most
-  pub record IsDivided (key : K) (before front back : List (Item (AnyRange K) V)) : Type 0 where
+  pub record IsStoredSplit (key : K) (before front back : List (Item (AnyRange K) V)) : Type 0 where
     pub split : IsSplitAt key before front back
     pub front_form : IsStored order same_value front
     pub back_form : IsStored order same_value back

@@ -2,7 +2,7 @@
 ghost use Rattle.std.specs.List.{AllByRecursion as Every};
 ghost use Rattle.std.specs.Prelude.{◌≡◌, ◌≤◌, ◌↔◌, IfOk, IfSome, IsOk, IsTrue, None, length, map};
 ghost use Rattle.std.specs.Option.{option_map};
-ghost use Rattle.range_algebra.specs.Range.{IsKnownRange};
+ghost use Rattle.range_algebra.specs.Range.{IsKeyRange};
 ghost use Rattle.range_algebra.specs.Relations.{LiesBefore};
 ghost use Rattle.range_bulk.specs.Sorting.{IsFirstFault, IsNext, IsSorted, item_of};
 ghost use Rattle.range_runs.specs.Bindings.{BindAlike};
@@ -28,7 +28,7 @@ fn lies_before<K: Measure, R: AsRange<Item = K>>(first: &R, second: &R) -> bool
 fn is_next<K: Measure, R: AsRange<Item = K>>(before: Option<&R>, range: &R) -> bool
     ensures next { IsTrue result
         ↔ IsNext K.order (option_map (λ r. R.range r.now) before.entry) (R.range range.now) }
-    ensures known { IsKnownRange K.order (R.range range.now) }
+    ensures known { IsKeyRange K.order (R.range range.now) }
 {
     inner::known_range(range);
     if range.is_empty() {
@@ -46,7 +46,7 @@ pub fn first_fault<K: Measure, R: AsRange<Item = K>, V>(pairs: &[(R, V)]) -> Opt
         (IsFirstFault K.order (map (item_of R.range) pairs.now)) }
     ensures sorted { result ≡ None → IsSorted K.order (map (item_of R.range) pairs.now) }
     ensures known { result ≡ None
-        → Every (λ i. IsKnownRange K.order i.key) (map (item_of R.range) pairs.now) }
+        → Every (λ i. IsKeyRange K.order i.key) (map (item_of R.range) pairs.now) }
 {
     let mut before = None;
     for index in 0..pairs.len() {
@@ -65,7 +65,7 @@ pub fn list_of<K: Measure, V: Eq + Drop, R: IntoRange<Item = K>>(
     pairs: Vec<(R, V)>,
 ) -> Result<Vec<Item<AnyRange<K>, V>>, AllocError>
     requires sorted { IsSorted K.order (map (item_of R.range) pairs.items) }
-    requires known { Every (λ i. IsKnownRange K.order i.key)
+    requires known { Every (λ i. IsKeyRange K.order i.key)
         (map (item_of R.range) pairs.items) }
     ensures bound { IfOk result
         (λ new. BindAlike K.order V.eq new.items (map (item_of R.range) pairs.items)) }

@@ -5,8 +5,8 @@ ghost use Rattle.std.specs.declared.ops.Bound.TheVariants.{Included, Excluded, U
 ghost use Rattle.range_keys.specs.Position.{position_cmp, start_position};
 ghost use Rattle.range_algebra.specs.Clones.{SameBound};
 ghost use Rattle.range_algebra.specs.Intervals.{Le, Lt};
-ghost use Rattle.range_algebra.specs.Range.{ClonesAreEqual, IsKnownBound};
-ghost use Rattle.range_bulk.specs.Splitting.{IsDivided};
+ghost use Rattle.range_algebra.specs.Range.{ClonesAreEqual, IsBoundOfKey};
+ghost use Rattle.range_bulk.specs.Splitting.{IsStoredSplit};
 ghost use Rattle.range_runs.specs.Edits.{with_start};
 ghost use Rattle.range_runs.specs.Lookups.{MeetsSome};
 ghost use Rattle.range_runs.specs.Stored.{IsStored, item_lower, item_upper};
@@ -103,7 +103,7 @@ fn prepare<K: PartialEnum + Clone, V: Eq + Clone, C: Storage<Item<AnyRange<K>, V
     requires keys { ClonesAreEqual K.is_clone K.eq }
     requires values { ClonesAreEqual V.is_clone V.eq }
     ensures end { IfOk result
-        (λ parts. IsKnownBound K.order parts.0 × SameBound K.order (Excluded key.now) parts.0) }
+        (λ parts. IsBoundOfKey K.order parts.0 × SameBound K.order (Excluded key.now) parts.0) }
     ensures value { IfOk result (λ parts. IsTrue (V.eq item.now.value parts.1)) }
     ensures list { C.items others.new ≡ C.items others.old }
     ensures room { OnOk result (1 ≤ C.room others.new) }
@@ -131,7 +131,7 @@ fn cut_last<K: PartialEnum + Clone, V: Eq + Clone, C: Storage<Item<AnyRange<K>, 
         → C.items stored.old ≡ front ++ last ∷ []
         → Lt (position_cmp K.order.cmp) (item_lower K.order last)
         (start_position K.order (Included key)) }
-    ensures divided { OnOk result (IsDivided K.order V.eq key
+    ensures divided { OnOk result (IsStoredSplit K.order V.eq key
         (C.items stored.old ++ C.items others.old) (C.items stored.new) (C.items others.new)) }
     ensures list { OnErr result (C.items stored.new ++ C.items others.new
         ≡ C.items stored.old ++ C.items others.old) }
@@ -172,7 +172,7 @@ pub fn divide<K: PartialEnum + Clone, V: Eq + Clone, C: Storage<Item<AnyRange<K>
     requires values { ClonesAreEqual V.is_clone V.eq }
     requires stored { IsStored K.order V.eq (C.items stored.old) }
     requires empty { C.items others.old ≡ [] }
-    ensures divided { OnOk result (IsDivided K.order V.eq key (C.items stored.old)
+    ensures divided { OnOk result (IsStoredSplit K.order V.eq key (C.items stored.old)
         (C.items stored.new) (C.items others.new)) }
     ensures list { OnErr result
         (C.items stored.new ++ C.items others.new ≡ C.items stored.old) }

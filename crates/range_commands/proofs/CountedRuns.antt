@@ -13,7 +13,7 @@ use Rattle.range_tree.specs.declared.btree.searching.TheConstants.{MAX_ASKS}
 use Rattle.range_store.specs.declared.storage.Item.{Item}
 use Rattle.range_edit.specs.Costs.{TakesAtLeast, TakesAsChange, IsGreatestLevel}
 use Rattle.range_commands.specs.CountedRuns.{least_if, HasNoMemory, IsDone, ChangeTakes, LookupTakes, TakesFor, IsDue, IsRunOfDue, IsCountedRun}
-use Rattle.range_commands.specs.Runs.{IsStep, IsRun, HasNoUpdate}
+use Rattle.range_commands.specs.Runs.{IsStep, AreSteps, HasNoUpdate}
 use Rattle.range_commands.specs.declared.command.Command.{Command}
 use Rattle.range_commands.specs.declared.command.Command.TheVariants.{Insert, InsertDisconnected, Remove, Update, Get, Contains, Intersects, Count}
 use Rattle.range_commands.specs.declared.command.Reply.{Reply}
@@ -191,7 +191,7 @@ module _ {K : Type 0} (order : KeyOrder K) {V : Type 0} where
       pub uncounted : (s last : S) (commands : List (Command K V T)) (replies : List (Reply K V E))
           (before after : ℕ)
           → IsCountedRun order same may items least most s commands replies last before after
-          → IsRun order same may (items s) commands replies (items last)
+          → AreSteps order same may (items s) commands replies (items last)
       uncounted s last [] [] before after run = ap items run.0
       uncounted s last (c ∷ commands) (r ∷ replies) before after run =
           (items run.0, run.2, uncounted run.0 last commands replies run.1 after run.4)
@@ -255,7 +255,7 @@ module _ {K : Type 0} (order : KeyOrder K) {V : Type 0} where
     pub few_after : {A F : Type 0} (replies : A → List (Reply K V E))
         (items last : List (Item (AnyRange K) V)) (commands : List (Command K V T))
         (result : Result A F)
-        → IfOk result (λ x. IsRun order same may items commands (replies x) last)
+        → IfOk result (λ x. AreSteps order same may items commands (replies x) last)
         → OnErr result (last ≡ items) → HasNoUpdate commands
         → length last ≤ length items + 2 * length commands
     few_after replies items last commands (Ok x) run same_list none =

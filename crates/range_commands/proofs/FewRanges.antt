@@ -4,7 +4,7 @@ use Rattle.std.specs.Prelude.{Option, Result}
 use Rattle.range_keys.specs.Order.{KeyOrder}
 use Rattle.range_algebra.specs.declared.any.AnyRange.{AnyRange}
 use Rattle.range_store.specs.declared.storage.Item.{Item}
-use Rattle.range_commands.specs.Runs.{IsStep, IsRun, HasNoUpdate}
+use Rattle.range_commands.specs.Runs.{IsStep, AreSteps, HasNoUpdate}
 use Rattle.range_commands.specs.declared.command.Command.{Command}
 use Rattle.range_commands.specs.declared.command.Reply.{Reply}
 
@@ -19,7 +19,7 @@ module _ {K : Type 0} (order : KeyOrder K) {V : Type 0} (same : V → V → Bool
 
   -- so commands without an update leave at most two ranges more for each of them
   pub few_more : (items last : List (Item (AnyRange K) V)) (commands : List (Command K V T))
-      (replies : List (Reply K V E)) → IsRun order same may items commands replies last
+      (replies : List (Reply K V E)) → AreSteps order same may items commands replies last
       → HasNoUpdate commands → length last ≤ length items + 2 * length commands
   few_more items last [] [] run no_update = omega (arith, ap length run)
   few_more items last (c ∷ commands) (r ∷ replies) run no_update =

@@ -7,7 +7,7 @@ use Rattle.range_keys.specs.Order.{KeyOrder, IsLawful}
 use Rattle.range_algebra.specs.declared.any.AnyRange.{AnyRange}
 use Rattle.range_store.specs.declared.storage.Item.{Item}
 use Rattle.range_runs.specs.Bindings.{Binds}
-use Rattle.range_commands.specs.Runs.{IsStep, IsRun, IsUpdate}
+use Rattle.range_commands.specs.Runs.{IsStep, AreSteps, IsUpdate}
 use Rattle.range_commands.specs.History.{IsRefusal, IsOn, BindAfter, BindOver}
 use Rattle.range_commands.specs.declared.command.Command.{Command}
 use Rattle.range_commands.specs.declared.command.Command.TheVariants.{Insert, InsertDisconnected, Remove, Update, Get, Contains, Intersects, Count}
@@ -88,7 +88,7 @@ module _ {K : Type 0} (order : KeyOrder K) (lawful : IsLawful order) {V : Type 0
   run_binds : (items last : List (Item (AnyRange K) V)) (before : Option V → Type 0)
       (commands : List (Command K V T)) (replies : List (Reply K V E)) (b : Option V)
       → ((u : Option V) → Binds order same items k u → before u)
-      → IsRun order same may items commands replies last → Binds order same last k b
+      → AreSteps order same may items commands replies last → Binds order same last k b
       → BindOver order same may k before commands replies b
   run_binds items last before [] [] b was run h =
       was b (subst (λ (ys : List (Item (AnyRange K) V)). Binds order same ys k b) run h)
@@ -100,7 +100,7 @@ module _ {K : Type 0} (order : KeyOrder K) (lawful : IsLawful order) {V : Type 0
 
   pub last_command_decides : (items last : List (Item (AnyRange K) V))
       (commands : List (Command K V T)) (replies : List (Reply K V E))
-      → IsRun order same may items commands replies last → (b : Option V)
+      → AreSteps order same may items commands replies last → (b : Option V)
       → Binds order same last k b
       → BindOver order same may k (λ u. Binds order same items k u) commands replies b
   last_command_decides items last commands replies run b =

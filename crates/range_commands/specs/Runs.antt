@@ -79,10 +79,10 @@ module _ {K : Type 0} (order : KeyOrder K) {V : Type 0} (same : V → V → Bool
     IsStep items command reply next = ⊥
 
     -- one reply for each command, with a list between any two
-    abbrev pub IsRun : List (Item (AnyRange K) V) → List (Command K V T) → List (Reply K V E)
+    abbrev pub AreSteps : List (Item (AnyRange K) V) → List (Command K V T) → List (Reply K V E)
         → List (Item (AnyRange K) V) → Type 0
-    IsRun items [] [] last = last ≡ items
-    IsRun items (command ∷ commands) (reply ∷ replies) last =
+    AreSteps items [] [] last = last ≡ items
+    AreSteps items (command ∷ commands) (reply ∷ replies) last =
         (next : List (Item (AnyRange K) V)) × IsStep items command reply next
-        × IsRun next commands replies last
-    IsRun items commands replies last = ⊥
+        × AreSteps next commands replies last
+    AreSteps items commands replies last = ⊥

@@ -7,7 +7,7 @@ ghost use Rattle.range_tree.specs.Holding.{box_items};
 ghost use Rattle.range_tree.specs.declared.btree.searching.TheConstants.{MAX_ASKS};
 ghost use Rattle.range_edit.specs.Costs.{TakesAtLeast, greatest_level};
 ghost use Rattle.range_commands.specs.CountedRuns.{ChangeTakes, LookupTakes, TakesFor, least_if, IsCountedRun, IsRunOfDue, HasNoMemory};
-ghost use Rattle.range_commands.specs.Runs.{IsInsertion, IsStep, IsRun, HasNoUpdate};
+ghost use Rattle.range_commands.specs.Runs.{IsInsertion, IsStep, AreSteps, HasNoUpdate};
 ghost use Rattle.range_commands.specs.History.{BindOver};
 ghost use Rattle.range_commands.specs.Tagged.{MayAnswerTo, MayBeAskedAll};
 ghost use Rattle.range_commands.specs.declared.command.Command.TheVariants.{Update};
@@ -276,7 +276,7 @@ pub fn run<
     requires values { ClonesAreEqual V.is_clone V.eq }
     requires callable { MayBeAskedAll F.Fn f.now }
     ensures chain { IfOk result
-        (λ replies. IsRun K.order V.eq (MayAnswerTo F.Fn f.now)
+        (λ replies. AreSteps K.order V.eq (MayAnswerTo F.Fn f.now)
         (C.items map.old) commands.items replies.items (C.items map.new)) }
     ensures history { IfOk result (λ replies. (k : K) → K.order.is_key k → (b : Option V)
         → Binds K.order V.eq (C.items map.new) k b
@@ -316,7 +316,7 @@ pub fn run_counted<
     requires values { ClonesAreEqual V.is_clone V.eq }
     requires callable { MayBeAskedAll F.Fn f.now }
     ensures chain { IfOk result
-        (λ replies. IsRun K.order V.eq (MayAnswerTo F.Fn f.now)
+        (λ replies. AreSteps K.order V.eq (MayAnswerTo F.Fn f.now)
         (box_items map.old) commands.items replies.items (box_items map.new)) }
     ensures history { IfOk result (λ replies. (k : K) → K.order.is_key k → (b : Option V)
         → Binds K.order V.eq (box_items map.new) k b

@@ -1,5 +1,5 @@
 -- A range that lies apart from all stored ones, and the list with it.
-use Rattle.range_edit.proofs.Common.{common_steps, PLe, PLt, ◌≡◌, ℕ, ◌+◌, ◌<◌, List, [], ◌∷◌, ◌++◌, length, take, drop, get_or, refl, ap, sym, ◌∙◌, arith, Option, Some, None, Bool, false, ◌&&◌, IsTrue, ◌⊎◌, ◌↔◌, inl, inr, Every, IfSome, MatchOption, IsEquivalence, Bound, KeyOrder, IsLawful, Position, end_position, position_cmp, start_position, less_or_not, line_of, flipped, starts_at_end, lower, upper, eq_ge, eq_le, le_lt_trans, le_refl, le_trans, lt_le, lt_le_trans, lt_not_le, lt_trans, not_le, IsEmptyRange, IsKnownRange, AnyRange, drop_all, list_is_take_and_drop, any_none, any_split, every_append, every_right, every_weaker, flipped_bound_is_past, IsAt, place_before, Item, item_lower, item_upper, IsStored, IsConnectedTo, IsConnectedToSome, LiesBefore, IsFound, IsJustBefore}
+use Rattle.range_edit.proofs.Common.{common_steps, PLe, PLt, ◌≡◌, ℕ, ◌+◌, ◌<◌, List, [], ◌∷◌, ◌++◌, length, take, drop, get_or, refl, ap, sym, ◌∙◌, arith, Option, Some, None, Bool, false, ◌&&◌, IsTrue, ◌⊎◌, ◌↔◌, inl, inr, Every, IfSome, MatchOption, IsEquivalence, Bound, KeyOrder, IsLawful, Position, end_position, position_cmp, start_position, less_or_not, line_of, flipped, starts_at_end, lower, upper, eq_ge, eq_le, le_lt_trans, le_refl, le_trans, lt_le, lt_le_trans, lt_not_le, lt_trans, not_le, IsEmptyRange, IsKeyRange, AnyRange, drop_all, list_is_take_and_drop, any_none, any_split, every_append, every_right, every_weaker, flipped_bound_is_past, IsAt, rank_or_len, Item, item_lower, item_upper, IsStored, IsConnectedTo, IsConnectedToSome, LiesBefore, IsFound, IsJustBefore}
 use Rattle.std.proofs.lemmas.Bool.{and_parts, true_from_ne_false}
 use Rattle.range_runs.proofs.Tests.{not_both}
 use Rattle.range_runs.proofs.Chains.{chain_above, chain_before, chain_right}
@@ -16,7 +16,7 @@ must_touch : (A : Type 0) (t : Bool) → A → (A × (IsTrue t → ⊥) → ⊥)
 must_touch A t a h = true_from_ne_false t (λ e. h (a, λ is. not_both e is))
 
 module _ {K : Type 0} (order : KeyOrder K) (lawful : IsLawful order) where
-  apart_is : (r s : AnyRange K) → IsKnownRange order r → IsKnownRange order s
+  apart_is : (r s : AnyRange K) → IsKeyRange order r → IsKeyRange order s
       → (IsEmptyRange order s → ⊥) → LiesApart order r s → PLt lawful (upper order r) (lower order s)
   apart_is r s known others full h =
       let le = (before_is order lawful r.end s.start known.1 others.0).0 h.0 in
@@ -26,12 +26,12 @@ module _ {K : Type 0} (order : KeyOrder K) (lawful : IsLawful order) where
 
   -- they lie apart where the start that follows the one comes before the other
   pub apart_by_start : (r s : AnyRange K) (i : Bound K) → flipped r.end ≡ Some i
-      → IsKnownRange order r → IsKnownRange order s
+      → IsKeyRange order r → IsKeyRange order s
       → LiesApart order r s ↔ PLt lawful (start_position order i) (lower order s)
   apart_by_start r s i turns known others = grind (arith, common_steps, before_is, flipped_bound_is_past, touches_by, not_le, le_trans, eq_ge, le_lt_trans, eq_le, lt_le, lt_not_le)
 
   -- ranges with a place between are not connected
-  pub apart_not : (r s : AnyRange K) → IsKnownRange order r → IsKnownRange order s
+  pub apart_not : (r s : AnyRange K) → IsKeyRange order r → IsKeyRange order s
       → PLt lawful (lower order r) (upper order r) → PLt lawful (lower order s) (upper order s)
       → PLt lawful (upper order r) (lower order s)
       → (IsConnectedTo order r s → ⊥) × (IsConnectedTo order s r → ⊥)
@@ -48,13 +48,13 @@ module _ {K : Type 0} (order : KeyOrder K) (lawful : IsLawful order) where
     Good i = PLt lawful (item_lower order i) (item_upper order i)
 
     module _ (items : List (Item (AnyRange K) V)) (r : AnyRange K)
-        (stored : IsStored order same items) (known : IsKnownRange order r)
+        (stored : IsStored order same items) (known : IsKeyRange order r)
         (full : IsEmptyRange order r → ⊥) where
       in_order : Chained order lawful same equal items
       in_order = stored_chain order lawful same equal items stored
 
       known_at : (n : ℕ) (x : Item (AnyRange K) V) → n < length items → x ≡ get_or items n x
-          → IsKnownRange order x.key
+          → IsKeyRange order x.key
       known_at n x within read = grind (arith, common_steps, item_at)
 
       -- by the answers at positions of a container
@@ -171,9 +171,9 @@ module _ {K : Type 0} (order : KeyOrder K) (lawful : IsLawful order) where
             → IsAnswerAt order (λ i. LiesApart order i.key r) rank items before a
             → IsAnswerAt order (λ i. LiesApart order r i.key) rank items from b → free ≡ (a && b)
             → IsGap order is_good rank items r (record { is_free = free; from = from })
-            (place_before rank (length items) from)
+            (rank_or_len rank (length items) from)
         gap_is p before from free a b start found first second both =
-            let place = place_before rank (length items) from in
+            let place = rank_or_len rank (length items) from in
             record {
               position = found.position;
               apart = grind (arith, common_steps, and_parts, clear_before, clear_after);

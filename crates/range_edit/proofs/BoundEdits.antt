@@ -1,5 +1,5 @@
 -- How edits of one bound on each side of a run change a list.
-use Rattle.range_edit.proofs.Common.{common_steps, ◌≡◌, ℕ, ◌+◌, ◌<◌, ◌≤◌, List, [], ◌∷◌, ◌++◌, length, take, drop, get_or, ap, sym, ◌∙◌, arith, Option, append_assoc, length-set, append-nil, take-set, take-set-le, take_more_set, drop-set, drop-set-lt, Bound, AnyRange, Item, ForSome, place_before, option_items, BorderSide, IsBorderShape, joined_count, border_at, IsGoodBorder, IsLeftShape, IsRightShape, IsLeftEdited, IsRightEdited, Border, Plain, Cut, Joined}
+use Rattle.range_edit.proofs.Common.{common_steps, ◌≡◌, ℕ, ◌+◌, ◌<◌, ◌≤◌, List, [], ◌∷◌, ◌++◌, length, take, drop, get_or, ap, sym, ◌∙◌, arith, Option, append_assoc, length-set, append-nil, take-set, take-set-le, take_more_set, drop-set, drop-set-lt, Bound, AnyRange, Item, ForSome, rank_or_len, option_items, BorderSide, IsBorderShape, joined_count, border_at, IsGoodBorder, IsLeftShape, IsRightShape, IsLeftEdited, IsRightEdited, Border, Plain, Cut, Joined}
 
 pub opening_regroups : {X : Type 0} (a b c e : List X) (m : X)
     → (a ++ b) ++ m ∷ (c ++ e) ≡ a ++ b ++ (m ∷ []) ++ c ++ e
@@ -20,7 +20,7 @@ cut_joins_none item b = grind (arith, common_steps)
 -- a change that keeps positions and the length keeps places
 pub kept_place : {P : Type 0} {is_good is_good' : P → Type 0} {rank rank' : P → ℕ} {len len' : ℕ}
     → ((p : P) → is_good p → is_good' p × (rank' p ≡ rank p)) → len' ≡ len → (at : Option P)
-    → ForSome at is_good → place_before rank' len' at ≡ place_before rank len at
+    → ForSome at is_good → rank_or_len rank' len' at ≡ rank_or_len rank len at
 kept_place kept size at h = grind (arith, common_steps)
 
 same_at : {X : Type 0} (xs ys : List X) (n : ℕ) (d : X) → drop n xs ≡ drop n ys

@@ -22,22 +22,22 @@ pub use Rattle.range_keys.specs.declared.inner.position.Position.{Position}
 pub use Rattle.range_keys.specs.declared.inner.position.Position.TheVariants.{Beside}
 pub use Rattle.range_keys.specs.declared.inner.position.Side.TheVariants.{At}
 pub use Rattle.range_algebra.proofs.Lists.{any_left, any_none, any_right, any_split, drop_all, every_append, every_at, every_left, every_right, every_weaker, list_is_take_and_drop}
-pub use Rattle.range_algebra.proofs.Places.{flipped_bound_is_past, held_between, reaching_is_before_past}
+pub use Rattle.range_algebra.proofs.Positions.{flipped_bound_is_past, held_between, reaching_is_before_past}
 pub use Rattle.range_algebra.specs.Clones.{SameBound, same_itself}
 pub use Rattle.range_algebra.specs.Compared.{flipped, starts_at_end}
 pub use Rattle.range_algebra.specs.Cuts.{lower, past, upper}
 pub use Rattle.range_algebra.specs.Intervals.{Any, Le, Lt}
-pub use Rattle.range_algebra.specs.Range.{IsEmptyRange, IsKnownBound, IsKnownRange}
+pub use Rattle.range_algebra.specs.Range.{IsEmptyRange, IsBoundOfKey, IsKeyRange}
 pub use Rattle.range_algebra.specs.Relations.{LiesBefore, Touches}
 pub use Rattle.range_algebra.specs.declared.any.AnyRange.{AnyRange}
-pub use Rattle.range_store.proofs.ListPlaces.{at_place, good_at, kept_at, place_at}
-pub use Rattle.range_store.specs.ListPlaces.{IsAt, place_before}
+pub use Rattle.range_store.proofs.ListRanks.{at_place, good_at, kept_at, place_at}
+pub use Rattle.range_store.specs.ListRanks.{IsAt, rank_or_len}
 pub use Rattle.range_store.specs.declared.storage.Item.{Item}
 pub use Rattle.range_runs.proofs.PlaceOrder.{PLe, PLt, both, eq_ge, eq_le, le_lt_trans, le_refl, le_trans, lt_le, lt_le_trans, lt_not_le, lt_trans, not_le, not_lt}
 pub use Rattle.range_runs.specs.Answers.{Answered, AnswersPiece, AreAnswersTo, IsAsAnswered, IsGathered, IsGivenBy, IsUpdated, MayAnswer, SucceedsAtFirst, piece_of}
 pub use Rattle.range_runs.specs.Bindings.{Binds, IsSomeOf}
 pub use Rattle.range_edit.specs.Borders.{BorderSide, IsBorderShape, IsDivided, IsGoodBorder, IsLeftEdited, IsLeftShape, IsRightEdited, IsRightShape, IsRunStart, TouchesAfter, TouchesBefore, TouchesNoneAfter, TouchesNoneBefore, border_at, joined_count, joined_item, left_side, right_side, seam_border}
-pub use Rattle.range_runs.specs.Chains.{Has, IsBoundTo, IsChain, IsLeft, IsRight, IsSpliced, Leading, Line, line_of}
+pub use Rattle.range_runs.specs.Chains.{Has, IsBoundTo, IsChain, IsLeft, IsRight, IsFilledWith, Leading, Line, line_of}
 pub use Rattle.range_edit.specs.Changes.{IsInserted, IsRemoved}
 pub use Rattle.range_runs.specs.Edits.{flipped_bound, with_end, with_start}
 pub use Rattle.range_runs.specs.Frames.{HasValue, IsEndOf, IsInsertionFrame, IsMergeFrame, IsMergedInto, IsNewItem, IsPart, IsRemovalFrame, IsSpliceFrame, IsStartOf, IsUpdateFrame, JoinsOrMeets}

@@ -1,5 +1,5 @@
 -- Where a range meets no stored one, no item is cut beside it; a list that is made keeps its form.
-use Rattle.range_edit.proofs.Common.{arith, common_steps, ◌≡◌, Bool, List, Option, None, Result, OnOk, OnErr, Bound, KeyOrder, IsLawful, AnyRange, IsKnownBound, flipped_bound, Item, IsInserted, Border, seam_border, IsStored}
+use Rattle.range_edit.proofs.Common.{arith, common_steps, ◌≡◌, Bool, List, Option, None, Result, OnOk, OnErr, Bound, KeyOrder, IsLawful, AnyRange, IsBoundOfKey, flipped_bound, Item, IsInserted, Border, seam_border, IsStored}
 use Rattle.range_edit.specs.Borders.{IsSeamAt}
 
 -- so it is the same where it would be cut
@@ -9,7 +9,7 @@ seam_alike found b c = grind (arith, common_steps)
 
 -- where nothing is cut, any bound just outside serves
 pub seam_stands : {K P : Type 0} (order : KeyOrder K) (joined reaching : Option P) (bound : Bound K)
-    {border : Border K P} → IsLawful order → IsKnownBound order bound
+    {border : Border K P} → IsLawful order → IsBoundOfKey order bound
     → border ≡ seam_border joined reaching (flipped_bound bound)
     → IsSeamAt order joined reaching bound border
 seam_stands order joined reaching bound lawful known at = grind (arith, common_steps)

@@ -1,5 +1,5 @@
 -- A range that comes before or after all stored ones.
-use Rattle.range_edit.proofs.Common.{◌≡◌, ℕ, zero, suc, ◌+◌, ◌-◌, ◌<◌, List, take, drop, get_or-take, get_or-drop, length-drop, length-take-le, refl, arith, Option, Some, None, Bool, insert, IsEquivalence, every_at, every_weaker, KeyOrder, IsLawful, IsEmptyRange, IsKnownRange, AnyRange, lt_le, lt_trans, lt_not_le, Item, Window, IsWindow, IsJustBefore, IsInserted, IsStored}
+use Rattle.range_edit.proofs.Common.{◌≡◌, ℕ, zero, suc, ◌+◌, ◌-◌, ◌<◌, List, take, drop, get_or-take, get_or-drop, length-drop, length-take-le, refl, arith, Option, Some, None, Bool, insert, IsEquivalence, every_at, every_weaker, KeyOrder, IsLawful, IsEmptyRange, IsKeyRange, AnyRange, lt_le, lt_trans, lt_not_le, Item, Window, IsWindow, IsJustBefore, IsInserted, IsStored}
 use Rattle.range_edit.specs.Apart.{LiesApartAt}
 use Rattle.range_runs.proofs.CoveredPlaces.{chained_items_have_places}
 use Rattle.range_runs.proofs.Forms.{every_back, nonempty_good, stored_chain}
@@ -17,7 +17,7 @@ just_before (suc n) = (tt, omega arith)
 
 module _ {K : Type 0} (order : KeyOrder K) (lawful : IsLawful order) {V : Type 0}
     (same : V → V → Bool) (equal : IsEquivalence same) (items : List (Item (AnyRange K) V))
-    (r : AnyRange K) (stored : IsStored order same items) (known : IsKnownRange order r)
+    (r : AnyRange K) (stored : IsStored order same items) (known : IsKeyRange order r)
     (full : IsEmptyRange order r → ⊥) where
   -- it is put where it lies apart from the items on both sides
   pub inserted_apart : (place : ℕ) → LiesApartAt order items r place

@@ -1,5 +1,5 @@
 -- The window of a range that comes after all items or before them, and meets none.
-use Rattle.range_edit.proofs.Common.{PLe, PLt, ◌≡◌, ℕ, ◌+◌, ◌<◌, List, length, take, drop, get_or, get_or_read, refl, sym, ap, ◌∙◌, arith, Some, None, Bool, true, false, Every, IsEquivalence, KeyOrder, IsLawful, end_position, position_cmp, start_position, drop_all, every_at, le_lt_trans, lt_le, lt_le_trans, lt_not_le, not_le, IsEmptyRange, IsKnownRange, AnyRange, Item, IsStored, IsFound}
+use Rattle.range_edit.proofs.Common.{PLe, PLt, ◌≡◌, ℕ, ◌+◌, ◌<◌, List, length, take, drop, get_or, get_or_read, refl, sym, ap, ◌∙◌, arith, Some, None, Bool, true, false, Every, IsEquivalence, KeyOrder, IsLawful, end_position, position_cmp, start_position, drop_all, every_at, le_lt_trans, lt_le, lt_le_trans, lt_not_le, not_le, IsEmptyRange, IsKeyRange, AnyRange, Item, IsStored, IsFound}
 use Rattle.std.specs.Ordering.{is_gt, is_lt}
 use Rattle.std.proofs.lemmas.Bool.{false_from_ne_true, true≢false}
 use Rattle.range_keys.proofs.Orderings.{not_greater}
@@ -13,7 +13,7 @@ use Rattle.range_runs.proofs.Windows.{window_is}
 module _ {K : Type 0} (order : KeyOrder K) (lawful : IsLawful order) {V : Type 0}
     (same : V → V → Bool) (equal : IsEquivalence same) {P : Type 0} (is_good : P → Type 0)
     (rank : P → ℕ) (items : List (Item (AnyRange K) V)) (r : AnyRange K)
-    (known : IsKnownRange order r) (full : IsEmptyRange order r → ⊥)
+    (known : IsKeyRange order r) (full : IsEmptyRange order r → ⊥)
     (stored : IsStored order same items) (q : P) (good : is_good q) (within : rank q < length items)
     (x : Item (AnyRange K) V) (read : x ≡ get_or items (rank q) x) where
   -- the last item ends before the range

@@ -1,5 +1,5 @@
 -- That a container can be changed as planned, and how many items it then has.
-use Rattle.range_edit.proofs.Common.{common_steps, ◌≡◌, ℕ, ◌+◌, ◌*◌, ◌≤◌, List, ◌++◌, length, take, drop, arith, Option, Bool, IsEquivalence, ForSome, Bound, KeyOrder, IsLawful, AnyRange, place_before, Item, kept_at, good_at, IsGoodBorder, IsLeftShape, IsRightShape, IsReach, option_items, Border}
+use Rattle.range_edit.proofs.Common.{common_steps, ◌≡◌, ℕ, ◌+◌, ◌*◌, ◌≤◌, List, ◌++◌, length, take, drop, arith, Option, Bool, IsEquivalence, ForSome, Bound, KeyOrder, IsLawful, AnyRange, rank_or_len, Item, kept_at, good_at, IsGoodBorder, IsLeftShape, IsRightShape, IsReach, option_items, Border}
 use Rattle.range_edit.specs.declared.reach.Reach.{Reach}
 use Rattle.range_edit.specs.Reach.{AreApart}
 use Rattle.range_edit.proofs.BoundEdits.{shape_kept, border_good}
@@ -14,11 +14,11 @@ pub record IsFit {K V P : Type 0} (is_good : P → Type 0) (rank : P → ℕ)
   pub left_good : IsGoodBorder is_good left
   pub right_good : IsGoodBorder is_good right
   pub good : ForSome from is_good
-  pub in_range : place_before rank (length items) from + count ≤ length items
+  pub in_range : rank_or_len rank (length items) from + count ≤ length items
   pub on_left : IsLeftShape is_good rank items left at
-      (place_before rank (length items) from) before start
+      (rank_or_len rank (length items) from) before start
   pub on_right : IsRightShape is_good rank items right
-      (place_before rank (length items) from + count) end after finish
+      (rank_or_len rank (length items) from + count) end after finish
 
 module _ {K : Type 0} {order : KeyOrder K} {lawful : IsLawful order} {V : Type 0}
     {same : V → V → Bool} {equal : IsEquivalence same} {P : Type 0} {is_good : P → Type 0}

@@ -1,6 +1,6 @@
 -- The list in which a middle stands for what a range held, by what stands on both sides of it: for
 -- one item the range is bound, for none it is unbound.
-use Rattle.range_edit.proofs.Common.{common_steps, slice_get, ◌-◌, Line, Position, ◌≡◌, ℕ, ◌+◌, ◌<◌, ◌≤◌, List, [], ◌∷◌, ◌++◌, ◌∙◌, ap, sym, insert, append-nil, length, take, drop, refl, arith, Option, Some, None, Bool, true, IsTrue, ◌⊎◌, inl, inr, append_assoc, length-append, IsEquivalence, Every, KeyOrder, IsLawful, Beside, At, Any, AnyRange, any_left, any_right, every_weaker, every_append, every_left, every_right, held_between, line_of, IsBoundTo, IsSpliced, lower, upper, le_refl, Item, Bound, HasValue, IsPart, IsNewItem, IsSpliceFrame, IsInserted, IsRemoved, IsReplaced, Overlap, joined_item, with_first_start, with_last_end, IsWindow, IsStored, option_items, Window}
+use Rattle.range_edit.proofs.Common.{common_steps, slice_get, ◌-◌, Line, Position, ◌≡◌, ℕ, ◌+◌, ◌<◌, ◌≤◌, List, [], ◌∷◌, ◌++◌, ◌∙◌, ap, sym, insert, append-nil, length, take, drop, refl, arith, Option, Some, None, Bool, true, IsTrue, ◌⊎◌, inl, inr, append_assoc, length-append, IsEquivalence, Every, KeyOrder, IsLawful, Beside, At, Any, AnyRange, any_left, any_right, every_weaker, every_append, every_left, every_right, held_between, line_of, IsBoundTo, IsFilledWith, lower, upper, le_refl, Item, Bound, HasValue, IsPart, IsNewItem, IsSpliceFrame, IsInserted, IsRemoved, IsReplaced, Overlap, joined_item, with_first_start, with_last_end, IsWindow, IsStored, option_items, Window}
 use Rattle.range_edit.specs.Plans.{IsJoinedLeft, IsJoinedRight}
 use Rattle.range_runs.proofs.ChainSides.{held_alone}
 use Rattle.range_runs.proofs.CoveredPlaces.{meets_bound, met_range_is_covered, chained_items_have_places, overlap_is}
@@ -77,7 +77,7 @@ module _ {K : Type 0} {order : KeyOrder K} (lawful : IsLawful order) {V : Type 0
         ++ (option_items beyond ++ drop end items)
     parted = grind (arith, common_steps, changed)
 
-    made : IsSpliced line items middle new (lower order r) (upper order r)
+    made : IsFilledWith line items middle new (lower order r) (upper order r)
     made = rw parted (sewn_between line (range_has_places lawful equal window) left.sewn right.sewn)
 
     known_new : Known order lawful same equal new

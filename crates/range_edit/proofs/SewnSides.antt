@@ -1,5 +1,5 @@
 -- What stands on each side of a range, and how it is sewn to a list that comes to stand there.
-use Rattle.range_edit.proofs.Common.{common_steps, Line, Position, ◌≡◌, ℕ, zero, suc, ◌+◌, ◌-◌, ◌<◌, ◌≤◌, List, [], ◌∷◌, ◌++◌, length, take, drop, get_or, refl, ap, sym, ◌∙◌, arith, subst, inl, inr, Option, Some, None, Bool, true, IsTrue, slice_get, append_assoc, append-nil, length-drop, length-take-le, get_or-take, get_or-drop, IsEquivalence, Every, Any, KeyOrder, IsLawful, position_total, tied_itself, AnyRange, IsEmptyRange, IsKnownRange, Item, Equal, lt_le, eq_le, eq_ge, le_refl, le_trans, le_lt_trans, lt_le_trans, PLe, PLt, line_of, IsLeft, IsRight, Leading, lower, upper, past, end_position, item_lower, item_upper, IsWindow, option_items, Window, every_at, list_is_take_and_drop, every_weaker, every_append, every_left, every_right, any_left, any_right, Bound, Touches, IsPart, IsStored, ReachesBefore, ReachesAfter, flipped_bound, with_start, with_end, SameBound, IsKnownBound, with_first_start, with_last_end, AreWithin}
+use Rattle.range_edit.proofs.Common.{common_steps, Line, Position, ◌≡◌, ℕ, zero, suc, ◌+◌, ◌-◌, ◌<◌, ◌≤◌, List, [], ◌∷◌, ◌++◌, length, take, drop, get_or, refl, ap, sym, ◌∙◌, arith, subst, inl, inr, Option, Some, None, Bool, true, IsTrue, slice_get, append_assoc, append-nil, length-drop, length-take-le, get_or-take, get_or-drop, IsEquivalence, Every, Any, KeyOrder, IsLawful, position_total, tied_itself, AnyRange, IsEmptyRange, IsKeyRange, Item, Equal, lt_le, eq_le, eq_ge, le_refl, le_trans, le_lt_trans, lt_le_trans, PLe, PLt, line_of, IsLeft, IsRight, Leading, lower, upper, past, end_position, item_lower, item_upper, IsWindow, option_items, Window, every_at, list_is_take_and_drop, every_weaker, every_append, every_left, every_right, any_left, any_right, Bound, Touches, IsPart, IsStored, ReachesBefore, ReachesAfter, flipped_bound, with_start, with_end, SameBound, IsBoundOfKey, with_first_start, with_last_end, AreWithin}
 use Rattle.range_runs.proofs.Tests.{same_some}
 use Rattle.range_runs.proofs.Chains.{chain_above, chain_before, chain_right, strictly_leads, same_is_symmetric}
 use Rattle.range_runs.proofs.ChainSides.{left_whole, left_cut, right_whole, right_cut}
@@ -97,7 +97,7 @@ module _ {K : Type 0} {order : KeyOrder K} (lawful : IsLawful order) {V : Type 0
     in_order = stored_chain order lawful same equal items window.stored
 
     pub known_at : (n : ℕ) (x : Item (AnyRange K) V) → n < length items → x ≡ get_or items n x
-        → IsKnownRange order x.key
+        → IsKeyRange order x.key
     known_at n x within read = grind (arith, common_steps, every_at)
 
     -- the first item of the window ends after the range starts, and the last starts before it ends
@@ -169,7 +169,7 @@ module _ {K : Type 0} {order : KeyOrder K} (lawful : IsLawful order) {V : Type 0
 
       left_apart : (rest : Option (Item (AnyRange K) V)) → IsLeft line items (take place items
           ++ option_items rest) (lower order r)
-          → Every (λ i. IsKnownRange order i.key) (option_items rest)
+          → Every (λ i. IsKeyRange order i.key) (option_items rest)
           → Every (IsPart order same (take w.count (drop place items)) r)
           (option_items rest) → ((m : Item (AnyRange K) V) → slice_get middle 0 ≡ Some m
           → PLe lawful (item_lower order m) (lower order r)
@@ -200,7 +200,7 @@ module _ {K : Type 0} {order : KeyOrder K} (lawful : IsLawful order) {V : Type 0
       -- an item that starts before the range is cut
       pub left_side_cut : (x : Item (AnyRange K) V) → x ≡ get_or items place x → 0 < w.count
           → PLt lawful (item_lower order x) (lower order r) → (b : Bound K)
-          → IsKnownBound order b × SameBound order (flipped_bound r.start) b
+          → IsBoundOfKey order b × SameBound order (flipped_bound r.start) b
           → StartsApart lawful same r middle x.value → LeftSide place
           (Some (with_end x b)) None
       left_side_cut x read some starts b cut apart =
@@ -360,7 +360,7 @@ module _ {K : Type 0} {order : KeyOrder K} (lawful : IsLawful order) {V : Type 0
 
         right_apart : (beyond : Option (Item (AnyRange K) V)) → IsRight line items (option_items beyond
             ++ drop (place + w.count) items) (upper order r)
-            → Every (λ i. IsKnownRange order i.key) (option_items beyond)
+            → Every (λ i. IsKeyRange order i.key) (option_items beyond)
             → Every (IsPart order same (take w.count (drop place items)) r) (option_items beyond)
             → ((y : Item (AnyRange K) V) (ys : List (Item (AnyRange K) V)) → option_items beyond
             ++ drop (place + w.count) items ≡ y ∷ ys
@@ -393,7 +393,7 @@ module _ {K : Type 0} {order : KeyOrder K} (lawful : IsLawful order) {V : Type 0
         -- an item that ends after the range is cut, and its upper part has an equal value
         pub right_side_cut : (x : Item (AnyRange K) V) → x ≡ get_or items (place + w.count - 1) x
             → 0 < w.count → PLt lawful (upper order r) (item_upper order x) → (b : Bound K)
-            → IsKnownBound order b × SameBound order (flipped_bound r.end) b → (u : V)
+            → IsBoundOfKey order b × SameBound order (flipped_bound r.end) b → (u : V)
             → same u x.value ≡ true → EndsApart lawful same r middle x.value → RightSide
             (place + w.count) (Some (record { key = record { start = b; end = x.key.end }; value = u }))
             None
@@ -531,7 +531,7 @@ module _ {K : Type 0} {order : KeyOrder K} (lawful : IsLawful order) {V : Type 0
             }
 
   -- one item, whose range is that of the change
-  pub own_stored : {r : AnyRange K} (v : V) → IsKnownRange order r → (IsEmptyRange order r → ⊥)
+  pub own_stored : {r : AnyRange K} (v : V) → IsKeyRange order r → (IsEmptyRange order r → ⊥)
       → IsStored order same (record { key = r; value = v } ∷ [])
   own_stored v known full = grind (arith, common_steps)
 

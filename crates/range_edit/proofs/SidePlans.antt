@@ -1,5 +1,5 @@
 -- What is planned on both sides of a range for a list that comes to stand there.
-use Rattle.range_edit.proofs.Common.{Bor, option_copied, common_steps, ◌≡◌, ℕ, ◌+◌, ◌-◌, ◌<◌, ◌≤◌, inl, inr, List, [], ◌∷◌, ◌++◌, length, take, refl, ap, ◌∙◌, arith, Option, Some, None, Bool, slice_get, IsEquivalence, tied_itself, position_total, Bound, KeyOrder, IsLawful, AnyRange, IsAt, Item, joined_count, IsLeftShape, IsRightShape, right_side, IsRunStart, IsReach, IsWindow, IsStored, IsKnownBound, SameBound, flipped_bound, seam_border, option_items, Border, Window, AreWithin, ReachesBefore, ReachesAfter, with_start, with_end, with_first_start, lower, upper, item_lower, item_upper, PLe, lt_not_le}
+use Rattle.range_edit.proofs.Common.{Bor, option_copied, common_steps, ◌≡◌, ℕ, ◌+◌, ◌-◌, ◌<◌, ◌≤◌, inl, inr, List, [], ◌∷◌, ◌++◌, length, take, refl, ap, ◌∙◌, arith, Option, Some, None, Bool, slice_get, IsEquivalence, tied_itself, position_total, Bound, KeyOrder, IsLawful, AnyRange, IsAt, Item, joined_count, IsLeftShape, IsRightShape, right_side, IsRunStart, IsReach, IsWindow, IsStored, IsBoundOfKey, SameBound, flipped_bound, seam_border, option_items, Border, Window, AreWithin, ReachesBefore, ReachesAfter, with_start, with_end, with_first_start, lower, upper, item_lower, item_upper, PLe, lt_not_le}
 use Rattle.range_edit.specs.declared.borders.Joins.{Joins}
 use Rattle.range_edit.specs.declared.reach.Reach.{Reach}
 use Rattle.range_edit.specs.Borders.{IsSeamAt, run_length}
@@ -92,7 +92,7 @@ module _ {K : Type 0} {order : KeyOrder K} (lawful : IsLawful order) {V : Type 0
     left_plan : (first found from : Option P) (b : Bound K)
         → ReachesBefore order is_good rank items r place w.count first
         → IsFirstSeam order same is_good rank items r (place + length (option_items first))
-        (slice_get middle 0) found → IsKnownBound order b × SameBound order (flipped_bound r.start) b
+        (slice_get middle 0) found → IsBoundOfKey order b × SameBound order (flipped_bound r.start) b
         → IsRunStart is_good rank (length items) place first found from
         → IsLeftPlan order same lawful equal is_good rank items r place w.count middle first
         (seam_border found first b) from
@@ -152,7 +152,7 @@ module _ {K : Type 0} {order : KeyOrder K} (lawful : IsLawful order) {V : Type 0
         → ReachesAfter order is_good rank items r place w.count last
         → IsLastSeam order same is_good rank items r
         (place + w.count - length (option_items last)) (slice_get middle (length middle - 1)) found
-        → IsKnownBound order b × SameBound order (flipped_bound r.end) b
+        → IsBoundOfKey order b × SameBound order (flipped_bound r.end) b
         → IsRightPlan order same lawful equal is_good rank items r place w.count middle
         (take at items ++ option_items rest) (with_first_start start middle) last
         (seam_border found last b)

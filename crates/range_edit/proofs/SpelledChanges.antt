@@ -1,5 +1,5 @@
 -- That what a change puts in the place of a range is spelled as what it replaces.
-use Rattle.range_edit.proofs.Common.{common_steps, ◌≡◌, BorderSide, IsBorderShape, left_side, right_side, with_start, with_end, sym, ap, subst, ◌∙◌, ℕ, ◌+◌, ◌-◌, ◌<◌, arith, Option, Some, Bool, List, ◌∷◌, ◌++◌, inl, inr, length, get_or, take, drop, IsEquivalence, Every, Bound, KeyOrder, IsLawful, AnyRange, same_itself, lower, upper, lt_le, eq_le, lt_not_le, lt_trans, PLt, IsKnownRange, every_weaker, every_append, every_left, every_right, list_is_take_and_drop, reaching_is_before_past, Item, IsInserted, IsRemoved, seam_border, flipped_bound, IsStartOf, IsEndOf, IsReach, IsSpliceFrame, IsSurrounded, with_first_start, with_last_end, IsStartAsIn, IsEndAsIn, IsSpelledAsIn, KeepsSpelling, IsStored, item_lower, option_items, Window}
+use Rattle.range_edit.proofs.Common.{common_steps, ◌≡◌, BorderSide, IsBorderShape, left_side, right_side, with_start, with_end, sym, ap, subst, ◌∙◌, ℕ, ◌+◌, ◌-◌, ◌<◌, arith, Option, Some, Bool, List, ◌∷◌, ◌++◌, inl, inr, length, get_or, take, drop, IsEquivalence, Every, Bound, KeyOrder, IsLawful, AnyRange, same_itself, lower, upper, lt_le, eq_le, lt_not_le, lt_trans, PLt, IsKeyRange, every_weaker, every_append, every_left, every_right, list_is_take_and_drop, reaching_is_before_past, Item, IsInserted, IsRemoved, seam_border, flipped_bound, IsStartOf, IsEndOf, IsReach, IsSpliceFrame, IsSurrounded, with_first_start, with_last_end, IsStartAsIn, IsEndAsIn, IsSpelledAsIn, KeepsSpelling, IsStored, item_lower, option_items, Window}
 use Rattle.std.proofs.lemmas.Option.{same_Some}
 use Rattle.range_edit.specs.declared.reach.Reach.{Reach}
 use Rattle.range_runs.proofs.RangePieces.{any_use, item_at}
@@ -138,7 +138,7 @@ module _ {K : Type 0} {order : KeyOrder K} (lawful : IsLawful order) {V : Type 0
 
       end_of : IsEndOf order run r b → IsEndAsIn order items b
       end_of (inl is) =
-          let known_x = item_at (λ i. IsKnownRange order i.key) items place x known
+          let known_x = item_at (λ i. IsKeyRange order i.key) items place x known
           (omega (arith, within.window.in_range, within.one)) here in
           let ends = within.ends x here in
           rw is (within_is_kept lawful equal items known chain (take place items)

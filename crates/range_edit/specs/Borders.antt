@@ -1,6 +1,6 @@
 -- How a range that is bound joins what stands beside it.
 use Rattle.std.specs.Prelude.{◌≡◌, ◌+◌, ◌-◌, ◌<◌, ◌≤◌, ◌++◌}
-use Rattle.range_edit.specs.Common.{ℕ, Bool, true, List, length, take, drop, slice_index_or, slice_set, Option, Some, None, MatchOption, ⊤, Bound, KeyOrder, IsKnownBound, unwrap_or, Border, Reach, SameBound, AnyRange, place_before, IsAt, Item, Window, Touches}
+use Rattle.range_edit.specs.Common.{ℕ, Bool, true, List, length, take, drop, slice_index_or, slice_set, Option, Some, None, MatchOption, ⊤, Bound, KeyOrder, IsBoundOfKey, unwrap_or, Border, Reach, SameBound, AnyRange, rank_or_len, IsAt, Item, Window, Touches}
 use Rattle.std.specs.declared.ops.Bound.TheVariants.{Unbounded}
 use Rattle.range_edit.specs.declared.borders.Border.TheVariants.{Plain, Cut, Joined}
 use Rattle.range_edit.specs.declared.borders.Joins.{Joins}
@@ -11,27 +11,27 @@ use Rattle.range_edit.specs.Reach.{inner_count}
 use Rattle.range_runs.specs.Window.{option_items}
 
 module _ {K : Type 0} (order : KeyOrder K) {V : Type 0} (same : V → V → Bool) where
-  -- no item just before the place touches the range with an equal value
+  -- no item just before the index touches the range with an equal value
   abbrev pub TouchesNoneBefore : List (Item (AnyRange K) V) → ℕ → AnyRange K → V → Type 0
-  TouchesNoneBefore items place r v = (d : Item (AnyRange K) V) → 0 < place
-      → Touches order (slice_index_or items (place - 1) d).key r
-      → same (slice_index_or items (place - 1) d).value v ≡ true → ⊥
+  TouchesNoneBefore items index r v = (d : Item (AnyRange K) V) → 0 < index
+      → Touches order (slice_index_or items (index - 1) d).key r
+      → same (slice_index_or items (index - 1) d).value v ≡ true → ⊥
 
-  -- the item just before the place does
+  -- the item just before the index does
   abbrev pub TouchesBefore : List (Item (AnyRange K) V) → ℕ → AnyRange K → V → Type 0
-  TouchesBefore items place r v = (d : Item (AnyRange K) V)
-      → Touches order (slice_index_or items (place - 1) d).key r
-      × (same (slice_index_or items (place - 1) d).value v ≡ true)
+  TouchesBefore items index r v = (d : Item (AnyRange K) V)
+      → Touches order (slice_index_or items (index - 1) d).key r
+      × (same (slice_index_or items (index - 1) d).value v ≡ true)
 
   abbrev pub TouchesNoneAfter : List (Item (AnyRange K) V) → ℕ → AnyRange K → V → Type 0
-  TouchesNoneAfter items place r v = (d : Item (AnyRange K) V) → place < length items
-      → Touches order r (slice_index_or items place d).key
-      → same v (slice_index_or items place d).value ≡ true → ⊥
+  TouchesNoneAfter items index r v = (d : Item (AnyRange K) V) → index < length items
+      → Touches order r (slice_index_or items index d).key
+      → same v (slice_index_or items index d).value ≡ true → ⊥
 
   abbrev pub TouchesAfter : List (Item (AnyRange K) V) → ℕ → AnyRange K → V → Type 0
-  TouchesAfter items place r v = (d : Item (AnyRange K) V)
-      → Touches order r (slice_index_or items place d).key
-      × (same v (slice_index_or items place d).value ≡ true)
+  TouchesAfter items index r v = (d : Item (AnyRange K) V)
+      → Touches order r (slice_index_or items index d).key
+      × (same v (slice_index_or items index d).value ≡ true)
 
 -- the bounds that a run joins, and the list before the run and after it
 pub record IsOpened {K V : Type 0} (items new : List (Item (AnyRange K) V))
@@ -43,7 +43,7 @@ pub record IsOpened {K V : Type 0} (items new : List (Item (AnyRange K) V))
   pub behind : drop upto new ≡ option_items after ++ drop end items
 
 -- one side of a range: an item there with another bound towards the range, with another outer one, its
--- outer bound, and the place at which the range joins it
+-- outer bound, and the index at which the range joins it
 pub record BorderSide (K V : Type 0) : Type 0 where
   pub shortened : Item (AnyRange K) V → Bound K → Item (AnyRange K) V
   pub extended : Item (AnyRange K) V → Bound K → Item (AnyRange K) V
@@ -90,7 +90,7 @@ module _ {K P : Type 0} where
       (border : Border K P) : Type 0 where
     pub cut : Bound K
     pub at : border ≡ seam_border joined reaching cut
-    pub known : IsKnownBound order cut
+    pub known : IsBoundOfKey order cut
     pub flipped : SameBound order (flipped_bound bound) cut
 
   abbrev pub IsGoodBorder : (P → Type 0) → Border K P → Type 0
@@ -120,8 +120,8 @@ module _ {K P : Type 0} where
         → Border K P → Option (Bound K) → Type 0
     IsRightEdited = IsBorderEdit right_side
 
-    -- from one place to another lies what is cut, and a rest of it stays; or an item is joined there,
-    -- and its outer bound given
+    -- from one index to another lies what is cut, and a rest of it stays; or an item is joined
+    -- there, and its outer bound given
     abbrev pub IsBorderShape : BorderSide K V → (P → Type 0) → (P → ℕ) → List (Item (AnyRange K) V)
         → Border K P → ℕ → ℕ → Option (Item (AnyRange K) V) → Option (Bound K) → Type 0
     IsBorderShape side is_good rank items Plain low high rest given =
@@ -157,13 +157,13 @@ module _ {K P : Type 0} where
         → IsOpened items new bounds at from upto end before after start finish
 
     -- `put` stands in the place of the run, between what the borders leave of the items beside it
-    abbrev pub IsSpliced : (P → Type 0) → (P → ℕ) → List (Item (AnyRange K) V)
+    abbrev pub IsRunReplaced : (P → Type 0) → (P → ℕ) → List (Item (AnyRange K) V)
         → List (Item (AnyRange K) V) → Border K P → Border K P → Cursor P
         → (Option (Bound K) → Option (Bound K) → List (Item (AnyRange K) V)) → Type 0
-    IsSpliced is_good rank items new left right run put =
+    IsRunReplaced is_good rank items new left right run put =
         (at end : ℕ) (before after : Option (Item (AnyRange K) V)) (start finish : Option (Bound K))
         → let from =
-        place_before rank (length items) run.at in IsLeftShape is_good rank items left at
+        rank_or_len rank (length items) run.at in IsLeftShape is_good rank items left at
         from before start → IsRightShape is_good rank items right (from + run.left) end after finish
         → joined_count left + joined_count right ≤ run.left
         → new ≡ take at items ++ option_items before ++ put start finish ++ option_items after
@@ -172,14 +172,14 @@ module _ {K P : Type 0} where
 -- an item in two parts, with `middle` between them
 abbrev pub IsDivided : {K V : Type 0} → List (Item (AnyRange K) V) → List (Item (AnyRange K) V) → ℕ
     → DividedItem K V → Option (Item (AnyRange K) V) → Type 0
-IsDivided {K} {V} items new place parts middle = (d : Item (AnyRange K) V) → let item =
-    slice_index_or items place d in new ≡ take place items
+IsDivided {K} {V} items new index parts middle = (d : Item (AnyRange K) V) → let item =
+    slice_index_or items index d in new ≡ take index items
     ++ option_items (Some (with_end item parts.end)) ++ option_items middle
     ++ option_items
     (Some (record {
       key = record { start = parts.start; end = item.key.end };
       value = parts.value;
-    })) ++ drop (place + 1) items
+    })) ++ drop (index + 1) items
 
 -- an item with the bounds of those that it joins
 abbrev pub joined_item : {K V : Type 0} → Item (AnyRange K) V → Option (Bound K) → Option (Bound K)
@@ -196,16 +196,16 @@ module _ {K : Type 0} (order : KeyOrder K) {V : Type 0} (same : V → V → Bool
     (w : Window P) where
   -- the item just before the window, if the range touches it and has an equal value
   abbrev pub IsJoinedBefore : Option P → Type 0
-  IsJoinedBefore found = let place =
-      place_before (rank stored) (length (items stored)) w.from in MatchOption found
-      (TouchesNoneBefore order same (items stored) place r v)
-      (λ q. is_good stored q × (rank stored q + 1 ≡ place)
-      × TouchesBefore order same (items stored) place r v)
+  IsJoinedBefore found = let index =
+      rank_or_len (rank stored) (length (items stored)) w.from in MatchOption found
+      (TouchesNoneBefore order same (items stored) index r v)
+      (λ q. is_good stored q × (rank stored q + 1 ≡ index)
+      × TouchesBefore order same (items stored) index r v)
 
   -- the item just after it, if the range touches it and has an equal value
   abbrev pub IsJoinedAfter : Option P → Type 0
   IsJoinedAfter found = let end =
-      place_before (rank stored) (length (items stored)) w.from + w.count in MatchOption found
+      rank_or_len (rank stored) (length (items stored)) w.from + w.count in MatchOption found
       (TouchesNoneAfter order same (items stored) end r v)
       (λ q. is_good stored q × (rank stored q ≡ end)
       × TouchesAfter order same (items stored) end r v)
@@ -218,6 +218,6 @@ module _ {P : Type 0} where
 
   -- they begin with the item that joins, or else after the one that reaches out
   abbrev pub IsRunStart : (P → Type 0) → (P → ℕ) → ℕ → ℕ → Option P → Option P → Option P → Type 0
-  IsRunStart is_good rank len place first None at =
-      IsAt is_good rank len at (place + length (option_items first))
-  IsRunStart is_good rank len place first (Some q) at = at ≡ Some q
+  IsRunStart is_good rank len index first None at =
+      IsAt is_good rank len at (index + length (option_items first))
+  IsRunStart is_good rank len index first (Some q) at = at ≡ Some q

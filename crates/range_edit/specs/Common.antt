@@ -10,10 +10,10 @@ pub use Rattle.range_keys.specs.Position.{end_position, position_cmp, start_posi
 pub use Rattle.range_algebra.specs.Clones.{SameBound}
 pub use Rattle.range_algebra.specs.Cuts.{lower, past, upper}
 pub use Rattle.range_algebra.specs.Intervals.{Le, Lt}
-pub use Rattle.range_algebra.specs.Range.{Holds, IsKnownBound, IsKnownRange}
+pub use Rattle.range_algebra.specs.Range.{Holds, IsBoundOfKey, IsKeyRange}
 pub use Rattle.range_algebra.specs.Relations.{LiesBefore, Touches}
 pub use Rattle.range_algebra.specs.declared.any.AnyRange.{AnyRange}
-pub use Rattle.range_store.specs.ListPlaces.{IsAt, place_before}
+pub use Rattle.range_store.specs.ListRanks.{IsAt, rank_or_len}
 pub use Rattle.range_store.specs.declared.storage.Item.{Item}
 pub use Rattle.range_edit.specs.declared.borders.Border.{Border}
 pub use Rattle.range_edit.specs.declared.reach.Reach.{Reach}

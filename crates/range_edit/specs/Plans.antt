@@ -1,6 +1,6 @@
 -- Which items a range that is bound joins.
 use Rattle.std.specs.Prelude.{◌≡◌, ◌+◌, ◌-◌, ◌<◌}
-use Rattle.range_edit.specs.Common.{ℕ, Bool, true, List, length, slice_index_or, Option, Some, None, KeyOrder, position_cmp, lower, upper, Le, Lt, AnyRange, Item, place_before, Reach}
+use Rattle.range_edit.specs.Common.{ℕ, Bool, true, List, length, slice_index_or, Option, Some, None, KeyOrder, position_cmp, lower, upper, Le, Lt, AnyRange, Item, rank_or_len, Reach}
 use Rattle.range_runs.specs.Stored.{item_lower, item_upper}
 use Rattle.range_runs.specs.Window.{option_items}
 
@@ -19,13 +19,13 @@ module _ {K : Type 0} (order : KeyOrder K) {V : Type 0} (same : V → V → Bool
       (lower order r)
       × Le (position_cmp order.cmp) (lower order r) (item_upper order x) × (same x.value v ≡ true))
 
-  -- the item at the place, if the range reaches it with an equal value
+  -- the item at the index, if the range reaches it with an equal value
   abbrev pub IsJoinedRight : ℕ → Option P → Type 0
-  IsJoinedRight place None = (d : Item (AnyRange K) V) → let x =
-      slice_index_or items place d in place < length items
+  IsJoinedRight index None = (d : Item (AnyRange K) V) → let x =
+      slice_index_or items index d in index < length items
       → Le (position_cmp order.cmp) (item_lower order x) (upper order r) → same x.value v ≡ true → ⊥
-  IsJoinedRight place (Some q) =
-      is_good q × (rank q ≡ place)
+  IsJoinedRight index (Some q) =
+      is_good q × (rank q ≡ index)
       × ((d : Item (AnyRange K) V) → let x =
       slice_index_or items (rank q) d in Le (position_cmp order.cmp) (item_lower order x)
       (upper order r)
@@ -39,11 +39,11 @@ module _ {K : Type 0} (order : KeyOrder K) {V : Type 0} (same : V → V → Bool
   -- before
   abbrev pub JoinsBefore : Option P → Type 0
   JoinsBefore = IsJoinedLeft order same (is_good stored) (rank stored) (items stored) r v
-      (place_before (rank stored) (length (items stored)) reach.window.from
+      (rank_or_len (rank stored) (length (items stored)) reach.window.from
       + length (option_items reach.first))
 
   -- the one that it joins where it ends
   abbrev pub JoinsAfter : Option P → Type 0
   JoinsAfter = IsJoinedRight order same (is_good stored) (rank stored) (items stored) r v
-      (place_before (rank stored) (length (items stored)) reach.window.from + reach.window.count
+      (rank_or_len (rank stored) (length (items stored)) reach.window.from + reach.window.count
       - length (option_items reach.last))

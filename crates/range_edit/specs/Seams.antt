@@ -1,6 +1,6 @@
 -- Which items a list joins that comes to stand in a range.
 use Rattle.std.specs.Prelude.{◌≡◌, ◌+◌, ◌-◌, ◌∷◌, ◌⊎◌}
-use Rattle.range_edit.specs.Common.{ℕ, Bool, List, [], length, Option, Some, None, Equal, Bound, KeyOrder, position_cmp, lower, upper, Lt, AnyRange, Item, place_before, Reach}
+use Rattle.range_edit.specs.Common.{ℕ, Bool, List, [], length, Option, Some, None, Equal, Bound, KeyOrder, position_cmp, lower, upper, Lt, AnyRange, Item, rank_or_len, Reach}
 use Rattle.range_edit.specs.Plans.{IsJoinedLeft, IsJoinedRight}
 use Rattle.range_runs.specs.Edits.{with_start, with_end}
 use Rattle.range_runs.specs.Stored.{item_lower, item_upper}
@@ -24,13 +24,13 @@ module _ {K V : Type 0} where
 
 module _ {K : Type 0} (order : KeyOrder K) {V : Type 0} (same : V → V → Bool) {P : Type 0}
     (is_good : P → Type 0) (rank : P → ℕ) (items : List (Item (AnyRange K) V)) (r : AnyRange K)
-    (place : ℕ) where
+    (index : ℕ) where
   -- an item that starts where the range does may join, and before any other nothing does
   abbrev pub IsFirstSeam : Option (Item (AnyRange K) V) → Option P → Type 0
   IsFirstSeam next found =
       ((m : Item (AnyRange K) V) × (next ≡ Some m)
       × (position_cmp order.cmp (item_lower order m) (lower order r) ≡ Equal)
-      × IsJoinedLeft order same is_good rank items r m.value place found)
+      × IsJoinedLeft order same is_good rank items r m.value index found)
       ⊎ (((m : Item (AnyRange K) V) → next ≡ Some m
       → Lt (position_cmp order.cmp) (lower order r) (item_lower order m)) × (found ≡ None))
 
@@ -39,7 +39,7 @@ module _ {K : Type 0} (order : KeyOrder K) {V : Type 0} (same : V → V → Bool
   IsLastSeam previous found =
       ((m : Item (AnyRange K) V) × (previous ≡ Some m)
       × (position_cmp order.cmp (item_upper order m) (upper order r) ≡ Equal)
-      × IsJoinedRight order same is_good rank items r m.value place found)
+      × IsJoinedRight order same is_good rank items r m.value index found)
       ⊎ (((m : Item (AnyRange K) V) → previous ≡ Some m
       → Lt (position_cmp order.cmp) (item_upper order m) (upper order r)) × (found ≡ None))
 
@@ -49,11 +49,11 @@ module _ {K : Type 0} (order : KeyOrder K) {V : Type 0} (same : V → V → Bool
   -- the item that the first of a run is to join, where there is one
   abbrev pub IsJoiningFirst : Option (Item (AnyRange K) V) → Option P → Type 0
   IsJoiningFirst = IsFirstSeam order same (is_good stored) (rank stored) (items stored) r
-      (place_before (rank stored) (length (items stored)) reach.window.from
+      (rank_or_len (rank stored) (length (items stored)) reach.window.from
       + length (option_items reach.first))
 
   -- the item that the last of a run is to join, where there is one
   abbrev pub IsJoiningLast : Option (Item (AnyRange K) V) → Option P → Type 0
   IsJoiningLast = IsLastSeam order same (is_good stored) (rank stored) (items stored) r
-      (place_before (rank stored) (length (items stored)) reach.window.from + reach.window.count
+      (rank_or_len (rank stored) (length (items stored)) reach.window.from + reach.window.count
       - length (option_items reach.last))

@@ -1,6 +1,6 @@
 //! Binding a range that neither meets nor touches a stored one.
 ghost use Rattle.std.specs.Prelude.{◌≡◌, ◌↔◌, ◌≤◌, length, IsErrAnd, IfErr, OnOk, OnErr, IsOk};
-ghost use Rattle.range_store.specs.ListPlaces.{place_before};
+ghost use Rattle.range_store.specs.ListRanks.{rank_or_len};
 ghost use Rattle.range_algebra.specs.Range.{IsEmptyRange};
 ghost use Rattle.range_runs.specs.Stored.{IsStored};
 ghost use Rattle.range_edit.specs.Changes.{IsInserted};
@@ -35,7 +35,7 @@ fn find_gap<K: PartialEnum, V: Eq + Drop, C: Storage<Item<AnyRange<K>, V>>>(
     requires nonempty { ¬ IsEmptyRange K.order range.now }
     ensures { IsGap K.order (C.is_good stored.now) (C.rank stored.now) (C.items stored.now)
         range.now result
-        (place_before (C.rank stored.now) (length (C.items stored.now)) result.from) }
+        (rank_or_len (C.rank stored.now) (length (C.items stored.now)) result.from) }
 {
     inner::known(range);
     let start = Directed::Start(range.start_bound());

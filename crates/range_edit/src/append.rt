@@ -6,7 +6,7 @@ ghost use Rattle.range_keys.specs.Position.{position_cmp, start_position};
 ghost use Rattle.range_algebra.specs.Intervals.{Lt};
 ghost use Rattle.range_algebra.specs.Range.{IsEmptyRange};
 ghost use Rattle.range_runs.specs.Stored.{IsStored};
-ghost use Rattle.range_store.specs.ListPlaces.{place_before};
+ghost use Rattle.range_store.specs.ListRanks.{rank_or_len};
 ghost use Rattle.range_edit.specs.Apart.{IsAnswerAt, LiesApart, LiesApartAt};
 ghost use Rattle.range_runs.specs.Lookups.{IsConnectedToSome, IsPutInto};
 ghost use Rattle.range_runs.specs.Window.{IsWindowOf};
@@ -22,8 +22,8 @@ use range_store::storage::{Item, Steps, Storage};
 use std::alloc::AllocFailed;
 use std::ops::{Bound, RangeBounds};
 
-/// Whether the first range ends before the second, with a place between, by the positions of their
-/// bounds.
+/// Whether the first range ends before the second, with a position between, by the positions of
+/// their bounds.
 fn lies_apart_by_bounds<K: PartialEnum>(first: &AnyRange<K>, second: &AnyRange<K>) -> bool
     ensures { IsTrue result ↔ LiesApart K.order first.now second.now }
 {
@@ -31,7 +31,7 @@ fn lies_apart_by_bounds<K: PartialEnum>(first: &AnyRange<K>, second: &AnyRange<K
     Directed::End(end) < Directed::Start(start) && !starts_at_end(end, start)
 }
 
-/// Whether a place lies between a range that ends with a key and one that starts with a key.
+/// Whether a position lies between a range that ends with a key and one that starts with a key.
 fn leaves_place<K: PartialEnum>(end: &K, start: &K) -> bool
     ensures { IsTrue result
         ↔ Lt (position_cmp K.order.cmp) (start_position K.order (Excluded end.now))
@@ -43,7 +43,7 @@ fn leaves_place<K: PartialEnum>(end: &K, start: &K) -> bool
     }
 }
 
-/// Whether the first range ends before the second, with a place between.
+/// Whether the first range ends before the second, with a position between.
 fn lies_apart<K: PartialEnum>(first: &AnyRange<K>, second: &AnyRange<K>) -> bool
     ensures { IsTrue result ↔ LiesApart K.order first.now second.now }
 {
@@ -175,7 +175,7 @@ pub fn put_apart<K: PartialEnum, V: Eq + Drop, C: Storage<Item<AnyRange<K>, V>>>
     requires nonempty { ¬ IsEmptyRange K.order item.key }
     requires good { ForSome from (C.is_good stored.old) }
     requires apart { LiesApartAt K.order (C.items stored.old) item.key
-        (place_before (C.rank stored.old) (length (C.items stored.old)) from) }
+        (rank_or_len (C.rank stored.old) (length (C.items stored.old)) from) }
     ensures ok { OnOk result
         (IsInserted K.order V.eq (C.items stored.old) (C.items stored.new) item.key item.value) }
     ensures put { OnOk result (IsPutInto (C.items stored.old) (C.items stored.new) item) }

@@ -4,7 +4,7 @@ ghost use Rattle.range_keys.specs.Position.{bound_of, position_cmp};
 ghost use Rattle.range_algebra.specs.Clones.{SameBound};
 ghost use Rattle.range_algebra.specs.Cuts.{lower, upper};
 ghost use Rattle.range_algebra.specs.Intervals.{Lt};
-ghost use Rattle.range_algebra.specs.Range.{ClonesAreEqual, IsKnownBound};
+ghost use Rattle.range_algebra.specs.Range.{ClonesAreEqual, IsBoundOfKey};
 ghost use Rattle.range_algebra.specs.declared.any.AnyRange.{AnyRange};
 ghost use Rattle.range_store.specs.declared.storage.Item.{Item};
 ghost use Rattle.range_runs.specs.Clones.{ClonesNeverFail};
@@ -44,10 +44,10 @@ pub fn prepare_parts<K: PartialEnum + Clone, V: Eq + Clone, C: Storage<Item<AnyR
     requires values { ClonesAreEqual V.is_clone V.eq }
     requires good { C.is_good stored.old p }
     ensures end { IfOk result
-        (λ parts. IsKnownBound K.order parts.end
+        (λ parts. IsBoundOfKey K.order parts.end
         × SameBound K.order (flipped_bound (bound_of start.entry)) parts.end) }
     ensures start { IfOk result
-        (λ parts. IsKnownBound K.order parts.start
+        (λ parts. IsBoundOfKey K.order parts.start
         × SameBound K.order (flipped_bound (bound_of end.entry)) parts.start) }
     ensures value { IfOk result
         (λ parts. (d : Item (AnyRange K) V)

@@ -3,7 +3,7 @@
 ghost use Rattle.std.specs.Prelude.{◌≡◌, ◌+◌, ◌-◌, ◌*◌, ◌≤◌, length, insert, None, OnOk, OnErr, IfErr, IsOk};
 ghost use Rattle.std.specs.Option.{ForSome};
 ghost use Rattle.range_store.specs.Counting.{AddsSteps};
-ghost use Rattle.range_store.specs.ListPlaces.{place_before};
+ghost use Rattle.range_store.specs.ListRanks.{rank_or_len};
 ghost use Rattle.range_edit.specs.Borders.{IsSeamAt};
 ghost use Rattle.range_edit.specs.Reach.{AreApart, IsReachOf};
 ghost use Rattle.range_edit.specs.Plans.{JoinsBefore, JoinsAfter};
@@ -30,7 +30,7 @@ pub fn put<T, C: Storage<T>>(
     ensures put { OnOk result
         (C.items stored.new
         ≡ insert (C.items stored.old)
-        (place_before (C.rank stored.old) (length (C.items stored.old)) before) item) }
+        (rank_or_len (C.rank stored.old) (length (C.items stored.old)) before) item) }
     ensures given { IfErr result (λ e. e.value ≡ item) }
     ensures refused { OnErr result (C.items stored.new ≡ C.items stored.old) }
     ensures succeeds { 1 ≤ C.room stored.old → IsOk result }

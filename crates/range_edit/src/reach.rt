@@ -2,7 +2,7 @@
 ghost use Rattle.std.specs.Prelude.{◌≡◌, ◌+◌, ◌≤◌, length, Some, IsSome, MatchOption};
 ghost use Rattle.std.specs.Option.{ForSome};
 ghost use Rattle.range_store.specs.Counting.{AddsSteps};
-ghost use Rattle.range_store.specs.ListPlaces.{place_before};
+ghost use Rattle.range_store.specs.ListRanks.{rank_or_len};
 ghost use Rattle.range_runs.specs.Window.{option_items, IsWindowOf};
 ghost use Rattle.range_edit.specs.Borders.{IsRunStart};
 ghost use Rattle.range_edit.specs.Reach.{AreApart, IsFirstReaching, IsLastReaching, IsReachOf};
@@ -129,9 +129,9 @@ pub fn run_start<K: PartialEnum, V: Eq + Drop, C: Storage<Item<AnyRange<K>, V>>>
     requires first { ForSome reach.now.first
         (λ p. C.is_good stored.now p
         × (C.rank stored.now p
-        ≡ place_before (C.rank stored.now) (length (C.items stored.now)) reach.now.window.from)) }
+        ≡ rank_or_len (C.rank stored.now) (length (C.items stored.now)) reach.now.window.from)) }
     ensures { IsRunStart (C.is_good stored.now) (C.rank stored.now) (length (C.items stored.now))
-        (place_before (C.rank stored.now) (length (C.items stored.now)) reach.now.window.from)
+        (rank_or_len (C.rank stored.now) (length (C.items stored.now)) reach.now.window.from)
         reach.now.first joined result }
 {
     match (joined, reach.first) {

@@ -3,11 +3,11 @@ ghost use Rattle.std.specs.Prelude.{◌≡◌, ◌+◌, ◌≤◌, ◌++◌, len
 ghost use Rattle.std.specs.Option.{ForSome, option_map, unwrap_or};
 ghost use Rattle.std.specs.declared.ops.Bound.{Bound};
 ghost use Rattle.range_store.specs.declared.storage.Item.{Item};
-ghost use Rattle.range_store.specs.ListPlaces.{place_before, IsAt};
+ghost use Rattle.range_store.specs.ListRanks.{rank_or_len, IsAt};
 ghost use Rattle.range_algebra.specs.declared.any.AnyRange.{AnyRange};
 ghost use Rattle.range_runs.specs.Edits.{with_start, with_end, IsEditedAt, KeepsPositions};
 ghost use Rattle.range_runs.specs.Window.{option_items};
-ghost use Rattle.range_edit.specs.Borders.{IsGoodBorder, IsLeftEdited, IsRightEdited, AreOpened, IsSpliced, IsDivided, joined_item};
+ghost use Rattle.range_edit.specs.Borders.{IsGoodBorder, IsLeftEdited, IsRightEdited, AreOpened, IsRunReplaced, IsDivided, joined_item};
 ghost use Rattle.range_edit.specs.Seams.{with_first_start, with_last_end};
 
 use crate::borders::{Border, Sides};
@@ -137,10 +137,10 @@ pub fn change<K: Drop, V: Drop, C: Storage<Item<AnyRange<K>, V>>>(
     requires left { IsGoodBorder (C.is_good stored.old) sides.left }
     requires right { IsGoodBorder (C.is_good stored.old) sides.right }
     requires good { ForSome sides.run.at (C.is_good stored.old) }
-    requires in_range { place_before (C.rank stored.old) (length (C.items stored.old)) sides.run.at
+    requires in_range { rank_or_len (C.rank stored.old) (length (C.items stored.old)) sides.run.at
         + sides.run.left ≤ length (C.items stored.old) }
     requires space { length (option_items item) ≤ sides.run.left + C.room stored.old }
-    ensures list { IsSpliced (C.is_good stored.old) (C.rank stored.old) (C.items stored.old)
+    ensures list { IsRunReplaced (C.is_good stored.old) (C.rank stored.old) (C.items stored.old)
         (C.items stored.new) sides.left sides.right sides.run
         (λ start finish. option_items (option_map (λ i. joined_item i start finish) item)) }
     ensures space { C.room stored.old + length (C.items stored.old)
@@ -186,13 +186,13 @@ fn end_at<K: Drop, V: Drop>(items: &mut Vec<Item<AnyRange<K>, V>>, end: Option<B
 /// Lets the items of a list stand for the whole run.
 fn replace_run_by<T: Drop, C: Storage<T>>(stored: &mut C, run: Cursor<C::Position>, items: Vec<T>)
     requires good { ForSome run.at (C.is_good stored.old) }
-    requires in_range { place_before (C.rank stored.old) (length (C.items stored.old)) run.at
+    requires in_range { rank_or_len (C.rank stored.old) (length (C.items stored.old)) run.at
         + run.left ≤ length (C.items stored.old) }
     requires space { length items.items ≤ run.left + C.room stored.old }
-    ensures { let place = place_before (C.rank stored.old) (length (C.items stored.old))
+    ensures { let index = rank_or_len (C.rank stored.old) (length (C.items stored.old))
         run.at in C.items stored.new
-        ≡ take place (C.items stored.old) ++ items.items
-        ++ drop (place + run.left) (C.items stored.old) }
+        ≡ take index (C.items stored.old) ++ items.items
+        ++ drop (index + run.left) (C.items stored.old) }
 {
     let mut cursor = run;
     for item in items {
@@ -212,10 +212,10 @@ pub fn change_to<K: Drop, V: Drop, C: Storage<Item<AnyRange<K>, V>>>(
     requires left { IsGoodBorder (C.is_good stored.old) sides.left }
     requires right { IsGoodBorder (C.is_good stored.old) sides.right }
     requires good { ForSome sides.run.at (C.is_good stored.old) }
-    requires in_range { place_before (C.rank stored.old) (length (C.items stored.old)) sides.run.at
+    requires in_range { rank_or_len (C.rank stored.old) (length (C.items stored.old)) sides.run.at
         + sides.run.left ≤ length (C.items stored.old) }
     requires space { length items.items ≤ sides.run.left + C.room stored.old }
-    ensures { IsSpliced (C.is_good stored.old) (C.rank stored.old) (C.items stored.old)
+    ensures { IsRunReplaced (C.is_good stored.old) (C.rank stored.old) (C.items stored.old)
         (C.items stored.new) sides.left sides.right sides.run
         (λ start finish. with_last_end finish (with_first_start start items.items)) }
 {

@@ -16,8 +16,8 @@ use Rattle.range_algebra.specs.Compared.{starts_at_end}
 use Rattle.range_algebra.specs.Cuts.{past, lower, upper}
 use Rattle.range_algebra.specs.Intervals.{Le, Lt}
 use Rattle.range_runs.proofs.PlaceOrder.{eq_le, le_trans, lt_le, lt_not_le}
-use Rattle.range_algebra.specs.Range.{IsKnownRange}
-use Rattle.range_algebra.proofs.Places.{flipped_bound_is_past}
+use Rattle.range_algebra.specs.Range.{IsKeyRange}
+use Rattle.range_algebra.proofs.Positions.{flipped_bound_is_past}
 use Rattle.range_store.specs.declared.storage.Item.{Item}
 use Rattle.range_runs.specs.Frames.{IsInsertionFrame, JoinsOrMeets}
 use Rattle.range_runs.specs.Stored.{item_lower, item_upper, IsStored}
@@ -51,7 +51,7 @@ module _ {K V : Type 0} (order : KeyOrder K) (lawful : IsLawful order) (same : V
   LeadsTo i x = Leads (line_of order lawful same equal) i (item_lower order x) x.value
 
   -- what lies before x, and touches it only beside another value, does not join it
-  not_joined : (i x : Item (AnyRange K) V) → IsKnownRange order i.key → IsKnownRange order x.key
+  not_joined : (i x : Item (AnyRange K) V) → IsKeyRange order i.key → IsKeyRange order x.key
       → Lt (places order lawful) (item_lower order i) (item_upper order i)
       → Lt (places order lawful) (item_lower order x) (item_upper order x) → LeadsTo i x
       → ¬ JoinsOrMeets order same x.key x.value i
@@ -71,7 +71,7 @@ module _ {K V : Type 0} (order : KeyOrder K) (lawful : IsLawful order) (same : V
 
   abbrev Goods : List (Item (AnyRange K) V) → Type 0
   Goods =
-      Every (λ i. IsKnownRange order i.key
+      Every (λ i. IsKeyRange order i.key
       × Lt (places order lawful) (item_lower order i) (item_upper order i))
 
   chained_items_have_places : (xs : List (Item (AnyRange K) V)) → Known order lawful same equal xs
@@ -81,7 +81,7 @@ module _ {K V : Type 0} (order : KeyOrder K) (lawful : IsLawful order) (same : V
       grind (arith, chain_right, chained_items_have_places xs known.1)
 
   none_joined : (xs : List (Item (AnyRange K) V)) (x : Item (AnyRange K) V) → Goods xs
-      → IsKnownRange order x.key
+      → IsKeyRange order x.key
       → Lt (places order lawful) (item_lower order x) (item_upper order x)
       → Every (λ i. LeadsTo i x) xs → Every (λ i. ¬ JoinsOrMeets order same x.key x.value i) xs
   none_joined [] x good known_x good_x leads = tt
@@ -104,7 +104,7 @@ module _ {K V : Type 0} (order : KeyOrder K) (lawful : IsLawful order) (same : V
   -- the items of a list in the form before its last one lead to that, and all are nonempty
   parts_of : (xs : List (Item (AnyRange K) V)) (x : Item (AnyRange K) V)
       → IsStored order same (xs ++ x ∷ [])
-      → Goods xs × Every (λ i. LeadsTo i x) xs × IsKnownRange order x.key
+      → Goods xs × Every (λ i. LeadsTo i x) xs × IsKeyRange order x.key
       × Lt (places order lawful) (item_lower order x) (item_upper order x)
   parts_of xs x whole =
       let line = line_of order lawful same equal in
@@ -148,7 +148,7 @@ module _ {K V : Type 0} (order : KeyOrder K) (lawful : IsLawful order) (same : V
       → IsStored order same xs
   stored_front xs ys whole =
       chain_stored order lawful same equal xs
-      (every_left (λ i. IsKnownRange order i.key) xs ys
+      (every_left (λ i. IsKeyRange order i.key) xs ys
       (stored_known order lawful same equal (xs ++ ys) whole))
       (chain_left (line_of order lawful same equal) xs ys
       (stored_chain order lawful same equal (xs ++ ys) whole))

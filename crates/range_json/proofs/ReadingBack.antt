@@ -12,7 +12,7 @@ use Rattle.serde_json.specs.Data.{Data}
 use Rattle.range_keys.specs.Order.{KeyOrder, IsLawful}
 use Rattle.range_algebra.specs.declared.any.AnyRange.{AnyRange}
 use Rattle.range_algebra.specs.Clones.{IsBoundClone}
-use Rattle.range_algebra.specs.Range.{IsKnownRange}
+use Rattle.range_algebra.specs.Range.{IsKeyRange}
 use Rattle.range_algebra.specs.RangeOrder.{range_cmp}
 use Rattle.range_store.specs.declared.storage.Item.{Item}
 use Rattle.range_reads.specs.ListOrder.{same_list}
@@ -121,7 +121,7 @@ module _ {K : Type 0} (order : KeyOrder K) (shape : K → Data) (reads : Data �
             let form =
             copy_stored lawful equal h.elements items
             (equal_items_are_copy lawful equal items h.elements copies)
-            (All-from_recursion (λ i. IsKnownRange order i.key) h.elements h.read.known)
+            (All-from_recursion (λ i. IsKeyRange order i.key) h.elements h.read.known)
             stored in
             rw (h.kept form) (same_copies items h.elements copies)
 
@@ -215,8 +215,8 @@ module _ {K V : Type 0} (order : KeyOrder K) (shape : K → Data) (reads : Data 
               copy_stored lawful equal (first.earlier ++ y ∷ [])
               (cut.xs ++ cut.x ∷ []) (equal_items_are_copy lawful equal
               (cut.xs ++ cut.x ∷ []) (first.earlier ++ y ∷ []) copies)
-              (All-from_recursion (λ i. IsKnownRange order i.key) (first.earlier ++ y ∷ [])
-              (every_more (λ i. IsKnownRange order i.key) first.earlier y first.fine.known
+              (All-from_recursion (λ i. IsKeyRange order i.key) (first.earlier ++ y ∷ [])
+              (every_more (λ i. IsKeyRange order i.key) first.earlier y first.fine.known
               met.0.1.2)) whole in
               any_none (λ i. MeetNonempty order i.key y.key)
               (λ i. ¬ JoinsOrMeets order same y.key y.value i) first.earlier

@@ -8,7 +8,7 @@ use Rattle.serde_json.specs.Find.{get_member, as_number, as_u64}
 use Rattle.range_keys.specs.Order.{KeyOrder}
 use Rattle.range_algebra.specs.declared.any.AnyRange.{AnyRange}
 use Rattle.range_algebra.specs.Intervals.{Any}
-use Rattle.range_algebra.specs.Range.{IsEmptyRange, IsKnownRange}
+use Rattle.range_algebra.specs.Range.{IsEmptyRange, IsKeyRange}
 use Rattle.range_store.specs.declared.storage.Item.{Item}
 use Rattle.range_runs.specs.Bindings.{BindAlike}
 use Rattle.range_runs.specs.Lookups.{Overlap}
@@ -93,7 +93,7 @@ module _ {K V : Type 0} where
     pub record AreRead (ds : List Data) (items : List (Item (AnyRange K) V)) : Type 0 where
       pub sound : first_fault (element_fault key_reads value_reads) 0 ds ≡ None
       pub read : AllZip (IsElementRead key_is_read value_is_read) ds items
-      pub known : AllByRecursion (λ i. IsKnownRange order i.key) items
+      pub known : AllByRecursion (λ i. IsKeyRange order i.key) items
       pub apart : AreApart order items
 
     -- it has no fault of its own, and its range meets that of an earlier item
@@ -101,7 +101,7 @@ module _ {K V : Type 0} where
     MeetsEarlier i d earlier =
         (element_fault key_reads value_reads i d ≡ None)
         × ((x : Item (AnyRange K) V) × IsElementRead key_is_read value_is_read d x
-        × IsKnownRange order x.key × MeetsOne order x.key earlier)
+        × IsKeyRange order x.key × MeetsOne order x.key earlier)
 
     -- the fault of the first element that has one
     pub record IsFirstFault (ds : List Data) (f : JsonError) : Type 0 where

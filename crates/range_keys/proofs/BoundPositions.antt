@@ -3,7 +3,7 @@ use Rattle.std.proofs.Common.{◌≡◌, refl, Option, Some, None}
 use Rattle.std.specs.declared.ops.Bound.{Bound}
 use Rattle.std.specs.declared.ops.Bound.TheVariants.{Included, Excluded, Unbounded}
 use Rattle.range_keys.specs.Order.{KeyOrder, IsLawful}
-use Rattle.range_keys.specs.Position.{Position, MinusInfinity, Beside, PlusInfinity, Before, At, After, start_position, end_position, at_told}
+use Rattle.range_keys.specs.Position.{Position, MinusInfinity, Beside, PlusInfinity, Before, At, After, start_position, end_position, at_known}
 use Rattle.range_keys.specs.Touching.{IsOverKeys}
 
 module _ {K : Type 0} (order : KeyOrder K) where
@@ -25,12 +25,12 @@ module _ {K : Type 0} (order : KeyOrder K) where
 
   module _ (lawful : IsLawful order) where
     pub excluded_start_is_one : (a : K) (o : Option K) → order.succ a ≡ o → order.is_key a
-        → IsStart (at_told o (Beside a After))
+        → IsStart (at_known o (Beside a After))
     unfolding IsStart
     excluded_start_is_one a None e key = (key, e)
     excluded_start_is_one a (Some b) e key = (lawful.succ_key a b e).1
 
-    least_start_is_one : (o : Option K) → order.least ≡ o → IsStart (at_told o MinusInfinity)
+    least_start_is_one : (o : Option K) → order.least ≡ o → IsStart (at_known o MinusInfinity)
     unfolding IsStart
     least_start_is_one None e = e
     least_start_is_one (Some m) e = lawful.least_key m e
@@ -42,12 +42,12 @@ module _ {K : Type 0} (order : KeyOrder K) where
     starts_lie_at_starts Unbounded key = least_start_is_one order.least refl
 
     excluded_end_is_one : (b : K) (o : Option K) → order.pred b ≡ o → order.is_key b
-        → IsEnd (at_told o (Beside b Before))
+        → IsEnd (at_known o (Beside b Before))
     unfolding IsEnd
     excluded_end_is_one b None e key = (key, e)
     excluded_end_is_one b (Some a) e key = (lawful.pred_key a b e).0
 
-    greatest_end_is_one : (o : Option K) → order.greatest ≡ o → IsEnd (at_told o PlusInfinity)
+    greatest_end_is_one : (o : Option K) → order.greatest ≡ o → IsEnd (at_known o PlusInfinity)
     unfolding IsEnd
     greatest_end_is_one None e = e
     greatest_end_is_one (Some m) e = lawful.greatest_key m e

@@ -9,7 +9,7 @@ use Rattle.std.specs.Ordering.{is_eq, is_gt, ordering_then, ordering_reverse}
 use Rattle.std.proofs.Common.{sym, ap, subst, ◌∙◌, inl, inr}
 use Rattle.range_keys.specs.Order.{KeyOrder, IsLawful, Tells, SameAnswer}
 use Rattle.range_keys.specs.PositionOrder.{position_total}
-use Rattle.range_keys.specs.Position.{start_position, end_position, position_cmp, side_cmp, at_told}
+use Rattle.range_keys.specs.Position.{start_position, end_position, position_cmp, side_cmp, at_known}
 use Rattle.range_keys.specs.Directed.{directed_value, directed_position, are_adjacent, tells, ordering_to}
 use Rattle.range_keys.specs.Touching.{IsOverKeys, LiesBelow, SomeBoundBetween, FlagsTellGaps}
 use Rattle.range_keys.specs.declared.inner.position.Side.{Side}
@@ -118,20 +118,20 @@ module _ {K : Type 0} (order : KeyOrder K) (lawful : IsLawful order) where
   has_next y b c e g n = has_next_by y b c (order.succ y) refl (lawful.pred_succ y b e) g n
 
   start_place : (a : K) → order.is_key a → (o : Option K) → order.succ a ≡ o
-      → IsPlace order (at_told o (Beside a After))
+      → IsPlace order (at_known o (Beside a After))
   start_place a p None e = (p, e)
   start_place a p (Some b) e = (lawful.succ_key a b e).1
 
   end_place : (a : K) → order.is_key a → (o : Option K) → order.pred a ≡ o
-      → IsPlace order (at_told o (Beside a Before))
+      → IsPlace order (at_known o (Beside a Before))
   end_place a p None e = (p, e)
   end_place a p (Some b) e = (lawful.pred_key b a e).0
 
-  least_place : (o : Option K) → order.least ≡ o → IsPlace order (at_told o MinusInfinity)
+  least_place : (o : Option K) → order.least ≡ o → IsPlace order (at_known o MinusInfinity)
   least_place None e = e
   least_place (Some m) e = lawful.least_key m e
 
-  greatest_place : (o : Option K) → order.greatest ≡ o → IsPlace order (at_told o PlusInfinity)
+  greatest_place : (o : Option K) → order.greatest ≡ o → IsPlace order (at_known o PlusInfinity)
   greatest_place None e = e
   greatest_place (Some m) e = lawful.greatest_key m e
 
@@ -381,11 +381,11 @@ module _ {K : Type 0} (order : KeyOrder K) (lawful : IsLawful order) where
   bound_at : (r : Position K) → IsPlace order r
       → (d : Directed (Bound K)) × IsOverKeys order (directed_value d)
       × (directed_position order d ≡ r)
-  bound_at MinusInfinity p = (Start Unbounded, tt, ap (λ o. at_told o MinusInfinity) p)
-  bound_at (Beside a Before) p = (End (Excluded a), p.0, ap (λ o. at_told o (Beside a Before)) p.1)
+  bound_at MinusInfinity p = (Start Unbounded, tt, ap (λ o. at_known o MinusInfinity) p)
+  bound_at (Beside a Before) p = (End (Excluded a), p.0, ap (λ o. at_known o (Beside a Before)) p.1)
   bound_at (Beside a At) p = (Start (Included a), p, refl)
-  bound_at (Beside a After) p = (Start (Excluded a), p.0, ap (λ o. at_told o (Beside a After)) p.1)
-  bound_at PlusInfinity p = (End Unbounded, tt, ap (λ o. at_told o PlusInfinity) p)
+  bound_at (Beside a After) p = (Start (Excluded a), p.0, ap (λ o. at_known o (Beside a After)) p.1)
+  bound_at PlusInfinity p = (End Unbounded, tt, ap (λ o. at_known o PlusInfinity) p)
 
   in_gap : (low high : Position K) → Gap low high → SomeBoundBetween order low high
   in_gap low high g =
@@ -405,19 +405,19 @@ module _ {K : Type 0} (order : KeyOrder K) (lawful : IsLawful order) where
       (directed_position_is_place d.0 d.1) d.2 d.3
   tells_gap low high p q w l false f = in_gap low high (not_adjacent_is_gap low high p q w l f)
 
-  told_of_start : (a : K) (o : Option K) → IsOfStart (at_told o (Beside a After))
+  told_of_start : (a : K) (o : Option K) → IsOfStart (at_known o (Beside a After))
   told_of_start a None = tt
   told_of_start a (Some b) = tt
 
-  told_of_end : (a : K) (o : Option K) → IsOfEnd (at_told o (Beside a Before))
+  told_of_end : (a : K) (o : Option K) → IsOfEnd (at_known o (Beside a Before))
   told_of_end a None = tt
   told_of_end a (Some b) = tt
 
-  least_of_start : (o : Option K) → IsOfStart (at_told o MinusInfinity)
+  least_of_start : (o : Option K) → IsOfStart (at_known o MinusInfinity)
   least_of_start None = tt
   least_of_start (Some b) = tt
 
-  greatest_of_end : (o : Option K) → IsOfEnd (at_told o PlusInfinity)
+  greatest_of_end : (o : Option K) → IsOfEnd (at_known o PlusInfinity)
   greatest_of_end None = tt
   greatest_of_end (Some b) = tt
 

@@ -9,7 +9,7 @@ use Rattle.std.proofs.lemmas.Bool.Decides.{nat_tests}
 use Rattle.range_keys.specs.Order.{KeyOrder}
 use Rattle.range_keys.specs.Counted.{IsCounted}
 
--- the keys stand at the places below the size, one at each
+-- the keys stand at the indices below the size, one at each
 pub record IsIndexed {K : Type 0} (index : K → ℕ) (key_at : ℕ → K) (size : ℕ) : Type 0 where
   pub key_at_index : (k : K) → key_at (index k) ≡ k
   pub index_key_at : (n : ℕ) → n < size → index (key_at n) ≡ n
@@ -99,12 +99,12 @@ module _ {K : Type 0} {index : K → ℕ} {key_at : ℕ → K} {size : ℕ}
     is_pred = is_pred;
     first = key_at 0;
     first_key = let at = indexed.index_key_at 0 indexed.some_key in rw at indexed.some_key;
-    first_told = refl;
+    least_known = refl;
     first_index = indexed.index_key_at 0 indexed.some_key;
     last = key_at (size - 1);
     last_key = let some = indexed.some_key in let h : size - 1 < size =
         omega arith in rw (indexed.index_key_at (size - 1) h) h;
-    last_told = refl;
+    greatest_known = refl;
     last_index = let some = indexed.some_key in let h : size - 1 < size = omega arith in let at =
         indexed.index_key_at (size - 1) h in omega arith;
   }

@@ -1,4 +1,4 @@
--- Where a bound lies in the order of the keys, and the order of such places.
+-- Where a bound lies in the order of the keys, and the order of such positions.
 use Rattle.std.specs.Prelude.{ℕ, Option, Some, None}
 use Rattle.std.specs.declared.cmp.Ordering.{Ordering}
 use Rattle.std.specs.declared.cmp.Ordering.TheVariants.{Less, Equal, Greater}
@@ -49,18 +49,18 @@ position_cmp cmp PlusInfinity MinusInfinity = Greater
 position_cmp cmp PlusInfinity (Beside b t) = Greater
 position_cmp cmp PlusInfinity PlusInfinity = Equal
 
--- at the key that is told, and otherwise at the other place
-abbrev pub at_told : {K : Type 0} → Option K → Position K → Position K
-at_told (Some b) otherwise = Beside b At
-at_told None otherwise = otherwise
+-- at the key that is known, and otherwise at the other position
+abbrev pub at_known : {K : Type 0} → Option K → Position K → Position K
+at_known (Some b) otherwise = Beside b At
+at_known None otherwise = otherwise
 
 module _ {K : Type 0} (order : KeyOrder K) where
   abbrev pub start_position : Bound K → Position K
   start_position (Included a) = Beside a At
-  start_position (Excluded a) = at_told (order.succ a) (Beside a After)
-  start_position Unbounded = at_told order.least MinusInfinity
+  start_position (Excluded a) = at_known (order.succ a) (Beside a After)
+  start_position Unbounded = at_known order.least MinusInfinity
 
   abbrev pub end_position : Bound K → Position K
   end_position (Included a) = Beside a At
-  end_position (Excluded a) = at_told (order.pred a) (Beside a Before)
-  end_position Unbounded = at_told order.greatest PlusInfinity
+  end_position (Excluded a) = at_known (order.pred a) (Beside a Before)
+  end_position Unbounded = at_known order.greatest PlusInfinity

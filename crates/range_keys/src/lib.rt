@@ -7,8 +7,8 @@
 //!   `specs/Counted.antt`
 //! - custom key types from an index: `specs/Indexed.antt`; an example in
 //!   `tour/specs/Ports.antt`, `tour/src/access/port.rt`
-//! - keys without neighbours and ends: `specs/Untold.antt`; examples in `odd_keys/src/blind.rt`,
-//!   `odd_keys/src/fraction/keys.rt`
+//! - keys without neighbours and ends: `specs/BareOrders.antt`; examples in
+//!   `odd_keys/src/blind.rt`, `odd_keys/src/fraction/keys.rt`
 //! - where a bound lies: `src/inner/position.rt`, `specs/Position.antt`
 //! - facts on orderings, and on where bounds lie: `proofs/{Orderings,BoundPositions}.antt`
 #![tactic(auto)]

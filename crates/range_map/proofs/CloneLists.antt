@@ -1,5 +1,5 @@
 -- A list of clones: equal item by item to its source, and in the same form.
-use Rattle.range_map.proofs.Common.{arith, common_steps, ◌≡◌, sym, ◌∙◌, List, [], ◌∷◌, Bool, true, ◌&&◌, IsTrue, All, AllZip, Every, Equal, is_eq, eq_by_cmp, Equal-is, Ordering, IsEquivalence, alike_right, tied_back, and_from, and_parts, KeyOrder, IsLawful, start_position, end_position, position_cmp, position_total, Position, Bound, IsBoundClone, range_clone, IsKnownRange, IsEmptyRange, range_cmp, range_total, AnyRange, Item, IsCopyOf, LiesBefore, Touches, IsStored, both_equal, eq_is_equal, before_is, nonempty_good, touches_is, IsListed, stored_list_is_listed, stored_by, eq_le, eq_ge, le_trans, recursion_from_All}
+use Rattle.range_map.proofs.Common.{arith, common_steps, ◌≡◌, sym, ◌∙◌, List, [], ◌∷◌, Bool, true, ◌&&◌, IsTrue, All, AllZip, Every, Equal, is_eq, eq_by_cmp, Equal-is, Ordering, IsEquivalence, alike_right, tied_back, and_from, and_parts, KeyOrder, IsLawful, start_position, end_position, position_cmp, position_total, Position, Bound, IsBoundClone, range_clone, IsKeyRange, IsEmptyRange, range_cmp, range_total, AnyRange, Item, IsCopyOf, LiesBefore, Touches, IsStored, both_equal, eq_is_equal, before_is, nonempty_good, touches_is, IsListed, stored_list_is_listed, stored_by, eq_le, eq_ge, le_trans, recursion_from_All}
 use Rattle.range_algebra.specs.Clones.{IsBoundInfallible}
 use Rattle.range_runs.specs.Clones.{ClonesNeverFail}
 use Rattle.range_runs.proofs.Extents.{past_le}
@@ -49,8 +49,8 @@ module _ {K : Type 0} {order : KeyOrder K} (lawful : IsLawful order) where
       (start_position order s.start) (start_position order s'.start) (ends_same r r' e)
       (starts_same s s' f) ∙ h
 
-  same_touches : (r s r' s' : AnyRange K) → IsKnownRange order r → IsKnownRange order s
-      → IsKnownRange order r' → IsKnownRange order s' → (IsEmptyRange order s → ⊥)
+  same_touches : (r s r' s' : AnyRange K) → IsKeyRange order r → IsKeyRange order s
+      → IsKeyRange order r' → IsKeyRange order s' → (IsEmptyRange order s → ⊥)
       → (IsEmptyRange order s' → ⊥) → LiesBefore order r s → LiesBefore order r' s'
       → range_cmp order r r' ≡ Equal → range_cmp order s s' ≡ Equal → Touches order r s
       → Touches order r' s'
@@ -76,8 +76,8 @@ module _ {K : Type 0} {order : KeyOrder K} (lawful : IsLawful order) where
     copy_full i j e full h = full (same_empty i.key j.key e h)
 
     copy_listed : (copy items : List (Item (AnyRange K) V)) → IsCopyOf order same copy items
-        → Every (λ i. IsKnownRange order i.key) copy
-        → Every (λ i. IsKnownRange order i.key) items
+        → Every (λ i. IsKeyRange order i.key) copy
+        → Every (λ i. IsKeyRange order i.key) items
         → Every (λ i. ¬ IsEmptyRange order i.key) items
         → IsListed order lawful same items → IsListed order lawful same copy
     copy_listed [] items zip known known' full h = tt
@@ -99,11 +99,11 @@ module _ {K : Type 0} {order : KeyOrder K} (lawful : IsLawful order) where
     copy_listed copy items zip known known' full h = absurd zip
 
     pub copy_stored : (copy items : List (Item (AnyRange K) V)) → IsCopyOf order same copy items
-        → All (λ i. IsKnownRange order i.key) copy → IsStored order same items
+        → All (λ i. IsKeyRange order i.key) copy → IsStored order same items
         → IsStored order same copy
     copy_stored copy items zip known h =
         stored_by order lawful same copy (copy_listed copy items zip
-        (recursion_from_All (λ i. IsKnownRange order i.key) copy known) h.known h.nonempty
+        (recursion_from_All (λ i. IsKeyRange order i.key) copy known) h.known h.nonempty
         (stored_list_is_listed order lawful same items h))
 
     pub equal_items_are_copy : (items copy : List (Item (AnyRange K) V))

@@ -27,18 +27,18 @@ pub use Rattle.range_algebra.proofs.Completeness.{nonempty_holds}
 pub use Rattle.range_algebra.proofs.Holding.{empty_is_keyless, holds_by_position}
 pub use Rattle.range_algebra.proofs.Lists.{any_left, any_none, any_right, every_append, every_left, every_right, every_weaker}
 pub use Rattle.range_algebra.proofs.Meeting.{held_or_not, past_is_start}
-pub use Rattle.range_algebra.proofs.Places.{flipped_bound_is_past, flipped_known, held_between, reaching_is_before_past, unbounded_end, unbounded_start}
+pub use Rattle.range_algebra.proofs.Positions.{flipped_bound_is_past, flipped_known, held_between, reaching_is_before_past, unbounded_end, unbounded_start}
 pub use Rattle.range_algebra.specs.Clones.{IsBoundClone, IsRangeClone, SameBound, bound_clone, range_clone, same_end, same_start}
 pub use Rattle.range_algebra.specs.Compared.{flipped, is_before, starts_at_end}
 pub use Rattle.range_algebra.specs.Cuts.{lower, past, upper}
 pub use Rattle.range_algebra.specs.Intervals.{Any, Le, Lt}
-pub use Rattle.range_algebra.specs.Range.{ClonesAreEqual, HoldSame, Holds, IsEmptyRange, IsKeyless, IsKnownBound, IsKnownRange}
+pub use Rattle.range_algebra.specs.Range.{ClonesAreEqual, HoldSame, Holds, IsEmptyRange, IsKeyless, IsBoundOfKey, IsKeyRange}
 pub use Rattle.range_algebra.specs.RangeOrder.{range_cmp, range_total}
 pub use Rattle.range_algebra.specs.References.{range_of}
 pub use Rattle.range_algebra.specs.Relations.{LiesBefore, LiesBetween, Touches}
 pub use Rattle.range_algebra.specs.declared.any.AnyRange.{AnyRange}
-pub use Rattle.range_store.proofs.ListPlaces.{place_at}
-pub use Rattle.range_store.specs.ListPlaces.{IsAt, place_before}
+pub use Rattle.range_store.proofs.ListRanks.{place_at}
+pub use Rattle.range_store.specs.ListRanks.{IsAt, rank_or_len}
 pub use Rattle.range_store.specs.declared.storage.Item.{Item}
 pub use Rattle.range_runs.proofs.Chains.{chain_above, chain_left, strictly_leads}
 pub use Rattle.range_runs.proofs.CoveredPlaces.{on_ok}

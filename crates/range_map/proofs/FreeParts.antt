@@ -1,6 +1,6 @@
 -- What stands free between the items of a stored list is all of its gaps.
 use Rattle.std.proofs.Common.{◌≡◌, refl, sym, ap, Option, Some, Bool, List, [], ◌∷◌, ◌++◌, inl, inr, map, if◌then◌else◌, ◌+◌, ◌≤◌, arith, length, length-append}
-use Rattle.range_map.proofs.Common.{common_steps, append-nil, IsEquivalence, Bound, Unbounded, KeyOrder, IsLawful, AnyRange, any_left, any_right, any_none, every_append, every_weaker, flipped, Any, Every, Holds, IsEmptyRange, IsKnownRange, LiesBefore, Item, full_range, item_ranges, IsHeldOnce, AreGaps, between, free_from, free_ranges, free_piece, pieces_from, LiesIn, Overlap, ArePieces, AreGapsWithin, IsStored, not_both_greater_and_not, every_nonempty, every_with, stored_list_is_listed, start_position, end_position, position_cmp, Le, held_between, unbounded_start, stored_known, any_with, AreOverlapping, le_trans, lt_not_le}
+use Rattle.range_map.proofs.Common.{common_steps, append-nil, IsEquivalence, Bound, Unbounded, KeyOrder, IsLawful, AnyRange, any_left, any_right, any_none, every_append, every_weaker, flipped, Any, Every, Holds, IsEmptyRange, IsKeyRange, LiesBefore, Item, full_range, item_ranges, IsHeldOnce, AreGaps, between, free_from, free_ranges, free_piece, pieces_from, LiesIn, Overlap, ArePieces, AreGapsWithin, IsStored, not_both_greater_and_not, every_nonempty, every_with, stored_list_is_listed, start_position, end_position, position_cmp, Le, held_between, unbounded_start, stored_known, any_with, AreOverlapping, le_trans, lt_not_le}
 use Rattle.range_bulk.proofs.BoundKeys.{bound_or_not, bound_ranges, shared_key_is_overlap}
 use Rattle.range_map.proofs.BindingAll.{point_is_free, within_nonempty}
 use Rattle.range_runs.proofs.RunItems.{ends_full}
@@ -69,10 +69,10 @@ module _ {K : Type 0} {order : KeyOrder K} (lawful : IsLawful order) {V : Type 0
   abbrev Gaps : List (AnyRange K)
   Gaps = free_from order (Some Unbounded) items
 
-  lies_within : (r : AnyRange K) → IsKnownRange order r → LiesIn order r full_range
+  lies_within : (r : AnyRange K) → IsKeyRange order r → LiesIn order r full_range
   lies_within r known = grind (arith, common_steps, unbounded_start, ends_full)
 
-  all_known : Every (λ i. IsKnownRange order i.key) items
+  all_known : Every (λ i. IsKeyRange order i.key) items
   all_known = stored_known order lawful same equal items stored
 
   nonempty : Every (λ i. Le (position_cmp order.cmp) (start_position order i.key.start)
@@ -93,7 +93,7 @@ module _ {K : Type 0} {order : KeyOrder K} (lawful : IsLawful order) {V : Type 0
     above = tt;
   }
 
-  none_in_empty : (xs : List (Item (AnyRange K) V)) → Every (λ i. IsKnownRange order i.key) xs
+  none_in_empty : (xs : List (Item (AnyRange K) V)) → Every (λ i. IsKeyRange order i.key) xs
       → Every (λ i. Le (position_cmp order.cmp) (start_position order i.key.start)
       (end_position order i.key.end)) xs → IsEmptyRange order full_range → xs ≡ []
   none_in_empty list known own empty =

@@ -1,6 +1,6 @@
 -- The free pieces of a range alone.
 use Rattle.std.proofs.Common.{◌≡◌, refl, List, [], ◌∷◌, Option, None, Bool}
-use Rattle.range_map.proofs.Common.{arith, common_steps, IsEquivalence, Equal, KeyOrder, IsLawful, AnyRange, Any, Every, IsKnownRange, IsEmptyRange, range_cmp, LiesBefore, any_left, any_right, every_append, every_weaker, Item, free_ranges, AreGapsWithin, IsPiece, IsFreePart, ArePieces, IsStored, greater_or_not, any_over, AreOverlapping, pieces_of}
+use Rattle.range_map.proofs.Common.{arith, common_steps, IsEquivalence, Equal, KeyOrder, IsLawful, AnyRange, Any, Every, IsKeyRange, IsEmptyRange, range_cmp, LiesBefore, any_left, any_right, every_append, every_weaker, Item, free_ranges, AreGapsWithin, IsPiece, IsFreePart, ArePieces, IsStored, greater_or_not, any_over, AreOverlapping, pieces_of}
 use Rattle.range_runs.specs.Neighbours.{EachNext}
 use Rattle.range_runs.proofs.PieceLists.{IsOver, pieces_are, free_shows}
 use Rattle.range_map.proofs.BindingAll.{no_pieces, no_free_part}
@@ -70,7 +70,7 @@ module _ {K : Type 0} {order : KeyOrder K} (lawful : IsLawful order) {V : Type 0
 module _ {K : Type 0} {order : KeyOrder K} (lawful : IsLawful order) {V : Type 0}
     {same : V → V → Bool} (equal : IsEquivalence same) (items : List (Item (AnyRange K) V))
     (r : AnyRange K) (met : List (Item (AnyRange K) V)) (stored : IsStored order same items)
-    (known : IsKnownRange order r)
+    (known : IsKeyRange order r)
     (are : (IsEmptyRange order r → ⊥) → AreOverlapping order items r met)
     (none : IsEmptyRange order r → met ≡ []) where
   abbrev All : List (Item (AnyRange K) (Option V))

@@ -1,6 +1,6 @@
 -- Two lists of ranges, by the keys that they bind: where they share none, and where the one binds
 -- all of the other.
-use Rattle.range_map.proofs.Common.{arith, common_steps, ◌≡◌, refl, inl, inr, Bool, true, Some, List, [], ◌∷◌, Bound, Included, Excluded, Unbounded, Ordering, IsEquivalence, KeyOrder, IsLawful, IsComplete, start_position, end_position, position_cmp, Position, Beside, At, flipped, lower, upper, past, Le, Lt, Any, Holds, IsKnownRange, IsKnownBound, AnyRange, Item, IsBound, line_of, LiesIn, IsStored, past_is_start, held_between, flipped_bound_is_past, reaching_is_before_past, flipped_known, unbounded_end, MeetNowhere, LieInside, ShareNoKey, BindKeysOf, chain_above, lies_in, Known, Chained, nonempty_good, stored_chain, stored_known, binding_meets, meeting_binds, le_refl, lt_le, eq_le, eq_ge, le_trans, lt_not_le, lt_trans, cases, le_lt_trans, lt_le_trans, not_le, nonempty_holds}
+use Rattle.range_map.proofs.Common.{arith, common_steps, ◌≡◌, refl, inl, inr, Bool, true, Some, List, [], ◌∷◌, Bound, Included, Excluded, Unbounded, Ordering, IsEquivalence, KeyOrder, IsLawful, IsComplete, start_position, end_position, position_cmp, Position, Beside, At, flipped, lower, upper, past, Le, Lt, Any, Holds, IsKeyRange, IsBoundOfKey, AnyRange, Item, IsBound, line_of, LiesIn, IsStored, past_is_start, held_between, flipped_bound_is_past, reaching_is_before_past, flipped_known, unbounded_end, MeetNowhere, LieInside, ShareNoKey, BindKeysOf, chain_above, lies_in, Known, Chained, nonempty_good, stored_chain, stored_known, binding_meets, meeting_binds, le_refl, lt_le, eq_le, eq_ge, le_trans, lt_not_le, lt_trans, cases, le_lt_trans, lt_le_trans, not_le, nonempty_holds}
 use Rattle.range_keys.proofs.BoundPositions.{starts_lie_at_starts, ends_lie_at_ends}
 use Rattle.range_algebra.proofs.Canonical.{NotPast, IsBefore, KeyFrom, key_from}
 use Rattle.range_merge.proofs.HeldInside.{inside_holds}
@@ -45,7 +45,7 @@ module _ {K : Type 0} {order : KeyOrder K} (lawful : IsLawful order) where
     HasKeyIn r p = (k : K) × order.is_key k × Holds order r k × Le cmp p (Beside k At)
 
     -- a key of the range from a place on, where the place lies before its end
-    from_bound : (r : AnyRange K) (b : Bound K) → IsKnownRange order r → IsKnownBound order b
+    from_bound : (r : AnyRange K) (b : Bound K) → IsKeyRange order r → IsBoundOfKey order b
         → Le cmp (Lo r) (start_position order b) → Lt cmp (start_position order b) (Hi r)
         → HasKeyIn r (start_position order b)
     from_bound r b known known_b from upto =
@@ -57,8 +57,8 @@ module _ {K : Type 0} {order : KeyOrder K} (lawful : IsLawful order) where
         (held_between order lawful part found.0 (known_b, known.1) found.1).0 found.2 in
         grind (arith, common_steps, held_between, le_trans)
 
-    end_is_flipped : (r : AnyRange K) (e b : Bound K) → flipped e ≡ Some b → IsKnownRange order r
-        → IsKnownBound order e → Le cmp (Lo r) (past order (end_position order e))
+    end_is_flipped : (r : AnyRange K) (e b : Bound K) → flipped e ≡ Some b → IsKeyRange order r
+        → IsBoundOfKey order e → Le cmp (Lo r) (past order (end_position order e))
         → Lt cmp (past order (end_position order e)) (Hi r)
         → HasKeyIn r (past order (end_position order e))
     end_is_flipped r e b turns known known_e from upto =
@@ -73,7 +73,7 @@ module _ {K : Type 0} {order : KeyOrder K} (lawful : IsLawful order) where
           le_trans lawful _ _ _ (eq_le lawful _ _ at) found.3,
         )
 
-    past_end : (r : AnyRange K) (e : Bound K) → IsKnownRange order r → IsKnownBound order e
+    past_end : (r : AnyRange K) (e : Bound K) → IsKeyRange order r → IsBoundOfKey order e
         → Le cmp (Lo r) (past order (end_position order e))
         → Lt cmp (past order (end_position order e)) (Hi r)
         → HasKeyIn r (past order (end_position order e))
@@ -85,7 +85,7 @@ module _ {K : Type 0} {order : KeyOrder K} (lawful : IsLawful order) where
         end_is_flipped r (Excluded a) (Included a) refl known known_e from upto
 
     -- a key of the range before the start of another that starts within it
-    module _ {V : Type 0} (i : Item (AnyRange K) V) (known : IsKnownRange order i.key)
+    module _ {V : Type 0} (i : Item (AnyRange K) V) (known : IsKeyRange order i.key)
         (full : Lt cmp (Lo i.key) (Hi i.key)) where
       -- some key of the range lies from the place on and before the start
       before_start : (p : Position K) (b : Bound K)
@@ -128,7 +128,7 @@ module _ {K : Type 0} {order : KeyOrder K} (lawful : IsLawful order) where
             (grind (arith, common_steps, key_from, starts_lie_at_starts)) (le_refl lawful _)
 
         not_by_first : (y : Item (AnyRange K) W) (ys : List (Item (AnyRange K) W)) (k : K)
-            → IsKnownRange order y.key → order.is_key k → Le cmp (Hi y.key) (Beside k At)
+            → IsKeyRange order y.key → order.is_key k → Le cmp (Hi y.key) (Beside k At)
             → IsBound order (y ∷ ys) k → IsBound order ys k
         not_by_first y ys k known_y key over (inl held) =
             absurd (lt_not_le lawful _ _

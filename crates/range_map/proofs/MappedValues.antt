@@ -1,6 +1,6 @@
 -- Answers to the values of a list, put one after the other.
 use Rattle.std.proofs.Common.{◌≡◌, sym, ◌∙◌, ◌↔◌, inl, inr, Bool, Option, None, Result, Ok, List, [], ◌∷◌, ◌++◌, append_assoc}
-use Rattle.range_map.proofs.Common.{append-nil, arith, common_steps, Shared, FnReturnsAt, AllZip, IsEquivalence, Equal, Bor, KeyOrder, IsLawful, position_cmp, Position, IsRangeClone, bound_clone, range_clone, same_start, Any, Every, Holds, HoldSame, IsKnownRange, AnyRange, Item, Binds, IsBound, IsSomeOf, IsStored, item_lower, item_upper, equal_is_same, nonempty_good, binds_bound, appended, eq_le, eq_ge, le_trans, lt_le_trans, le_lt_trans}
+use Rattle.range_map.proofs.Common.{append-nil, arith, common_steps, Shared, FnReturnsAt, AllZip, IsEquivalence, Equal, Bor, KeyOrder, IsLawful, position_cmp, Position, IsRangeClone, bound_clone, range_clone, same_start, Any, Every, Holds, HoldSame, IsKeyRange, AnyRange, Item, Binds, IsBound, IsSomeOf, IsStored, item_lower, item_upper, equal_is_same, nonempty_good, binds_bound, appended, eq_le, eq_ge, le_trans, lt_le_trans, le_lt_trans}
 use Rattle.range_runs.proofs.CutParts.{same_past}
 use Rattle.range_map.specs.MappedValues.{AnswersItem, AreAnswered, AreMapped, IsAnsweredEach, IsMappedAt}
 use Rattle.range_bulk.proofs.JoinedItems.{IsBuilt, RisesFrom, built_more, first_alone, stored_rises}
@@ -69,7 +69,7 @@ module _ {K : Type 0} (order : KeyOrder K) {F V W E : Type 0}
     pub mapped_more : (i : Item (AnyRange K) V) (left : List (Item (AnyRange K) V))
         (built : List (Item (AnyRange K) W)) (j : Item (AnyRange K) W) (is_clone : K → K → Type 0)
         → ((a b : K) → is_clone a b → order.cmp a b ≡ Equal)
-        → IsRangeClone is_clone i.key j.key → IsKnownRange order j.key
+        → IsRangeClone is_clone i.key j.key → IsKeyRange order j.key
         → FnReturnsAt calls f i.value (Ok j.value) → IsMappedUpTo (i ∷ left) built
         → IsMappedUpTo left (appended order same built (j ∷ []))
     mapped_more i left built j is_clone keys clone known given was =

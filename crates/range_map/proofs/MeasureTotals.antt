@@ -2,7 +2,7 @@
 use Rattle.std.proofs.Common.{◌≡◌, ℕ, ◌+◌, ◌<◌, ◌^◌, ◌⊎◌, ◌↔◌, refl, sym, ap, ◌∙◌, arith, Option, Some, None, Bool, List, [], ◌∷◌, ◌++◌, append_assoc}
 use Rattle.range_map.proofs.Common.{common_steps, IsNone, IsSome, IsSomeAnd, Bound, Unbounded, KeyOrder, IsLawful, IsMeasure, AnyRange, Any, Holds, IsEmptyRange, Item, IsBound, item_ranges, IsStored, IsListed, stored_list_is_listed}
 use Rattle.range_keys.specs.Counted.{IsCountedMeasure}
-use Rattle.range_algebra.specs.Measures.{HasUntoldEnd, told_bound, measure_between, measure_sum, range_measure, list_measure, AreInOrder}
+use Rattle.range_algebra.specs.Measures.{HasUnknownEnd, closed_by, measure_between, measure_sum, range_measure, list_measure, AreInOrder}
 use Rattle.range_algebra.specs.Numbers.{IsNumberOfKeys}
 use Rattle.range_algebra.proofs.MeasureSums.{list_measure_fits, list_measure_is_number, first_known, rest_in_order}
 use Rattle.range_algebra.proofs.Measuring.{full_measure}
@@ -26,7 +26,7 @@ module _ {K : Type 0} (len : K → ℕ) (distance : K → K → ℕ) where
       ↔ ((s ≡ Unbounded) ⊎ (e ≡ Unbounded))
   none_between s e = grind (arith, common_steps)
 
-unbounded_told : {K : Type 0} (o : Option K) (b : Bound K) → (told_bound o b ≡ Unbounded)
+unbounded_told : {K : Type 0} (o : Option K) (b : Bound K) → (closed_by o b ≡ Unbounded)
     ↔ ((b ≡ Unbounded) × (o ≡ None))
 unbounded_told o b = grind (arith, common_steps)
 
@@ -76,23 +76,23 @@ module _ {K : Type 0} {order : KeyOrder K} {len : K → ℕ} {distance : K → K
 
 module _ {K V : Type 0} (order : KeyOrder K) {m n : K} (least : order.least ≡ Some m)
     (greatest : order.greatest ≡ Some n) where
-  none_untold : (items : List (Item (AnyRange K) V)) → Any (λ i. HasUntoldEnd order i.key) items → ⊥
+  none_untold : (items : List (Item (AnyRange K) V)) → Any (λ i. HasUnknownEnd order i.key) items → ⊥
   none_untold [] h = h
   none_untold (i ∷ rest) either = grind (arith, common_steps, none_untold rest)
 
   -- where both ends are told, each list has a measure
   pub told_some : (items : List (Item (AnyRange K) V)) (o : Option ℕ)
-      → (IsNone o → Any (λ i. HasUntoldEnd order i.key) items) → IsSome o
+      → (IsNone o → Any (λ i. HasUnknownEnd order i.key) items) → IsSome o
   told_some items option h = grind (arith, common_steps, none_untold)
 
 module _ {K : Type 0} {order : KeyOrder K} (lawful : IsLawful order) (len : K → ℕ)
     (distance : K → K → ℕ) where
   untold_range : (r : AnyRange K) → ¬ IsEmptyRange order r
-      → IsNone (range_measure order len distance r) ↔ HasUntoldEnd order r
+      → IsNone (range_measure order len distance r) ↔ HasUnknownEnd order r
   untold_range r full =
       let bounds =
-      none_between len distance (told_bound order.least r.start)
-      (told_bound order.greatest r.end) in
+      none_between len distance (closed_by order.least r.start)
+      (closed_by order.greatest r.end) in
       let ends =
       either_iff (unbounded_told order.least r.start) (unbounded_told order.greatest r.end) in
       rw (full_measure order lawful len distance r full)
@@ -102,7 +102,7 @@ module _ {K : Type 0} {order : KeyOrder K} (lawful : IsLawful order) (len : K �
     -- a list measures nothing where one of its ranges has an untold end
     pub untold_list : (items : List (Item (AnyRange K) V)) → AreInOrder order (item_ranges items)
         → IsNone (list_measure order len distance (item_ranges items))
-        ↔ Any (λ i. HasUntoldEnd order i.key) items
+        ↔ Any (λ i. HasUnknownEnd order i.key) items
     untold_list [] h = (λ e. absurd (cc), λ e. absurd e)
     untold_list (i ∷ rest) h =
         let either =

@@ -1,6 +1,6 @@
 -- Lists of the map's form are coarse over complete keys, and equal exactly where they bind every
 -- key alike.
-use Rattle.range_map.proofs.Common.{arith, common_steps, ◌≡◌, refl, sym, ap, ◌∙◌, List, [], ◌∷◌, length, ◌↔◌, Bool, IsTrue, Some, Ordering, Equal, is_eq, eq_by_cmp, IsEquivalence, IsTotalOrder, Equal-is, alike_right, first_so, second_so, KeyOrder, IsLawful, IsComplete, Holds, IsKnownRange, IsEmptyRange, IsKeyless, AnyRange, Every, and_from, Item, IsBound, BindsTo, BindAlike, IsCoarse, AreAlike, IsOnlyCoarse, IsLeastCount, IsStored, IsCanonical, same_list, list_cmp, lists_tied, lists_order, empty_is_keyless, same_is_equal, equal_is_same, binds_bound, nonempty_holds}
+use Rattle.range_map.proofs.Common.{arith, common_steps, ◌≡◌, refl, sym, ap, ◌∙◌, List, [], ◌∷◌, length, ◌↔◌, Bool, IsTrue, Some, Ordering, Equal, is_eq, eq_by_cmp, IsEquivalence, IsTotalOrder, Equal-is, alike_right, first_so, second_so, KeyOrder, IsLawful, IsComplete, Holds, IsKeyRange, IsEmptyRange, IsKeyless, AnyRange, Every, and_from, Item, IsBound, BindsTo, BindAlike, IsCoarse, AreAlike, IsOnlyCoarse, IsLeastCount, IsStored, IsCanonical, same_list, list_cmp, lists_tied, lists_order, empty_is_keyless, same_is_equal, equal_is_same, binds_bound, nonempty_holds}
 use Rattle.range_algebra.proofs.Meeting.{not_greater}
 use Rattle.range_bulk.proofs.BoundKeys.{bound_value, bound_to_equal, bound_by, binds_by}
 use Rattle.range_map.proofs.Coarse.{coarse_alike, coarse_shortest}
@@ -164,14 +164,14 @@ module _ {K : Type 0} {order : KeyOrder K} (lawful : IsLawful order) (complete :
   keyed_full : (r : AnyRange K) → ¬ IsKeyless order r → ¬ IsEmptyRange order r
   keyed_full r keyed empty = keyed (empty_is_keyless order lawful r empty)
 
-  keyed_range_has_key : (r : AnyRange K) → IsKnownRange order r → ¬ IsKeyless order r
+  keyed_range_has_key : (r : AnyRange K) → IsKeyRange order r → ¬ IsKeyless order r
       → (k : K) × order.is_key k × Holds order r k
   keyed_range_has_key r known keyed =
       nonempty_holds order lawful complete r known (not_greater _ (keyed_full r keyed))
 
   -- over complete keys a coarse list of ranges of keys has the map's form
   pub coarse_stored : (items : List (Item (AnyRange K) V))
-      → Every (λ i. IsKnownRange order i.key) items → IsCoarse order same_value items
+      → Every (λ i. IsKeyRange order i.key) items → IsCoarse order same_value items
       → IsStored order same_value items
   coarse_stored [] known coarse = record { known = known; nonempty = tt; rising = tt }
   coarse_stored (i ∷ []) known coarse =

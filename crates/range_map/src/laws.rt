@@ -2,7 +2,7 @@
 ghost use Rattle.std.specs.Prelude.{List, length, ◌≤◌, ◌↔◌, IsTrue};
 ghost use Rattle.std.specs.List.{AllByRecursion};
 ghost use Rattle.range_keys.specs.Order.{IsComplete};
-ghost use Rattle.range_algebra.specs.Range.{IsKnownRange};
+ghost use Rattle.range_algebra.specs.Range.{IsKeyRange};
 ghost use Rattle.range_algebra.specs.declared.any.AnyRange.{AnyRange};
 ghost use Rattle.range_store.specs.declared.storage.Item.{Item};
 ghost use Rattle.range_runs.specs.Bindings.{BindsTo, IsCoarse, BindAlike, AreAlike, AreDisjoint};
@@ -33,7 +33,7 @@ pub fn stored_lists_are_coarse<K: PartialEnum, V: Eq>()
     ensures coarse { IsComplete K.order → (items : List (Item (AnyRange K) V))
         → IsStored K.order V.eq items → IsCoarse K.order V.eq items }
     ensures stored { IsComplete K.order → (items : List (Item (AnyRange K) V))
-        → AllByRecursion (λ i. IsKnownRange K.order i.key) items → IsCoarse K.order V.eq items
+        → AllByRecursion (λ i. IsKeyRange K.order i.key) items → IsCoarse K.order V.eq items
         → IsStored K.order V.eq items }
     ensures equal { IsComplete K.order → (items others : List (Item (AnyRange K) V))
         → IsStored K.order V.eq items → IsStored K.order V.eq others

@@ -2,7 +2,7 @@
 use Rattle.std.proofs.Common.{◌≡◌, ◌⊎◌, ◌↔◌, inl, inr, List, [], ◌∷◌, ◌++◌, Bool, Option, Some, None, arith}
 use Rattle.range_keys.specs.Order.{KeyOrder, IsLawful}
 use Rattle.range_algebra.specs.declared.any.AnyRange.{AnyRange}
-use Rattle.range_algebra.specs.Range.{Holds, IsEmptyRange, IsKnownRange}
+use Rattle.range_algebra.specs.Range.{Holds, IsEmptyRange, IsKeyRange}
 use Rattle.range_algebra.proofs.Lists.{any_left, any_right, any_split}
 use Rattle.range_algebra.proofs.Pieces.{empty_or_not}
 use Rattle.range_algebra.proofs.Meeting.{held_or_not}
@@ -18,7 +18,7 @@ module _ {K V : Type 0} (order : KeyOrder K) where
   -- an element's range met no stored one, and its keys were bound
   pub record IsPut (same : V → V → Bool) (before after : List (Item (AnyRange K) V))
       (x : Item (AnyRange K) V) : Type 0 where
-    pub known : IsKnownRange order x.key
+    pub known : IsKeyRange order x.key
     pub apart : ¬ ((¬ IsEmptyRange order x.key) × MeetsSome order before x.key)
     pub bound : IsBoundAfter order same before after x.key x.value
     pub meets : (¬ IsEmptyRange order x.key) → MeetAlso order before after x.key
@@ -30,7 +30,7 @@ module _ {K V : Type 0} (order : KeyOrder K) where
   pub record IsBoundAlike (same : V → V → Bool) (items elements : List (Item (AnyRange K) V)) :
       Type 0 where
     pub alike : BindAlike order same items elements
-    pub meets : (s : AnyRange K) → IsKnownRange order s → (¬ IsEmptyRange order s)
+    pub meets : (s : AnyRange K) → IsKeyRange order s → (¬ IsEmptyRange order s)
         → MeetsSome order items s ↔ MeetsOne order s elements
     pub apart : AreApart order elements
 
@@ -97,7 +97,7 @@ module _ {K V : Type 0} (order : KeyOrder K) where
             binds_split order same xs (x ∷ []) k v,
           )
 
-    module _ (s : AnyRange K) (known : IsKnownRange order s) (full : ¬ IsEmptyRange order s) where
+    module _ (s : AnyRange K) (known : IsKeyRange order s) (full : ¬ IsEmptyRange order s) where
       abbrev Meets : Item (AnyRange K) V → Type 0
       Meets i = MeetNonempty order i.key s
 

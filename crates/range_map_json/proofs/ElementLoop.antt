@@ -8,7 +8,7 @@ use Rattle.serde_json.specs.View.{view}
 use Rattle.serde_json.specs.declared.value.Value.{Value}
 use Rattle.range_keys.specs.Order.{KeyOrder, IsLawful}
 use Rattle.range_algebra.specs.declared.any.AnyRange.{AnyRange}
-use Rattle.range_algebra.specs.Range.{IsEmptyRange, IsKnownRange}
+use Rattle.range_algebra.specs.Range.{IsEmptyRange, IsKeyRange}
 use Rattle.range_algebra.proofs.Lists.{every_more, parts_at}
 use Rattle.range_store.specs.declared.storage.Item.{Item}
 use Rattle.range_runs.specs.Frames.{IsInsertionFrame}
@@ -27,7 +27,7 @@ module _ {K V X : Type 0} (order : KeyOrder K) (same : V → V → Bool)
     pub elements : List X
     pub sound : first_fault fault 0 (map view vs) ≡ None
     pub read : AllZip IsRead (map view vs) elements
-    pub known : AllByRecursion (λ x. IsKnownRange order (item x).key) elements
+    pub known : AllByRecursion (λ x. IsKeyRange order (item x).key) elements
     pub bound : AreBound items elements
     pub form : IsStored order same items
     pub kept : IsStored order same (listed elements) → items ≡ listed elements
@@ -73,7 +73,7 @@ module _ {K V X : Type 0} {order : KeyOrder K} {same : V → V → Bool}
     pub one_read : (lawful : IsLawful order) (equal : IsEquivalence same)
         {new : List (Item (AnyRange K) V)} (x : X)
         → listed (so_far.elements ++ x ∷ []) ≡ listed so_far.elements ++ item x ∷ []
-        → fault n (view v) ≡ None → IsRead (view v) x → IsKnownRange order (item x).key
+        → fault n (view v) ≡ None → IsRead (view v) x → IsKeyRange order (item x).key
         → ((¬ IsEmptyRange order (item x).key)
         → IsInsertionFrame order same items new (item x).key (item x).value)
         → IsStored order same new → AreBound new (so_far.elements ++ x ∷ [])
@@ -86,7 +86,7 @@ module _ {K V X : Type 0} {order : KeyOrder K} {same : V → V → Bool}
           elements = so_far.elements ++ x ∷ [];
           sound = rw more (no_fault_more fault done (view v) so_far.sound (rw place own));
           read = rw more (read_more IsRead done so_far.elements (view v) x so_far.read is_read);
-          known = every_more (λ y. IsKnownRange order (item y).key) so_far.elements x so_far.known known;
+          known = every_more (λ y. IsKeyRange order (item y).key) so_far.elements x so_far.known known;
           bound = bound;
           form = form;
           kept = λ stored.

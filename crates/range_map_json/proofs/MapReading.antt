@@ -6,7 +6,7 @@ use Rattle.serde_json.specs.View.{view}
 use Rattle.serde_json.specs.declared.value.Value.{Value}
 use Rattle.range_keys.specs.Order.{KeyOrder}
 use Rattle.range_algebra.specs.declared.any.AnyRange.{AnyRange}
-use Rattle.range_algebra.specs.Range.{IsEmptyRange, IsKnownRange}
+use Rattle.range_algebra.specs.Range.{IsEmptyRange, IsKeyRange}
 use Rattle.range_store.specs.declared.storage.Item.{Item}
 use Rattle.range_runs.specs.Lookups.{MeetsSome}
 use Rattle.range_json.specs.declared.error.JsonError.{JsonError}
@@ -73,7 +73,7 @@ module _ {K V : Type 0} {order : KeyOrder K} (key_reads value_reads : Data → B
 
       pub map_meets : (x : Item (AnyRange K) V)
           → element_fault key_reads value_reads n (view v) ≡ None
-          → IsElementRead key_is_read value_is_read (view v) x → IsKnownRange order x.key
+          → IsElementRead key_is_read value_is_read (view v) x → IsKeyRange order x.key
           → (e ≡ Memory) ⊎
           ((e ≡ Meets n) × (¬ IsEmptyRange order x.key) × MeetsSome order items x.key)
           → IfErr result IsToldOf

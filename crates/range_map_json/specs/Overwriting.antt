@@ -4,7 +4,7 @@ use Rattle.std.specs.List.{AllByRecursion, AllZip}
 use Rattle.serde_json.specs.Data.{Data}
 use Rattle.range_keys.specs.Order.{KeyOrder}
 use Rattle.range_algebra.specs.declared.any.AnyRange.{AnyRange}
-use Rattle.range_algebra.specs.Range.{IsKnownRange}
+use Rattle.range_algebra.specs.Range.{IsKeyRange}
 use Rattle.range_store.specs.declared.storage.Item.{Item}
 use Rattle.range_runs.specs.Stored.{IsStored}
 use Rattle.range_map.specs.Extending.{AreBoundAfter}
@@ -31,6 +31,6 @@ module _ {K V : Type 0} (order : KeyOrder K) (key_is_read : Data → K → Type 
     pub elements : List (Item (AnyRange K) V)
     pub whole : map_elements d ≡ Ok ds
     pub read : AllZip (IsElementRead key_is_read value_is_read) ds elements
-    pub known : AllByRecursion (λ i. IsKnownRange order i.key) elements
+    pub known : AllByRecursion (λ i. IsKeyRange order i.key) elements
     pub bound : AreBoundAfter order same_value [] items elements
     pub kept : IsStored order same_value elements → items ≡ elements

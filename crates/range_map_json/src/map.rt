@@ -1,7 +1,7 @@
 //! Maps as JSON values.
 ghost use Rattle.std.specs.Prelude.{◌≡◌, ◌⊎◌, IfOk, OnOk, IfErr};
 ghost use Rattle.serde_json.specs.View.{view};
-ghost use Rattle.range_algebra.specs.Range.{IsEmptyRange, IsKnownRange};
+ghost use Rattle.range_algebra.specs.Range.{IsEmptyRange, IsKeyRange};
 ghost use Rattle.range_runs.specs.Bindings.{IsBoundAfter};
 ghost use Rattle.range_runs.specs.Canonical.{IsCanonical};
 ghost use Rattle.range_runs.specs.Frames.{IsInsertionFrame};
@@ -27,7 +27,7 @@ fn insert_element<K: Measure, V: Eq + Drop, C: Storage<Item<AnyRange<K>, V>>>(
     item: Item<AnyRange<K>, V>,
     index: usize,
 ) -> Result<(), JsonError>
-    ensures known { IsKnownRange K.order item.key }
+    ensures known { IsKeyRange K.order item.key }
     ensures apart { OnOk result
         (¬ ((¬ IsEmptyRange K.order item.key)
         × MeetsSome K.order (C.items map.old) item.key)) }

@@ -1,7 +1,7 @@
 //! Maps as JSON values of which the last element counts.
 ghost use Rattle.std.specs.Prelude.{◌≡◌, ◌⊎◌, Some, None, IfOk, OnOk, IfErr};
 ghost use Rattle.serde_json.specs.View.{view};
-ghost use Rattle.range_algebra.specs.Range.{ClonesAreEqual, IsEmptyRange, IsKnownRange};
+ghost use Rattle.range_algebra.specs.Range.{ClonesAreEqual, IsEmptyRange, IsKeyRange};
 ghost use Rattle.range_runs.specs.Bindings.{IsBoundAfter};
 ghost use Rattle.range_runs.specs.Canonical.{IsCanonical};
 ghost use Rattle.range_runs.specs.Frames.{IsInsertionFrame};
@@ -25,7 +25,7 @@ fn overwrite_element<K: Measure + Clone, V: Eq + Clone, C: Storage<Item<AnyRange
 ) -> Result<(), MapError>
     requires keys { ClonesAreEqual K.is_clone K.eq }
     requires values { ClonesAreEqual V.is_clone V.eq }
-    ensures known { IsKnownRange K.order item.key }
+    ensures known { IsKeyRange K.order item.key }
     ensures bound { OnOk result
         (IsBoundAfter K.order V.eq (C.items map.old) (C.items map.new) item.key item.value) }
     ensures frame { OnOk result

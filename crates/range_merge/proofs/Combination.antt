@@ -4,7 +4,7 @@ use Rattle.range_merge.proofs.Common.{IsEquivalence, Bound, Equal, KeyOrder, IsL
 use Rattle.range_merge.specs.Combining.{Combined, IsConstantOn, IsSharedPiece, AreCombined, IsCombination, MayAnswerOnBoth}
 use Rattle.range_runs.proofs.PlaceOrder.{le_refl, lt_le, le_trans, lt_le_trans, lt_not_le, lt_trans}
 use Rattle.range_algebra.specs.RangeOrder.{range_cmp}
-use Rattle.range_algebra.proofs.Places.{held_between, unbounded_start, unbounded_end}
+use Rattle.range_algebra.proofs.Positions.{held_between, unbounded_start, unbounded_end}
 use Rattle.range_runs.specs.Put.{IsPut}
 use Rattle.range_merge.specs.Merged.{IsFirstPiece}
 use Rattle.range_runs.specs.Neighbours.{EachNext}

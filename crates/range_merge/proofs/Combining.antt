@@ -1,11 +1,11 @@
 -- One side of a merged pass: what is left of a list, and what a piece takes of that.
 use Rattle.std.proofs.Common.{◌≡◌, refl, ◌⊎◌, inl, inr, ◌+◌, ◌<◌, ◌≤◌, length, arith, Bool, true, Option, Some, None, List, [], ◌∷◌, ◌++◌}
 use Rattle.std.specs.declared.ops.Bound.TheVariants.{Unbounded}
-use Rattle.range_merge.proofs.Common.{option_map, IsEquivalence, KeyOrder, IsLawful, IsKnownRange, position_cmp, Position, Beside, At, lower, upper, Le, Lt, Any, Every, AnyRange, every_weaker, Item, IsBound, IsStored, line_of}
+use Rattle.range_merge.proofs.Common.{option_map, IsEquivalence, KeyOrder, IsLawful, IsKeyRange, position_cmp, Position, Beside, At, lower, upper, Le, Lt, Any, Every, AnyRange, every_weaker, Item, IsBound, IsStored, line_of}
 use Rattle.range_merge.specs.Combining.{IsConstantOn}
 use Rattle.range_runs.proofs.PlaceOrder.{le_refl, lt_le, eq_le, eq_ge, le_trans, lt_not_le, cases, lt_le_trans}
 use Rattle.range_merge.specs.Merged.{IsPlaced, IsCutFrom, IsUsedUp, StartAlike, IsFirstPiece}
-use Rattle.range_algebra.proofs.Places.{unbounded_start}
+use Rattle.range_algebra.proofs.Positions.{unbounded_start}
 use Rattle.range_runs.specs.Window.{option_items}
 use Rattle.range_runs.proofs.Chains.{chain_tail, follows_above}
 use Rattle.range_runs.proofs.CoveredPlaces.{met_range_is_covered, chained_items_have_places}
@@ -131,7 +131,7 @@ module _ {K : Type 0} {order : KeyOrder K} (lawful : IsLawful order) {V : Type 0
   module _ {items : List (Item (AnyRange K) V)} {m : Position K}
       {left : List (Item (AnyRange K) V)} {Done : Position K → Type 0}
       (was : IsSideUpTo order items m left Done) where
-    known : Every (λ i. IsKnownRange order i.key) items
+    known : Every (λ i. IsKeyRange order i.key) items
     known = every_weaker _ _ items (λ i placed. placed.known) was.placed
 
     -- where nothing is left, each key that the list binds is done with

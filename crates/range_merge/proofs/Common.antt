@@ -15,7 +15,7 @@ pub use Rattle.range_algebra.proofs.Lists.{any_left, any_none, any_split, every_
 pub use Rattle.range_algebra.specs.Clones.{IsBoundClone, SameBound}
 pub use Rattle.range_algebra.specs.Cuts.{lower, upper}
 pub use Rattle.range_algebra.specs.Intervals.{Any, Le, Lt}
-pub use Rattle.range_algebra.specs.Range.{Holds, IsKnownRange}
+pub use Rattle.range_algebra.specs.Range.{Holds, IsKeyRange}
 pub use Rattle.range_algebra.specs.References.{range_of}
 pub use Rattle.range_algebra.specs.Relations.{LiesBefore}
 pub use Rattle.range_algebra.specs.declared.any.AnyRange.{AnyRange}

@@ -7,8 +7,8 @@ use Rattle.range_keys.specs.Position.{start_position, end_position}
 use Rattle.range_keys.specs.PositionOrder.{position_total}
 use Rattle.range_algebra.specs.Compared.{flipped, starts_past_end}
 use Rattle.range_algebra.specs.Cuts.{past}
-use Rattle.range_algebra.specs.Range.{IsKnownBound}
-use Rattle.range_algebra.proofs.Places.{reaching_is_before_past, flipped_bound_is_past, flipped_back, flipped_known, unbounded_start, unbounded_end}
+use Rattle.range_algebra.specs.Range.{IsBoundOfKey}
+use Rattle.range_algebra.proofs.Positions.{reaching_is_before_past, flipped_bound_is_past, flipped_back, flipped_known, unbounded_start, unbounded_end}
 use Rattle.range_runs.proofs.Extents.{past_le, end_le}
 use Rattle.range_runs.proofs.PlaceOrder.{eq_le, eq_ge, lt_not_le, lt_le_trans, le_lt_trans, not_le, not_lt, both}
 use Rattle.range_merge.specs.Merged.{IsPlaced, IsPartPast, IsRestOf, StartAlike, IsFirstPiece}
@@ -24,7 +24,7 @@ module _ {K : Type 0} {order : KeyOrder K} (lawful : IsLawful order) where
   itself p = tied_itself (position_total order.cmp lawful.total) p
 
   -- the places past two ends at one place are one place
-  pub past_same : (e f : Bound K) → IsKnownBound order e → IsKnownBound order f
+  pub past_same : (e f : Bound K) → IsBoundOfKey order e → IsBoundOfKey order f
       → cmp (end_position order e) (end_position order f) ≡ Equal → cmp (Past e) (Past f) ≡ Equal
   past_same e f known others same =
       both lawful _ _ (past_le order lawful e f known others (eq_le lawful _ _ same))
@@ -46,7 +46,7 @@ module _ {K : Type 0} {order : KeyOrder K} (lawful : IsLawful order) where
   earlier_has_start r e placed less is = cc
 
   module _ {V : Type 0} (i : Item (AnyRange K) V) (placed : IsPlaced order i.key) where
-    left_from : (p : Position K) (s : Bound K) → IsKnownBound order s
+    left_from : (p : Position K) (s : Bound K) → IsBoundOfKey order s
         → cmp p (start_position order s) ≡ Equal
         → Lt cmp (start_position order s) (upper order i.key)
         → IsPartPast order i p
@@ -54,7 +54,7 @@ module _ {K : Type 0} {order : KeyOrder K} (lawful : IsLawful order) where
     left_from p s known at good = grind (arith, itself)
 
     -- what is left past an end
-    pub is_part_past : (e s : Bound K) → IsKnownBound order e
+    pub is_part_past : (e s : Bound K) → IsBoundOfKey order e
         → Lt cmp (end_position order e) (end_position order i.key.end) → flipped e ≡ Some s
         → IsPartPast order i (Past e)
         (record { key = record { start = s; end = i.key.end }; value = i.value })

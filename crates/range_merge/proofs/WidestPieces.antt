@@ -1,6 +1,6 @@
 -- Where ranges start and end, and that a piece between two such places is as wide as it goes.
 use Rattle.std.proofs.Common.{◌≡◌, refl, sym, ap, ◌∙◌, ◌⊎◌, inl, inr, Option, Some, None, List, [], ◌∷◌, ◌++◌, arith, rules}
-use Rattle.range_merge.proofs.Common.{every_weaker, KeyOrder, IsLawful, IsKnownRange, position_cmp, Position, Equal, lower, upper, Lt, Any, Every, AnyRange, Item, LiesIn}
+use Rattle.range_merge.proofs.Common.{every_weaker, KeyOrder, IsLawful, IsKeyRange, position_cmp, Position, Equal, lower, upper, Lt, Any, Every, AnyRange, Item, LiesIn}
 use Rattle.range_merge.specs.Combining.{IsConstantOn, IsSharedPart, IsSharedPiece}
 use Rattle.range_merge.specs.Merged.{IsPlaced, IsCutFrom, IsUsedUp, IsFirstPiece}
 use Rattle.range_runs.specs.Window.{option_items}
@@ -78,26 +78,26 @@ module _ {K : Type 0} {order : KeyOrder K} (lawful : IsLawful order) where
     module _ {items left : List (Item (AnyRange K) V)} {m : Position K}
         {Done : Position K → Type 0} (was : IsSideUpTo order items m left Done) where
       -- what a range with a value holds, an item of this value holds
-      inside : (r : AnyRange K) → IsKnownRange order r → (v : V)
+      inside : (r : AnyRange K) → IsKeyRange order r → (v : V)
           → IsConstantOn order items r (Some v) → (p : Position K) → HoldsAt order p r
           → Any (λ i. HoldsAt order p i.key × (i.value ≡ v)) items
       inside r known v constant p at = grind (arith, any_with, le_trans, lt_le_trans, past_le)
 
-      pub constant_held : (r : AnyRange K) → IsKnownRange order r → (v : Option V)
+      pub constant_held : (r : AnyRange K) → IsKeyRange order r → (v : Option V)
           → IsConstantOn order items r v → (v ≡ None → ⊥) → (p : Position K)
           → HoldsAt order p r → SomeHoldsAt order p items
       constant_held r known None constant some p at = absurd (some refl)
       constant_held r known (Some v) constant some p at =
           any_over _ _ items (λ i h. h.0) (inside r known v constant p at)
 
-      not_inside : (r : AnyRange K) → IsKnownRange order r → IsConstantOn order items r None
+      not_inside : (r : AnyRange K) → IsKeyRange order r → IsConstantOn order items r None
           → (p : Position K) → HoldsAt order p r → SomeHoldsAt order p items → ⊥
       not_inside r known constant p at held =
           constant (any_with _ _ _ items held was.placed (λ i own placed.
           shared_place_is_overlap order lawful i.key r p placed.known known own.0 own.1 at.0 at.1))
 
       -- two ranges that share a place have one value
-      one_value : (r s : AnyRange K) → IsKnownRange order r → IsKnownRange order s
+      one_value : (r s : AnyRange K) → IsKeyRange order r → IsKeyRange order s
           → (v w : Option V) → IsConstantOn order items r v → IsConstantOn order items s w
           → (p : Position K) → HoldsAt order p r → HoldsAt order p s → v ≡ w
       one_value r s known others None None constant also p at_r at_s = refl
@@ -115,7 +115,7 @@ module _ {K : Type 0} {order : KeyOrder K} (lawful : IsLawful order) where
 
     module _ {items left : List (Item (AnyRange K) V)} {m : Position K}
         {Done : Position K → Type 0} (was : IsSideUpTo order items m left Done)
-        (r : AnyRange K) (known : IsKnownRange order r) where
+        (r : AnyRange K) (known : IsKeyRange order r) where
       -- an item holds all places of a range on which the list is constant, or none
       held_alike : (value : Option V) → IsConstantOn order items r value → (p q : Position K)
           → HoldsAt order p r → HoldsAt order q r → (z : Item (AnyRange K) V)

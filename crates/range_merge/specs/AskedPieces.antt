@@ -1,4 +1,4 @@
--- What a merged pass asks at once: a piece, and the next where what is left starts at one place.
+-- What a merged pass asks at once: a piece, and the next where what is left starts at one position.
 use Rattle.std.specs.Prelude.{◌≡◌, ◌⊎◌, Bool, List, Option, None, Result, Ok}
 use Rattle.std.specs.Fn.{Shared}
 use Rattle.std.specs.Option.{option_copied, option_map}
@@ -26,7 +26,8 @@ module _ {K : Type 0} (order : KeyOrder K) {V W : Type 0} where
     pub placed_right : IsPlacedIn order right
     pub asked : MayBeAskedOfBoth calls f (option_items left) (option_items right)
 
-  -- what a piece leaves of two ranges starts at one place, and the next piece is the first of that
+  -- what a piece leaves of two ranges starts at one position, and the next piece is the first of
+  -- that
   pub record IsNextPiece (piece next : Piece K V W) : Type 0 where
     pub alike : StartAlike order (option_map part_item piece.left)
         (option_map part_item piece.right)

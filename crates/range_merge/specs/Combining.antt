@@ -7,7 +7,7 @@ use Rattle.std.specs.Borrow.{Bor}
 use Rattle.std.specs.declared.cmp.Ordering.TheVariants.{Equal}
 use Rattle.range_keys.specs.Order.{KeyOrder}
 use Rattle.range_algebra.specs.Intervals.{Any}
-use Rattle.range_algebra.specs.Range.{Holds, IsEmptyRange, IsKnownRange}
+use Rattle.range_algebra.specs.Range.{Holds, IsEmptyRange, IsKeyRange}
 use Rattle.range_algebra.specs.RangeOrder.{range_cmp}
 use Rattle.range_algebra.specs.Relations.{LiesBefore}
 use Rattle.range_algebra.specs.declared.any.AnyRange.{AnyRange}
@@ -82,7 +82,7 @@ module _ {K : Type 0} (order : KeyOrder K) where
     pub record IsSharedPart (items : List (Item (AnyRange K) V))
         (others : List (Item (AnyRange K) W)) (part : AnyRange K) (left : Option V)
         (right : Option W) : Type 0 where
-      pub known : IsKnownRange order part
+      pub known : IsKeyRange order part
       pub nonempty : ¬ IsEmptyRange order part
       pub first : IsConstantOn items part left
       pub second : IsConstantOn others part right

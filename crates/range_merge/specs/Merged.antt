@@ -5,7 +5,7 @@ use Rattle.std.specs.Option.{option_copied, option_map}
 use Rattle.range_keys.specs.Order.{KeyOrder}
 use Rattle.range_keys.specs.Position.{bound_of, position_cmp}
 use Rattle.range_algebra.specs.Intervals.{Le, Lt}
-use Rattle.range_algebra.specs.Range.{IsKnownRange}
+use Rattle.range_algebra.specs.Range.{IsKeyRange}
 use Rattle.range_algebra.specs.References.{range_of}
 use Rattle.range_algebra.specs.declared.any.AnyRange.{AnyRange}
 use Rattle.range_store.specs.declared.storage.Item.{Item}
@@ -29,7 +29,7 @@ IsUsedUp first rest = (first ≡ None → ⊥) × (rest ≡ None)
 module _ {K : Type 0} (order : KeyOrder K) where
   -- a nonempty range of keys
   pub record IsPlaced (r : AnyRange K) : Type 0 where
-    pub known : IsKnownRange order r
+    pub known : IsKeyRange order r
     pub good : Lt (position_cmp order.cmp) (lower order r) (upper order r)
 
   -- the item, where there is one, has a nonempty range of keys
@@ -37,7 +37,7 @@ module _ {K : Type 0} (order : KeyOrder K) where
   IsPlacedIn None = Unit {0}
   IsPlacedIn (Some i) = IsPlaced i.key
 
-  -- the one is what is left of the other from a place on
+  -- the one is what is left of the other from a position on
   pub record IsPartPast {V : Type 0} (i : Item (AnyRange K) V) (p : Position K)
       (rest : Item (AnyRange K) V) : Type 0 where
     pub placed : IsPlaced rest.key
@@ -63,7 +63,7 @@ module _ {K : Type 0} (order : KeyOrder K) where
       × IsRestOf i key rest
 
   module _ {V W : Type 0} where
-    -- both are there, and start at one place
+    -- both are there, and start at one position
     abbrev pub StartAlike : Option (Item (AnyRange K) V) → Option (Item (AnyRange K) W) → Type 0
     StartAlike left right =
         (i : Item (AnyRange K) V) × (j : Item (AnyRange K) W) × (left ≡ Some i) × (right ≡ Some j)
@@ -78,7 +78,7 @@ module _ {K : Type 0} (order : KeyOrder K) where
       pub bound : value ≡ None → other ≡ None → ⊥
       pub first : IsCutFrom left key value left_rest
       pub second : IsCutFrom right key other right_rest
-      -- one is used up, or what is left of both starts at one place, as they did not before
+      -- one is used up, or what is left of both starts at one position, as they did not before
       pub progress : IsUsedUp left left_rest ⊎ (IsUsedUp right right_rest ⊎
           ((¬ StartAlike left right) × StartAlike left_rest right_rest))
 

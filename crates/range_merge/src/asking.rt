@@ -61,7 +61,7 @@ fn ask_both<
 }
 
 /// Asks the closure for a piece, and at once for the next one where what is left on both sides
-/// starts at one place. Returns what is left then.
+/// starts at one position. Returns what is left then.
 #[inline(always)]
 fn ask_pieces<
     'a,
@@ -102,7 +102,7 @@ fn ask_pieces<
 }
 
 /// Asks the closure for the first piece of two parts, and for the next one where both go on at
-/// one place.
+/// one position.
 #[inline(always)]
 fn ask_two<
     'a,
@@ -141,7 +141,7 @@ fn ask_two<
 }
 
 /// Asks the closure for the first piece of what is left on two sides, and for the next one where
-/// both go on at one place. Returns what is left then, or `None` where nothing was.
+/// both go on at one position. Returns what is left then, or `None` where nothing was.
 #[inline(always)]
 pub fn ask_first<
     'a,

@@ -5,7 +5,7 @@ ghost use Rattle.range_keys.specs.Directed.{reference_position};
 ghost use Rattle.range_keys.specs.Position.{bound_of, position_cmp, end_position};
 ghost use Rattle.range_algebra.specs.Cuts.{lower, past};
 ghost use Rattle.range_algebra.specs.Intervals.{Lt};
-ghost use Rattle.range_algebra.specs.Range.{IsKnownBound};
+ghost use Rattle.range_algebra.specs.Range.{IsBoundOfKey};
 ghost use Rattle.range_algebra.specs.References.{range_of};
 ghost use Rattle.range_algebra.specs.declared.any.AnyRange.{AnyRange};
 ghost use Rattle.range_store.specs.declared.storage.Item.{Item};
@@ -52,7 +52,7 @@ pub fn keys_of<'a, K: PartialEnum, V>(part: Part<'a, K, V>) -> AnyRange<&'a K>
     AnyRange::new(part.start, part.range.end_bound())
 }
 
-/// How the places of two bounds compare, at once where both bounds are keys of their ranges.
+/// How the positions of two bounds compare, at once where both bounds are keys of their ranges.
 #[inline(always)]
 pub fn compare_bounds<K: PartialEnum>(
     bound: Directed<Bound<&K>>,
@@ -111,7 +111,7 @@ pub fn first_alone<'a, K: PartialEnum, V, W>(
 #[inline(always)]
 fn part_past<'a, K: PartialEnum, V>(part: &Part<'a, K, V>, end: Bound<&'a K>) -> Part<'a, K, V>
     requires part { IsPlaced K.order (part_item part.now).key }
-    requires known { IsKnownBound K.order (bound_of end) }
+    requires known { IsBoundOfKey K.order (bound_of end) }
     requires before { Lt (position_cmp K.order.cmp) (end_position K.order (bound_of end))
         (end_position K.order part.now.range.now.end) }
     ensures { IsPartPast K.order (part_item part.now)
@@ -123,7 +123,7 @@ fn part_past<'a, K: PartialEnum, V>(part: &Part<'a, K, V>, end: Bound<&'a K>) ->
     }
 }
 
-/// The first piece of two parts that start at one place, and what is left of either.
+/// The first piece of two parts that start at one position, and what is left of either.
 #[inline(always)]
 pub fn first_of_both<'a, K: PartialEnum, V, W>(
     part: Part<'a, K, V>,

@@ -8,7 +8,7 @@ pub use Rattle.range_keys.specs.Order.{IsLawful, KeyOrder}
 pub use Rattle.range_keys.specs.Position.{bound_of}
 pub use Rattle.range_algebra.specs.Compared.{flipped}
 pub use Rattle.range_algebra.specs.Intervals.{Any}
-pub use Rattle.range_algebra.specs.Range.{Holds, IsKnownRange}
+pub use Rattle.range_algebra.specs.Range.{Holds, IsKeyRange}
 pub use Rattle.range_algebra.specs.RangeOrder.{range_cmp, range_input, range_respects, range_total}
 pub use Rattle.range_algebra.specs.Relations.{LiesBefore}
 pub use Rattle.range_algebra.specs.declared.any.AnyRange.{AnyRange}

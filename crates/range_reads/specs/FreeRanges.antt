@@ -1,6 +1,6 @@
 -- The gaps of a list: what its ranges leave free of all keys.
 use Rattle.std.specs.Prelude.{◌≡◌, List, [], ◌∷◌, ◌++◌, ◌⊎◌, Option, Some, None}
-use Rattle.range_reads.specs.Common.{Bor, option_map, Equal, Bound, KeyOrder, bound_of, flipped, Any, Every, Holds, IsKnownRange, range_cmp, LiesBefore, AnyRange, Item, EachNext, IsPiece}
+use Rattle.range_reads.specs.Common.{Bor, option_map, Equal, Bound, KeyOrder, bound_of, flipped, Any, Every, Holds, IsKeyRange, range_cmp, LiesBefore, AnyRange, Item, EachNext, IsPiece}
 use Rattle.std.specs.declared.ops.Bound.TheVariants.{Unbounded}
 pub use Rattle.range_runs.specs.PieceLists.{between}
 
@@ -24,7 +24,7 @@ module _ {K : Type 0} (order : KeyOrder K) where
       (gaps : List (AnyRange K)) : Type 0 where
     pub each : Every (λ g. IsPiece order items full_range g None) gaps
     pub rising : EachNext (LiesBefore order) gaps
-    pub all : (part : AnyRange K) → IsKnownRange order part
+    pub all : (part : AnyRange K) → IsKeyRange order part
         → IsPiece order items full_range part None → Any (λ g. range_cmp order g part ≡ Equal) gaps
 
   -- what is free from a start on, where the items stand after it

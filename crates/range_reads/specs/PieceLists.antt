@@ -1,6 +1,6 @@
 -- The free pieces of a range as a list.
 use Rattle.std.specs.Prelude.{◌≡◌, List, [], ◌∷◌, ◌++◌, Option, Some, None}
-use Rattle.range_reads.specs.Common.{Equal, KeyOrder, Any, Every, IsKnownRange, range_cmp, LiesBefore, AnyRange, Item, EachNext, IsPiece}
+use Rattle.range_reads.specs.Common.{Equal, KeyOrder, Any, Every, IsKeyRange, range_cmp, LiesBefore, AnyRange, Item, EachNext, IsPiece}
 pub use Rattle.range_runs.specs.PieceLists.{shown_piece}
 
 -- the range, if no value is there
@@ -19,5 +19,5 @@ module _ {K : Type 0} (order : KeyOrder K) {V : Type 0} where
       (gaps : List (AnyRange K)) : Type 0 where
     pub each : Every (λ g. IsPiece order items r g None) gaps
     pub rising : EachNext (LiesBefore order) gaps
-    pub all : (part : AnyRange K) → IsKnownRange order part → IsPiece order items r part None
+    pub all : (part : AnyRange K) → IsKeyRange order part → IsPiece order items r part None
         → Any (λ g. range_cmp order g part ≡ Equal) gaps

@@ -1,5 +1,5 @@
 -- Answers put one after the other, those that touch with equal values as one.
-use Rattle.range_runs.proofs.Common.{cases, tied_itself, le_refl, le_lt_trans, lt_le_trans, common_steps, ◌⊎◌, ◌≡◌, refl, ap, ◌∙◌, ℕ, zero, suc, ◌+◌, ◌-◌, ◌<◌, Option, Some, None, Bool, true, List, [], ◌∷◌, ◌++◌, inl, inr, ◌↔◌, length, get_or, arith, Every, slice_set, Bound, Equal, IsEquivalence, tied_back, KeyOrder, IsLawful, end_position, position_cmp, position_total, Position, AnyRange, past, lower, upper, IsBoundClone, SameBound, same_start, IsKnownRange, Any, lt_le, eq_le, eq_ge, le_trans, PLe, PLt, any_left, any_split, every_weaker, every_append, every_left, every_right, line_of, Respects, sym, append-nil, lt_not_le, IsKnownBound, Touches, Item, Answered, JoinsNoLast, IsPut, with_end, item_lower}
+use Rattle.range_runs.proofs.Common.{cases, tied_itself, le_refl, le_lt_trans, lt_le_trans, common_steps, ◌⊎◌, ◌≡◌, refl, ap, ◌∙◌, ℕ, zero, suc, ◌+◌, ◌-◌, ◌<◌, Option, Some, None, Bool, true, List, [], ◌∷◌, ◌++◌, inl, inr, ◌↔◌, length, get_or, arith, Every, slice_set, Bound, Equal, IsEquivalence, tied_back, KeyOrder, IsLawful, end_position, position_cmp, position_total, Position, AnyRange, past, lower, upper, IsBoundClone, SameBound, same_start, IsKeyRange, Any, lt_le, eq_le, eq_ge, le_trans, PLe, PLt, any_left, any_split, every_weaker, every_append, every_left, every_right, line_of, Respects, sym, append-nil, lt_not_le, IsBoundOfKey, Touches, Item, Answered, JoinsNoLast, IsPut, with_end, item_lower}
 use Rattle.range_runs.proofs.Chains.{chain_right}
 use Rattle.range_runs.proofs.ChainSides.{like_item, none_above}
 use Rattle.range_runs.proofs.Sewn.{IsSewn, leading_by, sewn_apart, sewn_joined, through}
@@ -41,7 +41,7 @@ module _ {K : Type 0} (order : KeyOrder K) (lawful : IsLawful order) {V : Type 0
 
   -- a nonempty part between the places of the range
   abbrev pub IsWithin : AnyRange K → Type 0
-  IsWithin key = IsKnownRange order key × PLe lawful (lower order r) (lower order key) × PLt lawful
+  IsWithin key = IsKeyRange order key × PLe lawful (lower order r) (lower order key) × PLt lawful
       (lower order key) (upper order key) × PLe lawful (upper order key) (upper order r)
 
   abbrev HoldsAt : Position K → AnyRange K → Type 0
@@ -129,12 +129,12 @@ module _ {K : Type 0} (order : KeyOrder K) (lawful : IsLawful order) {V : Type 0
       filled_bound : (front rest : List (Item (AnyRange K) V)) (j : Item (AnyRange K) V)
           → old ≡ front ++ rest → IsSewn (line_of order lawful same equal) old Part (front ++ j ∷ [])
           (lower order key) → position_cmp order.cmp (upper order j.key) (upper order key) ≡ Equal
-          → IsKnownRange order j.key → PLe lawful (lower order r) (lower order j.key)
+          → IsKeyRange order j.key → PLe lawful (lower order r) (lower order j.key)
           → Any (λ b. b.answer ≡ Some j.value) more → IsFilledUpTo n more (front ++ j ∷ [])
       filled_bound front rest j list sewn to known starts valued =
           let under = eq_le lawful _ _ to in
           record {
-            known = every_append (λ i. IsKnownRange order i.key) front (j ∷ [])
+            known = every_append (λ i. IsKeyRange order i.key) front (j ∷ [])
                 (every_left _ front rest (rw list at was.known)) (known, tt);
             chain = sewn.chain;
             inside = every_append (LiesUpTo n) front (j ∷ []) (every_weaker (LiesUpTo m) (LiesUpTo n)
@@ -149,7 +149,7 @@ module _ {K : Type 0} (order : KeyOrder K) (lawful : IsLawful order) {V : Type 0
           }
 
       -- no item joins it
-      filled_with_item_after : (own : AnyRange K) → IsKnownRange order own
+      filled_with_item_after : (own : AnyRange K) → IsKeyRange order own
           → position_cmp order.cmp (lower order own) (lower order key) ≡ Equal
           → position_cmp order.cmp (upper order own) (upper order key) ≡ Equal
           → JoinsNoLast order same old key v
@@ -181,7 +181,7 @@ module _ {K : Type 0} (order : KeyOrder K) (lawful : IsLawful order) {V : Type 0
 
       -- the last item joins it
       filled_on : (front : List (Item (AnyRange K) V)) (last : Item (AnyRange K) V) (e : Bound K)
-          → old ≡ front ++ last ∷ [] → IsKnownBound order e
+          → old ≡ front ++ last ∷ [] → IsBoundOfKey order e
           → position_cmp order.cmp (past_of e) (upper order key) ≡ Equal
           → Touches order last.key key → same last.value v ≡ true
           → IsFilledUpTo n more (front ++ with_end last e ∷ [])
@@ -197,7 +197,7 @@ module _ {K : Type 0} (order : KeyOrder K) (lawful : IsLawful order) {V : Type 0
           ((touches_is order lawful last.key.end key inside.0 inside.2 before).0 touching)
           (le_refl lawful _) inside.2 (tied_itself (position_total order.cmp lawful.total)
           (item_lower order last)) to (equal.refl last.value) alike_values)) to (
-            (every_right (λ i. IsKnownRange order i.key) front
+            (every_right (λ i. IsKeyRange order i.key) front
                 (last ∷ []) (rw list at was.known)).0.0,
             known,
           ) within.0.0 (every_right (λ i.

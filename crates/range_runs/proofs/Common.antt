@@ -16,30 +16,30 @@ pub use Rattle.std.specs.declared.ops.Bound.TheVariants.{Excluded, Included, Unb
 pub use Rattle.range_keys.proofs.Orderings.{eq_is_equal, equal_then_equal, less_then_any, less_unless_equal, less_unless_greater, less_unless_less, lt_is_less, not_both_greater_and_not, not_greater}
 pub use Rattle.range_keys.specs.Directed.{reference_position}
 pub use Rattle.range_keys.specs.Order.{IsComplete, IsLawful, KeyOrder, SameAnswer, Tells}
-pub use Rattle.range_keys.specs.Position.{at_told, bound_of, end_position, position_cmp, start_position}
+pub use Rattle.range_keys.specs.Position.{at_known, bound_of, end_position, position_cmp, start_position}
 pub use Rattle.range_keys.specs.PositionOrder.{position_total}
 pub use Rattle.range_keys.specs.declared.inner.position.Position.{Position}
 pub use Rattle.range_keys.specs.declared.inner.position.Position.TheVariants.{Beside, MinusInfinity, PlusInfinity}
 pub use Rattle.range_keys.specs.declared.inner.position.Side.TheVariants.{After, At, Before}
 pub use Rattle.range_algebra.proofs.Commons.{common_known, earlier_is, gt_le, later_is}
 pub use Rattle.range_algebra.proofs.Lists.{any_left, any_none, any_right, any_split, drop_all, every_append, every_at, every_drop, every_left, every_right, every_take, every_weaker, list_is_take_and_drop}
-pub use Rattle.range_algebra.proofs.Places.{flipped_back, flipped_bound_is_past, flipped_known, held_between, reaching_is_before_past, unbounded_end, unbounded_start}
+pub use Rattle.range_algebra.proofs.Positions.{flipped_back, flipped_bound_is_past, flipped_known, held_between, reaching_is_before_past, unbounded_end, unbounded_start}
 pub use Rattle.range_algebra.specs.Clones.{IsBoundClone, SameBound, bound_clone, same_end, same_itself, same_start}
 pub use Rattle.range_algebra.specs.Combined.{common}
 pub use Rattle.range_algebra.specs.Compared.{flipped, is_before, start_is_at, starts_at_end, starts_past_end}
 pub use Rattle.range_algebra.specs.Cuts.{lower, past, upper}
 pub use Rattle.range_algebra.specs.Intervals.{Any, Le, Lt}
-pub use Rattle.range_algebra.specs.Range.{Holds, IsEmptyRange, IsKnownBound, IsKnownRange, with_bounds}
+pub use Rattle.range_algebra.specs.Range.{Holds, IsEmptyRange, IsBoundOfKey, IsKeyRange, with_bounds}
 pub use Rattle.range_algebra.specs.References.{range_of}
 pub use Rattle.range_algebra.specs.Relations.{LiesBefore, Touches}
 pub use Rattle.range_algebra.specs.declared.any.AnyRange.{AnyRange}
-pub use Rattle.range_store.proofs.ListPlaces.{place_at}
-pub use Rattle.range_store.specs.ListPlaces.{IsAt, IsFrontOf, place_before}
+pub use Rattle.range_store.proofs.ListRanks.{place_at}
+pub use Rattle.range_store.specs.ListRanks.{IsAt, IsFrontOf, rank_or_len}
 pub use Rattle.range_store.specs.declared.storage.Item.{Item}
 pub use Rattle.range_runs.proofs.PlaceOrder.{PLe, PLt, both, cases, eq_ge, eq_le, le_lt_trans, le_refl, le_trans, lt_le, lt_le_trans, lt_not_le, lt_trans, not_le, not_lt}
 pub use Rattle.range_runs.specs.Answers.{Answered, AnswersPiece, IsAsAnswered, IsGathered, MayAnswer, MayBeAsked, piece_of}
 pub use Rattle.range_runs.specs.Bindings.{Binds, BindsTo, IsBound, IsBoundAfter, IsItemFor, IsSomeOf, IsStoredFor, IsUnboundAfter}
-pub use Rattle.range_runs.specs.Chains.{Follows, Has, Held, IsBoundTo, IsChain, IsLeft, IsMade, IsRight, IsSpliced, IsUnbound, Leading, Leads, Line, Respects, line_of}
+pub use Rattle.range_runs.specs.Chains.{Follows, Has, Held, IsBoundTo, IsChain, IsLeft, IsMade, IsRight, IsFilledWith, IsUnbound, Leading, Leads, Line, Respects, line_of}
 pub use Rattle.range_runs.specs.Edits.{flipped_bound, with_end}
 pub use Rattle.range_runs.specs.Lookups.{BindsKeyOf, MeetAlso, MeetsSome, Overlap}
 pub use Rattle.range_runs.specs.Neighbours.{EachNext}
@@ -49,6 +49,6 @@ pub use Rattle.range_runs.specs.Put.{IsPut, JoinsNoLast}
 pub use Rattle.range_runs.specs.Runs.{AreOverlapping}
 pub use Rattle.range_runs.specs.Spelling.{IsEndAsIn, IsSpelledAsIn, IsStartAsIn, KeepsSpelling}
 pub use Rattle.range_runs.specs.Stored.{IsFollowedBy, IsStored, item_lower, item_upper}
-pub use Rattle.range_runs.specs.Window.{IsFound, IsJustBefore, IsLastOf, IsLastStarting, IsWalk, IsWindow, place_after}
+pub use Rattle.range_runs.specs.Window.{IsFound, IsJustBefore, IsLastOf, IsLastStarting, IsWalk, IsWindow, index_after}
 pub use Rattle.range_runs.specs.declared.window.Window.{Window}
 pub use denote.Ref.{Bor}

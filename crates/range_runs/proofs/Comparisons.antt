@@ -1,5 +1,5 @@
 -- What one comparison of an element says of the items after it.
-use Rattle.range_runs.proofs.Common.{common_steps, PLt, ◌≡◌, ℕ, zero, suc, ◌<◌, ◌≤◌, List, [], ◌∷◌, length, get_or, refl, sym, ◌∙◌, arith, Bool, not, ◌||◌, IsTrue, Every, Bound, Included, Excluded, Unbounded, Equal, is_gt, is_lt, is_eq, KeyOrder, IsLawful, start_position, end_position, position_cmp, position_total, Position, eq_is_equal, lt_is_less, not_greater, AnyRange, IsKnownRange, IsEmptyRange, starts_at_end, past, eq_ge, lt_not_le, le_lt_trans, lt_trans, every_at, every_weaker, flipped_bound_is_past, Item, EachNext, LiesBefore}
+use Rattle.range_runs.proofs.Common.{common_steps, PLt, ◌≡◌, ℕ, zero, suc, ◌<◌, ◌≤◌, List, [], ◌∷◌, length, get_or, refl, sym, ◌∙◌, arith, Bool, not, ◌||◌, IsTrue, Every, Bound, Included, Excluded, Unbounded, Equal, is_gt, is_lt, is_eq, KeyOrder, IsLawful, start_position, end_position, position_cmp, position_total, Position, eq_is_equal, lt_is_less, not_greater, AnyRange, IsKeyRange, IsEmptyRange, starts_at_end, past, eq_ge, lt_not_le, le_lt_trans, lt_trans, every_at, every_weaker, flipped_bound_is_past, Item, EachNext, LiesBefore}
 use Rattle.range_runs.specs.Searches.{ElementIsBefore}
 use Rattle.range_runs.proofs.Forms.{before_is}
 use Rattle.range_runs.proofs.Listed.{before_by_parts}
@@ -27,8 +27,8 @@ module _ {K : Type 0} (order : KeyOrder K) (lawful : IsLawful order) where
   touching_same Unbounded p h = absurd (cc)
 
   -- an element that is before a range is before what starts past its start
-  before_later : (e r s : AnyRange K) (connected : Bool) → IsKnownRange order e
-      → IsKnownRange order r → PLt lawful (Start r) (Start s) → ElementIsBefore order e connected r
+  before_later : (e r s : AnyRange K) (connected : Bool) → IsKeyRange order e
+      → IsKeyRange order r → PLt lawful (Start r) (Start s) → ElementIsBefore order e connected r
       → ElementIsBefore order e connected s
   before_later e r s connected known others rise h =
       let cmp = position_cmp order.cmp in
@@ -65,7 +65,7 @@ module _ {K : Type 0} (order : KeyOrder K) (lawful : IsLawful order) where
 
     -- an element before one item is before each after it
     pub before_from : (items : List (Item (AnyRange K) V)) (e : AnyRange K) (connected : Bool)
-        (m : ℕ) (x : Item (AnyRange K) V) → IsKnownRange order e → IsKnownRange order x.key
+        (m : ℕ) (x : Item (AnyRange K) V) → IsKeyRange order e → IsKeyRange order x.key
         → Every (λ j. IsEmptyRange order j.key → ⊥) items
         → EachNext (λ j k. LiesBefore order j.key k.key) items → x ≡ get_or items m x
         → ElementIsBefore order e connected x.key → (j : ℕ) (d : Item (AnyRange K) V) → m ≤ j

@@ -1,5 +1,5 @@
 -- Which ranges meet a list in which a range was bound, by the places that the list covers.
-use Rattle.range_runs.proofs.Common.{arith, common_steps, refl, true, Bool, Result, OnOk, List, [], ◌∷◌, inl, inr, ◌↔◌, Every, IsEquivalence, KeyOrder, IsLawful, Position, AnyRange, IsKnownRange, lower, upper, line_of, IsBoundTo, le_refl, lt_le, le_lt_trans, lt_not_le, cases, not_le, PLe, PLt, Item, item_lower, item_upper, MeetsSome, MeetAlso, Overlap}
+use Rattle.range_runs.proofs.Common.{arith, common_steps, refl, true, Bool, Result, OnOk, List, [], ◌∷◌, inl, inr, ◌↔◌, Every, IsEquivalence, KeyOrder, IsLawful, Position, AnyRange, IsKeyRange, lower, upper, line_of, IsBoundTo, le_refl, lt_le, le_lt_trans, lt_not_le, cases, not_le, PLe, PLt, Item, item_lower, item_upper, MeetsSome, MeetAlso, Overlap}
 use Rattle.range_runs.proofs.Chains.{inside_or_out}
 use Rattle.range_runs.proofs.Forms.{nonempty_good, before_is, Known, Chained, Hold, respects_any}
 
@@ -8,7 +8,7 @@ on_ok P Q answer f h = grind (arith, common_steps)
 
 module _ {K : Type 0} (order : KeyOrder K) (lawful : IsLawful order) where
   -- two ranges meet where each starts below the other's end
-  pub overlap_is : (r s : AnyRange K) → IsKnownRange order r → IsKnownRange order s
+  pub overlap_is : (r s : AnyRange K) → IsKeyRange order r → IsKeyRange order s
       → Overlap order r s
       ↔ (PLt lawful (lower order r) (upper order s) × PLt lawful (lower order s) (upper order r))
   overlap_is r s known others =
@@ -26,7 +26,7 @@ module _ {K : Type 0} (order : KeyOrder K) (lawful : IsLawful order) where
   Shared r s p = (PLe lawful (lower order r) p × PLt lawful p (upper order r))
       × (PLe lawful (lower order s) p × PLt lawful p (upper order s))
 
-  overlapping_ranges_share_place : (r s : AnyRange K) → IsKnownRange order r → IsKnownRange order s
+  overlapping_ranges_share_place : (r s : AnyRange K) → IsKeyRange order r → IsKeyRange order s
       → PLt lawful (lower order r) (upper order r) → PLt lawful (lower order s) (upper order s)
       → Overlap order r s → (p : Position K) × Shared r s p
   overlapping_ranges_share_place r s known others good good_s h =
@@ -36,8 +36,8 @@ module _ {K : Type 0} (order : KeyOrder K) (lawful : IsLawful order) where
         | inr g ↦ (lower order r, ((le_refl lawful _, good), (g, met.0)))
       ]
 
-  pub shared_place_is_overlap : (r s : AnyRange K) (p : Position K) → IsKnownRange order r
-      → IsKnownRange order s → PLe lawful (lower order r) p → PLt lawful p (upper order r)
+  pub shared_place_is_overlap : (r s : AnyRange K) (p : Position K) → IsKeyRange order r
+      → IsKeyRange order s → PLe lawful (lower order r) p → PLt lawful p (upper order r)
       → PLe lawful (lower order s) p → PLt lawful p (upper order s) → Overlap order r s
   shared_place_is_overlap r s p known others from upto other_from other_upto = grind (arith, common_steps, overlap_is, le_lt_trans, from, other_upto, other_from, upto)
 
@@ -57,7 +57,7 @@ module _ {K : Type 0} (order : KeyOrder K) (lawful : IsLawful order) where
       pub held : Hold order lawful same equal (λ u. true) place items
 
     pub met_range_is_covered : (s : AnyRange K) (items : List (Item (AnyRange K) V))
-        → IsKnownRange order s → PLt lawful (lower order s) (upper order s)
+        → IsKeyRange order s → PLt lawful (lower order s) (upper order s)
         → Known order lawful same equal items
         → Every (λ i. PLt lawful (item_lower order i) (item_upper order i)) items
         → MeetsSome order items s → IsCovered s items
@@ -73,7 +73,7 @@ module _ {K : Type 0} (order : KeyOrder K) (lawful : IsLawful order) where
     met_range_is_covered s (i ∷ rest) known good all full (inr h) = grind (arith, common_steps, met_range_is_covered s rest known good all.1 full.1 h)
 
     held_place_is_met : (s : AnyRange K) (items : List (Item (AnyRange K) V)) (p : Position K)
-        → IsKnownRange order s → Known order lawful same equal items → PLe lawful (lower order s) p
+        → IsKeyRange order s → Known order lawful same equal items → PLe lawful (lower order s) p
         → PLt lawful p (upper order s) → Hold order lawful same equal (λ u. true) p items
         → MeetsSome order items s
     held_place_is_met s [] p known all from upto h = absurd h
@@ -84,7 +84,7 @@ module _ {K : Type 0} (order : KeyOrder K) (lawful : IsLawful order) where
     -- nothing else does
     pub meets_bound : (items new : List (Item (AnyRange K) V)) (r : AnyRange K) (v : V)
         → Known order lawful same equal items → Known order lawful same equal new
-        → Chained order lawful same equal items → IsKnownRange order r
+        → Chained order lawful same equal items → IsKeyRange order r
         → PLt lawful (lower order r) (upper order r) →
         IsBoundTo (line_of order lawful same equal) items new (lower order r) (upper order r) v
         → MeetAlso order items new r

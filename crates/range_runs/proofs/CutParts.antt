@@ -1,5 +1,5 @@
 -- What is left of an item that a range cuts, by places.
-use Rattle.range_runs.proofs.Common.{arith, common_steps, same_itself, ◌≡◌, refl, sym, ◌∙◌, ◌↔◌, Some, None, false, IsTrue, Bound, Included, Excluded, Unbounded, Ordering, Equal, is_gt, is_le, tied_back, tied_itself, KeyOrder, IsLawful, start_position, end_position, position_total, AnyRange, IsKnownBound, IsKnownRange, flipped, SameBound, same_start, eq_le, eq_ge, le_lt_trans, lt_not_le, PLt, past, upper, flipped_bound, reaching_is_before_past, flipped_bound_is_past, flipped_known, unbounded_start, unbounded_end}
+use Rattle.range_runs.proofs.Common.{arith, common_steps, same_itself, ◌≡◌, refl, sym, ◌∙◌, ◌↔◌, Some, None, false, IsTrue, Bound, Included, Excluded, Unbounded, Ordering, Equal, is_gt, is_le, tied_back, tied_itself, KeyOrder, IsLawful, start_position, end_position, position_total, AnyRange, IsBoundOfKey, IsKeyRange, flipped, SameBound, same_start, eq_le, eq_ge, le_lt_trans, lt_not_le, PLt, past, upper, flipped_bound, reaching_is_before_past, flipped_bound_is_past, flipped_known, unbounded_start, unbounded_end}
 use Rattle.range_runs.proofs.Forms.{places}
 
 module _ {K : Type 0} (order : KeyOrder K) (lawful : IsLawful order) where
@@ -9,7 +9,7 @@ module _ {K : Type 0} (order : KeyOrder K) (lawful : IsLawful order) where
       ≡ Equal
   same_past bound other_bound h = grind (arith, common_steps, same_start, tied_itself, position_total)
 
-  pub known_turned : (b : Bound K) → IsKnownBound order b → IsKnownBound order (flipped_bound b)
+  pub known_turned : (b : Bound K) → IsBoundOfKey order b → IsBoundOfKey order (flipped_bound b)
   known_turned bound h = grind (arith, common_steps)
 
   end_by : (s t b : Bound K)
@@ -21,7 +21,7 @@ module _ {K : Type 0} (order : KeyOrder K) (lawful : IsLawful order) where
       (past order (end_position order b)) (start_position order s) (same_past t b h)) ∙ at
 
   -- the end just before a start bound that is not the first of all
-  pub cut_end : (a s b : Bound K) → IsKnownBound order a
+  pub cut_end : (a s b : Bound K) → IsBoundOfKey order a
       → PLt lawful (start_position order a) (start_position order s)
       → SameBound order (flipped_bound s) b
       → places order lawful (past order (end_position order b)) (start_position order s) ≡ Equal
@@ -41,7 +41,7 @@ module _ {K : Type 0} (order : KeyOrder K) (lawful : IsLawful order) where
       (start_position order b) at ∙ same_start order lawful t b h)
 
   -- the start just after an end bound that is not the last of all
-  pub cut_start : (a e b : Bound K) → IsKnownBound order a
+  pub cut_start : (a e b : Bound K) → IsBoundOfKey order a
       → PLt lawful (past order (end_position order e))
       (past order (end_position order a)) → SameBound order (flipped_bound e) b
       → places order lawful (start_position order b) (past order (end_position order e)) ≡ Equal
@@ -54,7 +54,7 @@ module _ {K : Type 0} (order : KeyOrder K) (lawful : IsLawful order) where
   same_turned b = same_itself order lawful (flipped_bound b)
 
   -- nothing ends after an unbounded end
-  pub ends_never : (r i : AnyRange K) → IsKnownRange order i → None ≡ flipped r.end → IsTrue false
+  pub ends_never : (r i : AnyRange K) → IsKeyRange order i → None ≡ flipped r.end → IsTrue false
       ↔ PLt lawful (upper order r) (upper order i)
   ends_never r i known turns = grind (arith, common_steps, lt_not_le, unbounded_end)
 
@@ -62,7 +62,7 @@ module _ {K : Type 0} (order : KeyOrder K) (lawful : IsLawful order) where
   le_is compared = grind (arith, common_steps)
 
   -- a range ends after another where it reaches the start just after it
-  pub ends_after_is : (r i : AnyRange K) (s : Bound K) → IsKnownRange order r → IsKnownRange order i
+  pub ends_after_is : (r i : AnyRange K) (s : Bound K) → IsKeyRange order r → IsKeyRange order i
       → Some s ≡ flipped r.end
       → IsTrue (is_le (places order lawful (start_position order s) (end_position order i.end)))
       ↔ PLt lawful (upper order r) (upper order i)

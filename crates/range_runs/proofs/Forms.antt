@@ -1,5 +1,5 @@
 -- What is stored and bound, by places.
-use Rattle.range_runs.proofs.Common.{arith, common_steps, ◌≡◌, ℕ, take, drop, refl, sym, ◌∙◌, ◌↔◌, Option, Some, None, Bool, true, IsTrue, List, [], ◌∷◌, ◌⊎◌, inl, inr, Every, Bound, Included, Excluded, Unbounded, Ordering, Less, IsEquivalence, KeyOrder, IsLawful, start_position, end_position, position_cmp, position_total, Position, Beside, At, eq_is_equal, AnyRange, Holds, IsKnownBound, IsKnownRange, IsEmptyRange, flipped, start_is_at, starts_at_end, Item, Le, Lt, eq_ge, le_trans, lt_not_le, not_le, not_lt, both, line_of, IsChain, Has, Respects, IsBoundTo, IsUnbound, past, lower, upper, IsStored, IsBound, BindsTo, Binds, IsSomeOf, IsBoundAfter, IsUnboundAfter, list_is_take_and_drop, every_left, every_right, reaching_is_before_past, flipped_bound_is_past, unbounded_end, held_between}
+use Rattle.range_runs.proofs.Common.{arith, common_steps, ◌≡◌, ℕ, take, drop, refl, sym, ◌∙◌, ◌↔◌, Option, Some, None, Bool, true, IsTrue, List, [], ◌∷◌, ◌⊎◌, inl, inr, Every, Bound, Included, Excluded, Unbounded, Ordering, Less, IsEquivalence, KeyOrder, IsLawful, start_position, end_position, position_cmp, position_total, Position, Beside, At, eq_is_equal, AnyRange, Holds, IsBoundOfKey, IsKeyRange, IsEmptyRange, flipped, start_is_at, starts_at_end, Item, Le, Lt, eq_ge, le_trans, lt_not_le, not_le, not_lt, both, line_of, IsChain, Has, Respects, IsBoundTo, IsUnbound, past, lower, upper, IsStored, IsBound, BindsTo, Binds, IsSomeOf, IsBoundAfter, IsUnboundAfter, list_is_take_and_drop, every_left, every_right, reaching_is_before_past, flipped_bound_is_past, unbounded_end, held_between}
 use Rattle.range_runs.proofs.Chains.{inside_or_out}
 use Rattle.range_runs.proofs.Listed.{IsListed, stored_list_is_listed, stored_by}
 
@@ -16,12 +16,12 @@ module _ {K : Type 0} (order : KeyOrder K) (lawful : IsLawful order) where
   places = position_cmp order.cmp
 
   -- a nonempty range starts below the place where it ends
-  pub nonempty_good : (r : AnyRange K) → IsKnownRange order r → (IsEmptyRange order r → ⊥)
+  pub nonempty_good : (r : AnyRange K) → IsKeyRange order r → (IsEmptyRange order r → ⊥)
       ↔ Lt places (lower order r) (upper order r)
   nonempty_good r known =
       let reach = reaching_is_before_past order lawful r.start r.end known.0 known.1 in (grind (arith, common_steps))
 
-  pub before_is : (e s : Bound K) → IsKnownBound order e → IsKnownBound order s
+  pub before_is : (e s : Bound K) → IsBoundOfKey order e → IsBoundOfKey order s
       → places (end_position order e) (start_position order s) ≡ Less
       ↔ Le places (past order (end_position order e)) (start_position order s)
   before_is e s known others =
@@ -39,7 +39,7 @@ module _ {K : Type 0} (order : KeyOrder K) (lawful : IsLawful order) where
   touches_by e i s turns le = grind (arith, common_steps, flipped_bound_is_past, eq_is_equal, le_trans, eq_ge, position_total, both)
 
   -- a range touches another where the place past it is that of the other
-  pub touches_is : (e : Bound K) (s : AnyRange K) → IsKnownRange order s
+  pub touches_is : (e : Bound K) (s : AnyRange K) → IsKeyRange order s
       → Lt places (lower order s) (upper order s)
       → Le places (past order (end_position order e)) (lower order s)
       → IsTrue (starts_at_end order e (lower order s))
@@ -50,7 +50,7 @@ module _ {K : Type 0} (order : KeyOrder K) (lawful : IsLawful order) where
 
   module _ {V : Type 0} (same : V → V → Bool) (equal : IsEquivalence same) where
     abbrev pub Known : List (Item (AnyRange K) V) → Type 0
-    Known items = Every (λ i. IsKnownRange order i.key) items
+    Known items = Every (λ i. IsKeyRange order i.key) items
 
     abbrev pub Chained : List (Item (AnyRange K) V) → Type 0
     Chained items = IsChain (line_of order lawful same equal) items
@@ -100,7 +100,7 @@ module _ {K : Type 0} (order : KeyOrder K) (lawful : IsLawful order) where
     pub respects_any : Respects (line_of order lawful same equal) (λ u. true)
     respects_any a b s h = h
 
-    pub unheld_lies_outside : (r : AnyRange K) (k : K) → IsKnownRange order r → order.is_key k
+    pub unheld_lies_outside : (r : AnyRange K) (k : K) → IsKeyRange order r → order.is_key k
         → (Holds order r k → ⊥)
         → Lt places (Beside k At) (lower order r) ⊎ Le places (upper order r) (Beside k At)
     unheld_lies_outside r k known key h = elim (inside_or_out (line_of order lawful same equal)
@@ -153,7 +153,7 @@ module _ {K : Type 0} (order : KeyOrder K) (lawful : IsLawful order) where
     )
 
     pub bound_after : (before after : List (Item (AnyRange K) V)) (r : AnyRange K) (v : V)
-        → IsKnownRange order r → Known before → Known after
+        → IsKeyRange order r → Known before → Known after
         → IsBoundTo (line_of order lawful same equal) before after (lower order r) (upper order r) v
         → IsBoundAfter order same before after r v
     bound_after before after r v known_range known known' changed = record {
@@ -164,7 +164,7 @@ module _ {K : Type 0} (order : KeyOrder K) (lawful : IsLawful order) where
     }
 
     pub unbound_after : (before after : List (Item (AnyRange K) V)) (r : AnyRange K)
-        → IsKnownRange order r → Known before → Known after
+        → IsKeyRange order r → Known before → Known after
         → IsUnbound (line_of order lawful same equal) before after (lower order r) (upper order r)
         → IsUnboundAfter order same before after r
     unbound_after before after r known_range known known' changed = record {

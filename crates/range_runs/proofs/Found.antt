@@ -1,5 +1,5 @@
 -- What a search among stored items finds.
-use Rattle.range_runs.proofs.Common.{common_steps, get_or_read, ◌≡◌, ◌↔◌, ℕ, zero, suc, ◌+◌, ◌<◌, List, [], ◌∷◌, length, take, drop, get_or, refl, ap, sym, arith, Option, None, Some, Bool, true, false, inl, inr, Every, MatchOption, Ordering, Less, is_gt, is_le, is_lt, IsEquivalence, KeyOrder, IsLawful, start_position, end_position, Position, Beside, At, lt_is_less, not_greater, AnyRange, Holds, IsEmptyRange, Item, IsAt, IsFrontOf, place_at, Any, Le, Lt, lt_le, lt_not_le, le_trans, not_le, not_lt, lt_le_trans, le_lt_trans, lt_trans, PLe, PLt, IsStored, IsItemFor, IsStoredFor, IsBound, BindsTo, IsFound, IsJustBefore, IsLastStarting, place_after, every_at, every_take, every_drop, every_weaker}
+use Rattle.range_runs.proofs.Common.{common_steps, get_or_read, ◌≡◌, ◌↔◌, ℕ, zero, suc, ◌+◌, ◌<◌, List, [], ◌∷◌, length, take, drop, get_or, refl, ap, sym, arith, Option, None, Some, Bool, true, false, inl, inr, Every, MatchOption, Ordering, Less, is_gt, is_le, is_lt, IsEquivalence, KeyOrder, IsLawful, start_position, end_position, Position, Beside, At, lt_is_less, not_greater, AnyRange, Holds, IsEmptyRange, Item, IsAt, IsFrontOf, place_at, Any, Le, Lt, lt_le, lt_not_le, le_trans, not_le, not_lt, lt_le_trans, le_lt_trans, lt_trans, PLe, PLt, IsStored, IsItemFor, IsStoredFor, IsBound, BindsTo, IsFound, IsJustBefore, IsLastStarting, index_after, every_at, every_take, every_drop, every_weaker}
 use Rattle.std.specs.List.Sorted.{IsPartitionedBy}
 use Rattle.range_algebra.proofs.Holding.{holds_by_position}
 use Rattle.range_algebra.specs.Orders.{lt_of}
@@ -133,7 +133,7 @@ module _ {K : Type 0} (order : KeyOrder K) (lawful : IsLawful order) {V : Type 0
         → MatchOption last (IsFrontOf (λ i. is_le (places order lawful (Start i) p)) items 0)
         (λ q. is_good q
         × IsFrontOf (λ i. is_le (places order lawful (Start i) p)) items (rank q + 1))
-        → IsLastStarting order is_good rank items p last (place_after rank last)
+        → IsLastStarting order is_good rank items p last (index_after rank last)
     last_started None front = started_by None 0 refl front
     last_started (Some q) front = started_by (Some q) (rank q + 1) (front.0, refl) front.1
 

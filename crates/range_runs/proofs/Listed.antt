@@ -1,5 +1,5 @@
 -- The form of a stored list, item by item.
-use Rattle.range_runs.proofs.Common.{arith, common_steps, Every, ◌↔◌, Bool, false, not, ◌||◌, if◌then◌else◌, IsTrue, List, [], ◌∷◌, is_gt, is_lt, is_eq, KeyOrder, IsLawful, start_position, end_position, position_cmp, lt_is_less, not_greater, IsKnownRange, IsEmptyRange, starts_at_end, is_before, le_lt_trans, AnyRange, Item, EachNext, LiesBefore, Touches, IsFollowedBy, IsStored}
+use Rattle.range_runs.proofs.Common.{arith, common_steps, Every, ◌↔◌, Bool, false, not, ◌||◌, if◌then◌else◌, IsTrue, List, [], ◌∷◌, is_gt, is_lt, is_eq, KeyOrder, IsLawful, start_position, end_position, position_cmp, lt_is_less, not_greater, IsKeyRange, IsEmptyRange, starts_at_end, is_before, le_lt_trans, AnyRange, Item, EachNext, LiesBefore, Touches, IsFollowedBy, IsStored}
 use Rattle.range_algebra.specs.declared.ordering.RangeOrdering.TheVariants.{Before, Intersecting, After}
 
 one_false_is_not_both : (t c : Bool) → IsTrue (not t || not c) ↔ (IsTrue t → IsTrue c → ⊥)
@@ -16,9 +16,9 @@ module _ {K : Type 0} (order : KeyOrder K) (lawful : IsLawful order) {V : Type 0
   -- known and nonempty, each before the next, and touching only where values differ
   abbrev pub IsListed : List (Item (AnyRange K) V) → Type 0
   IsListed [] = Unit {0}
-  IsListed (i ∷ []) = IsKnownRange order i.key × (IsEmptyRange order i.key → ⊥)
+  IsListed (i ∷ []) = IsKeyRange order i.key × (IsEmptyRange order i.key → ⊥)
   IsListed (i ∷ j ∷ rest) =
-      IsKnownRange order i.key × (IsEmptyRange order i.key → ⊥) × LiesBefore order i.key j.key
+      IsKeyRange order i.key × (IsEmptyRange order i.key → ⊥) × LiesBefore order i.key j.key
       × (Touches order i.key j.key → IsTrue (same i.value j.value) → ⊥) × IsListed (j ∷ rest)
 
   followed_is_before_and_apart : (i j : Item (AnyRange K) V) → (IsEmptyRange order i.key → ⊥)
@@ -45,7 +45,7 @@ module _ {K : Type 0} (order : KeyOrder K) (lawful : IsLawful order) {V : Type 0
         ),
       )
 
-  by_parts : (items : List (Item (AnyRange K) V)) → Every (λ i. IsKnownRange order i.key) items
+  by_parts : (items : List (Item (AnyRange K) V)) → Every (λ i. IsKeyRange order i.key) items
       → Every (λ i. IsEmptyRange order i.key → ⊥) items
       → EachNext (IsFollowedBy order same) items → IsListed items
   by_parts [] known full rising = tt

@@ -1,5 +1,5 @@
 -- Which stored ranges a range meets, and which keys both then hold.
-use Rattle.range_runs.proofs.Common.{common_steps, lower, PLe, PLt, common, common_known, earlier_is, later_is, ◌≡◌, ℕ, zero, suc, ◌+◌, ◌<◌, Bool, List, [], ◌∷◌, length, take, drop, get_or, refl, arith, true, false, inl, inr, not, IsTrue, ◌↔◌, Option, Every, option_copied, is_some, Bound, is_lt, KeyOrder, IsLawful, IsComplete, start_position, end_position, position_cmp, Position, not_both_greater_and_not, not_greater, AnyRange, Holds, IsKnownRange, IsEmptyRange, le_trans, lt_not_le, not_lt, Item, IsBound, BindsTo, Binds, IsStored, MeetsSome, BindsKeyOf, Overlap}
+use Rattle.range_runs.proofs.Common.{common_steps, lower, PLe, PLt, common, common_known, earlier_is, later_is, ◌≡◌, ℕ, zero, suc, ◌+◌, ◌<◌, Bool, List, [], ◌∷◌, length, take, drop, get_or, refl, arith, true, false, inl, inr, not, IsTrue, ◌↔◌, Option, Every, option_copied, is_some, Bound, is_lt, KeyOrder, IsLawful, IsComplete, start_position, end_position, position_cmp, Position, not_both_greater_and_not, not_greater, AnyRange, Holds, IsKeyRange, IsEmptyRange, le_trans, lt_not_le, not_lt, Item, IsBound, BindsTo, Binds, IsStored, MeetsSome, BindsKeyOf, Overlap}
 use Rattle.std.specs.Borrow.{Bor}
 use Rattle.range_algebra.proofs.Commons.{common_holds}
 use Rattle.range_algebra.proofs.Completeness.{nonempty_holds}
@@ -12,7 +12,7 @@ module _ {K : Type 0} (order : KeyOrder K) (lawful : IsLawful order) where
   End r = end_position order r.end
 
   -- over complete keys ranges that meet share a key
-  shared_key : (r s : AnyRange K) → IsComplete order → IsKnownRange order r → IsKnownRange order s
+  shared_key : (r s : AnyRange K) → IsComplete order → IsKeyRange order r → IsKeyRange order s
       → (IsEmptyRange order r → ⊥) → (IsEmptyRange order s → ⊥) → Overlap order r s
       → (k : K) × order.is_key k × Holds order r k × Holds order s k
   shared_key r s complete known others full full_s meets =
@@ -45,8 +45,8 @@ module _ {K : Type 0} (order : KeyOrder K) (lawful : IsLawful order) where
     )
 
     meeting_by : (items : List (Item (AnyRange K) V)) (r : AnyRange K) → IsComplete order
-        → Every (λ i. IsKnownRange order i.key) items
-        → Every (λ i. IsEmptyRange order i.key → ⊥) items → IsKnownRange order r
+        → Every (λ i. IsKeyRange order i.key) items
+        → Every (λ i. IsEmptyRange order i.key → ⊥) items → IsKeyRange order r
         → (IsEmptyRange order r → ⊥) → MeetsSome order items r → BindsKeyOf order items r
     meeting_by [] r complete known full others full_r h = absurd h
     meeting_by (i ∷ rest) r complete known full others full_r (inl h) =
@@ -56,7 +56,7 @@ module _ {K : Type 0} (order : KeyOrder K) (lawful : IsLawful order) where
 
     -- over complete keys a nonempty range that meets some item has a bound key
     pub meeting_binds : (same : V → V → Bool) (items : List (Item (AnyRange K) V)) (r : AnyRange K)
-        → IsComplete order → IsStored order same items → IsKnownRange order r
+        → IsComplete order → IsStored order same items → IsKeyRange order r
         → (IsEmptyRange order r → ⊥) → MeetsSome order items r → BindsKeyOf order items r
     meeting_binds same items r complete stored known full h = grind (arith, common_steps, meeting_by)
 

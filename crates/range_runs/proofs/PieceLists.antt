@@ -1,5 +1,5 @@
 -- The pieces that are read off from the items that meet a range are its pieces.
-use Rattle.range_runs.proofs.Common.{arith, common_steps, ◌≡◌, refl, sym, ◌∙◌, List, [], ◌∷◌, ◌++◌, ◌⊎◌, inl, inr, Option, Some, None, Bool, true, false, map, if◌then◌else◌, append_assoc, append-nil, IsEquivalence, tied_itself, Every, Equal, Bound, Unbounded, KeyOrder, IsLawful, start_position, end_position, position_cmp, position_total, Position, common, flipped, starts_past_end, past, lower, upper, Le, Lt, Any, IsEmptyRange, IsKnownBound, IsKnownRange, AnyRange, common_known, later_is, earlier_is, any_right, every_weaker, every_append, every_left, every_right, reaching_is_before_past, flipped_bound_is_past, flipped_back, flipped_known, unbounded_start, unbounded_end, Item, line_of, Overlap, free_piece, bound_piece, free_between, pieces_from, pieces_of, IsFreePart, ArePieces, AreOverlapping, IsStored, le_refl, lt_le, eq_le, eq_ge, le_trans, cases, not_le, not_lt, lt_not_le, lt_le_trans, PLe, PLt}
+use Rattle.range_runs.proofs.Common.{arith, common_steps, ◌≡◌, refl, sym, ◌∙◌, List, [], ◌∷◌, ◌++◌, ◌⊎◌, inl, inr, Option, Some, None, Bool, true, false, map, if◌then◌else◌, append_assoc, append-nil, IsEquivalence, tied_itself, Every, Equal, Bound, Unbounded, KeyOrder, IsLawful, start_position, end_position, position_cmp, position_total, Position, common, flipped, starts_past_end, past, lower, upper, Le, Lt, Any, IsEmptyRange, IsBoundOfKey, IsKeyRange, AnyRange, common_known, later_is, earlier_is, any_right, every_weaker, every_append, every_left, every_right, reaching_is_before_past, flipped_bound_is_past, flipped_back, flipped_known, unbounded_start, unbounded_end, Item, line_of, Overlap, free_piece, bound_piece, free_between, pieces_from, pieces_of, IsFreePart, ArePieces, AreOverlapping, IsStored, le_refl, lt_le, eq_le, eq_ge, le_trans, cases, not_le, not_lt, lt_not_le, lt_le_trans, PLe, PLt}
 use Rattle.range_runs.proofs.Chains.{chain_above, chain_right, follows_above}
 use Rattle.range_runs.proofs.Forms.{Chained, before_is, stored_chain, nonempty_good}
 use Rattle.range_runs.proofs.RangePieces.{Rises, IsFull, IsRight, IsInside, AreCut, all_full, any_over, any_with, common_is, common_place_is_not_clear, common_within, cut_all, every_with, free_apart, free_inside}
@@ -13,7 +13,7 @@ IsOver order r part = Le (position_cmp order.cmp) (lower order r) (lower order p
 
 module _ {K : Type 0} {order : KeyOrder K} (lawful : IsLawful order) {V : Type 0}
     {same : V → V → Bool} (equal : IsEquivalence same) (items : List (Item (AnyRange K) V))
-    (r : AnyRange K) (stored : IsStored order same items) (known : IsKnownRange order r)
+    (r : AnyRange K) (stored : IsStored order same items) (known : IsKeyRange order r)
     (nonempty : IsEmptyRange order r → ⊥) where
   abbrev Le' : Position K → Position K → Type 0
   Le' p q = PLe lawful p q
@@ -73,21 +73,21 @@ module _ {K : Type 0} {order : KeyOrder K} (lawful : IsLawful order) {V : Type 0
   -- the next piece starts at the bound, or none is left
   abbrev Opens : Option (Bound K) → Position K → Type 0
   Opens None from = Le' (High r) from
-  Opens (Some b) from = IsKnownBound order b
+  Opens (Some b) from = IsBoundOfKey order b
       × (position_cmp order.cmp from (start_position order b) ≡ Equal)
 
-  opens_after : (e : Bound K) (b : Option (Bound K)) → flipped e ≡ b → IsKnownBound order e
+  opens_after : (e : Bound K) (b : Option (Bound K)) → flipped e ≡ b → IsBoundOfKey order e
       → Opens b (past order (end_position order e))
   opens_after e option turns known_e = grind (arith, common_steps, flipped_known, flipped_bound_is_past, unbounded_end)
 
   -- the gap from one place to another ends at the bound, or there is none
   abbrev Closes : Option (Bound K) → Position K → Position K → Type 0
   Closes None from to = Le' to from
-  Closes (Some b) from to = IsKnownBound order b
+  Closes (Some b) from to = IsBoundOfKey order b
       × (position_cmp order.cmp (past order (end_position order b)) to ≡ Equal)
 
   closes_before : (from : Position K) (s : Bound K) (b : Option (Bound K)) → flipped s ≡ b
-      → IsKnownBound order s → Le' (Low r) from → Closes b from (start_position order s)
+      → IsBoundOfKey order s → Le' (Low r) from → Closes b from (start_position order s)
   closes_before from s (Some b) turns known_s le = grind (arith, common_steps, flipped_known, flipped_bound_is_past, flipped_back)
   closes_before from Unbounded None turns known_s le =
       le_trans lawful _ _ _ (unbounded_start order lawful r.start known.0) le
@@ -102,7 +102,7 @@ module _ {K : Type 0} {order : KeyOrder K} (lawful : IsLawful order) {V : Type 0
     no_gap : Le' to from → IsCut from from rest
     no_gap le = grind (arith, common_steps, every_weaker, le_trans)
 
-    add_gap : (gap : AnyRange K) → IsKnownRange order gap
+    add_gap : (gap : AnyRange K) → IsKeyRange order gap
         → position_cmp order.cmp from (Low gap) ≡ Equal
         → position_cmp order.cmp (High gap) to ≡ Equal → Lt' (Low gap) (High gap)
         → IsCut from from (free_piece gap ∷ rest)
@@ -291,7 +291,7 @@ module _ {K : Type 0} {order : KeyOrder K} (lawful : IsLawful order) {V : Type 0
     pieces_are_kept = every_weaker _ _ Pieces (λ p h. h.2.2) cut.each
 
     module _ (part : AnyRange K) (free : IsFreePart order items r part) where
-      none_by : (key : AnyRange K) (v : Option V) → IsKnownRange order key → IsOver order key part
+      none_by : (key : AnyRange K) (v : Option V) → IsKeyRange order key → IsOver order key part
           → IsRight order lawful items r key v → v ≡ None
       none_by key None known_key over right = refl
       none_by key (Some v) known_key over right = absurd (common_place_is_not_clear order lawful

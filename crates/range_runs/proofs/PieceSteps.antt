@@ -1,19 +1,19 @@
 -- One piece after the other, from either end.
-use Rattle.range_runs.proofs.Common.{common_steps, ◌≡◌, refl, ap, List, [], ◌∷◌, ◌++◌, Option, Some, None, Bool, if◌then◌else◌, append_assoc, arith, length, length-append, ◌<◌, Bound, KeyOrder, IsLawful, common, flipped, starts_past_end, IsKnownBound, IsKnownRange, AnyRange, flipped_back, flipped_bound_is_past, flipped_known, Item, between, free_piece, bound_piece, free_between, pieces_from, eq_le, lt_not_le}
+use Rattle.range_runs.proofs.Common.{common_steps, ◌≡◌, refl, ap, List, [], ◌∷◌, ◌++◌, Option, Some, None, Bool, if◌then◌else◌, append_assoc, arith, length, length-append, ◌<◌, Bound, KeyOrder, IsLawful, common, flipped, starts_past_end, IsBoundOfKey, IsKeyRange, AnyRange, flipped_back, flipped_bound_is_past, flipped_known, Item, between, free_piece, bound_piece, free_between, pieces_from, eq_le, lt_not_le}
 use Rattle.range_runs.proofs.Forms.{before_is}
 
 module _ {K : Type 0} {order : KeyOrder K} (lawful : IsLawful order) where
   -- nothing is free between the start past an end and that end
-  none_past : (e s : Bound K) → flipped e ≡ Some s → IsKnownBound order e → (t : Bool)
+  none_past : (e s : Bound K) → flipped e ≡ Some s → IsBoundOfKey order e → (t : Bool)
       → starts_past_end order s e ≡ t
       → ◌≡◌ {A = List (AnyRange K)} (if t then [] else record { start = s; end = e } ∷ []) []
   none_past e s turns known test is = grind (arith, common_steps, lt_not_le, before_is, flipped_known, eq_le, flipped_bound_is_past)
 
-  none_after_end : (e : Bound K) (s : Option (Bound K)) → flipped e ≡ s → IsKnownBound order e
+  none_after_end : (e : Bound K) (s : Option (Bound K)) → flipped e ≡ s → IsBoundOfKey order e
       → between order s (Some e) ≡ []
   none_after_end e option turns known = grind (arith, common_steps, none_past)
 
-  none_before_start : (s : Bound K) (e : Option (Bound K)) → flipped s ≡ e → IsKnownBound order s
+  none_before_start : (s : Bound K) (e : Option (Bound K)) → flipped s ≡ e → IsBoundOfKey order s
       → between order (Some s) e ≡ []
   none_before_start s None turns known = refl
   none_before_start s (Some e) turns known = none_after_end e (Some s)
@@ -23,7 +23,7 @@ module _ {K : Type 0} {order : KeyOrder K} (lawful : IsLawful order) where
     -- the piece that comes first
     pub gap_first : (s e : Option (Bound K)) {items rest : List (Item (AnyRange K) V)}
         {i : Item (AnyRange K) V} (g : AnyRange K) (b : Bound K) → items ≡ i ∷ rest
-        → IsKnownRange order i.key → g ∷ [] ≡ between order s (flipped i.key.start)
+        → IsKeyRange order i.key → g ∷ [] ≡ between order s (flipped i.key.start)
         → b ≡ i.key.start → pieces_from order r s e items
         ≡ free_piece g ∷ pieces_from order r (Some b) e items
     gap_first s e {rest = rest} {i = i} g b list known is start = grind (arith, common_steps, bound_piece, pieces_from, none_before_start, free_piece)
@@ -39,7 +39,7 @@ module _ {K : Type 0} {order : KeyOrder K} (lawful : IsLawful order) where
     module _ (s e : Option (Bound K)) {items : List (Item (AnyRange K) V)}
         (init : List (Item (AnyRange K) V)) (i : Item (AnyRange K) V)
         (list : items ≡ init ++ i ∷ []) where
-      pub gap_last : (g : AnyRange K) (b : Bound K) → IsKnownRange order i.key
+      pub gap_last : (g : AnyRange K) (b : Bound K) → IsKeyRange order i.key
           → g ∷ [] ≡ between order (flipped i.key.end) e → b ≡ i.key.end
           → pieces_from order r s e items
           ≡ pieces_from order r s (Some b) items ++ free_piece g ∷ []

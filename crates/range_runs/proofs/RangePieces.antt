@@ -1,5 +1,5 @@
 -- Parts that share out a range are its pieces.
-use Rattle.range_runs.proofs.Common.{arith, common_steps, ◌≡◌, sym, subst, ap, ◌∙◌, ℕ, ◌<◌, length, get_or, Option, Some, None, Bool, List, [], ◌∷◌, ◌++◌, ◌⊎◌, inl, inr, map, if◌then◌else◌, Every, Equal, IsEquivalence, tied_back, KeyOrder, IsLawful, start_position, end_position, position_cmp, position_total, Position, equal_then_equal, AnyRange, IsKnownRange, Le, Lt, Any, le_refl, lt_le, eq_ge, le_trans, lt_not_le, not_lt, cases, both, le_lt_trans, lt_le_trans, every_at, every_weaker, line_of, common, later_is, earlier_is, lower, upper, LiesBefore, Item, EachNext, later, earlier, IsCommonPart, LiesIn, IsFreePart, IsPiece, ArePieces, Overlap}
+use Rattle.range_runs.proofs.Common.{arith, common_steps, ◌≡◌, sym, subst, ap, ◌∙◌, ℕ, ◌<◌, length, get_or, Option, Some, None, Bool, List, [], ◌∷◌, ◌++◌, ◌⊎◌, inl, inr, map, if◌then◌else◌, Every, Equal, IsEquivalence, tied_back, KeyOrder, IsLawful, start_position, end_position, position_cmp, position_total, Position, equal_then_equal, AnyRange, IsKeyRange, Le, Lt, Any, le_refl, lt_le, eq_ge, le_trans, lt_not_le, not_lt, cases, both, le_lt_trans, lt_le_trans, every_at, every_weaker, line_of, common, later_is, earlier_is, lower, upper, LiesBefore, Item, EachNext, later, earlier, IsCommonPart, LiesIn, IsFreePart, IsPiece, ArePieces, Overlap}
 use Rattle.range_algebra.specs.RangeOrder.{range_cmp}
 use Rattle.range_runs.proofs.Chains.{follows_above, chain_tail}
 use Rattle.range_algebra.proofs.Commons.{later_over as starts_over, earlier_under as ends_under}
@@ -95,8 +95,8 @@ module _ {K : Type 0} (order : KeyOrder K) (lawful : IsLawful order) where
   common_is r i = grind (arith, common_steps, starts_over, ends_under, later_over, earlier_under, both, later_is, later, either_choice_holds, earlier_is, earlier)
 
   -- a common part lies in both
-  pub common_within : (r i part : AnyRange K) → IsKnownRange order r → IsKnownRange order i
-      → IsKnownRange order part → IsCommonPart order r i part
+  pub common_within : (r i part : AnyRange K) → IsKeyRange order r → IsKeyRange order i
+      → IsKeyRange order part → IsCommonPart order r i part
       → PLe (Lo r) (Lo part) × PLe (Lo i) (Lo part) × PLe (Hi part) (Hi r) × PLe (Hi part) (Hi i)
   common_within r i part known known' known'' h =
       let latest = later_over (start_position order r.start) (start_position order i.start) in
@@ -104,16 +104,16 @@ module _ {K : Type 0} (order : KeyOrder K) (lawful : IsLawful order) where
       let at = eq_ge lawful _ _ h.starts in
       (grind (arith, common_steps, le_trans, past_le))
 
-  lies_places : (r s : AnyRange K) → IsKnownRange order r → IsKnownRange order s → LiesIn order r s
+  lies_places : (r s : AnyRange K) → IsKeyRange order r → IsKeyRange order s → LiesIn order r s
       → PLe (Lo s) (Lo r) × PLe (Hi r) (Hi s)
   lies_places r s known known' h = grind (arith, common_steps, past_le)
 
-  pub lies_in : (r s : AnyRange K) → IsKnownRange order r → IsKnownRange order s → PLe (Lo s) (Lo r)
+  pub lies_in : (r s : AnyRange K) → IsKeyRange order r → IsKeyRange order s → PLe (Lo s) (Lo r)
       → PLe (Hi r) (Hi s) → LiesIn order r s
   lies_in r s known known' h k = grind (arith, common_steps, end_le)
 
   -- ranges that do not meet lie one before the other
-  apart_of : (i r : AnyRange K) → IsKnownRange order i → IsKnownRange order r
+  apart_of : (i r : AnyRange K) → IsKeyRange order i → IsKeyRange order r
       → (Overlap order i r → ⊥) → PLe (Hi i) (Lo r) ⊎ PLe (Hi r) (Lo i)
   apart_of i r known known' none =
       let first = before_is order lawful i.end r.start known.1 known'.0 in
@@ -125,7 +125,7 @@ module _ {K : Type 0} (order : KeyOrder K) (lawful : IsLawful order) where
 
   module _ {V : Type 0} (items : List (Item (AnyRange K) V)) (r : AnyRange K) where
     abbrev pub IsFull : Item (AnyRange K) V → Type 0
-    IsFull i = IsKnownRange order i.key × PLt (Lo i.key) (Hi i.key)
+    IsFull i = IsKeyRange order i.key × PLt (Lo i.key) (Hi i.key)
 
     -- an open part of the range: it meets no item, and is bounded by the range or by items
     pub record IsOpenPart (key : AnyRange K) : Type 0 where
@@ -143,7 +143,7 @@ module _ {K : Type 0} (order : KeyOrder K) (lawful : IsLawful order) where
     -- a nonempty part between the places of the range
     abbrev pub IsInside : AnyRange K → Type 0
     IsInside key =
-        IsKnownRange order key × PLe (Lo r) (Lo key) × PLt (Lo key) (Hi key) × PLe (Hi key) (Hi r)
+        IsKeyRange order key × PLe (Lo r) (Lo key) × PLt (Lo key) (Hi key) × PLe (Hi key) (Hi r)
 
     -- parts that share out the range, each before the next
     pub record AreCut (pieces : List (Item (AnyRange K) (Option V))) : Type 0 where
@@ -153,7 +153,7 @@ module _ {K : Type 0} (order : KeyOrder K) (lawful : IsLawful order) where
       pub covered : (m : Position K) → PLe (Lo r) m → PLt m (Hi r)
           → Any (λ p. PLe (Lo p.key) m × PLt m (Hi p.key)) pieces
 
-    module _ (known_r : IsKnownRange order r) where
+    module _ (known_r : IsKeyRange order r) where
       module _ (full : Every IsFull items) where
         free_part : (key : AnyRange K) → IsInside key → IsOpenPart key
             → IsFreePart order items r key
@@ -238,14 +238,14 @@ module _ {K : Type 0} (order : KeyOrder K) (lawful : IsLawful order) where
               any_use _ _ xs h (follows_above (line_of order lawful same equal) x xs chain.1)
               (λ i g le. absurd (lt_not_le lawful _ _ k.1.1 (le_trans lawful _ _ _ le g.1.0)))
 
-          common_held : (p : Position K) (key : AnyRange K) (v : V) → IsKnownRange order key
+          common_held : (p : Position K) (key : AnyRange K) (v : V) → IsKeyRange order key
               → Any (λ i. IsCommonPart order r i.key key × (i.value ≡ v)) items → PLe (Lo key) p
               → PLt p (Hi key)
               → Any (λ i. (IsCommonPart order r i.key key × (i.value ≡ v)) × Holding p i) items
           common_held p key v known h from upto = grind (arith, common_steps, any_with, common_within, le_trans, lt_le_trans)
 
           pub common_place_is_not_clear : (p : Position K) (key clear : AnyRange K) (v : V)
-              → IsKnownRange order key
+              → IsKeyRange order key
               → Any (λ i. IsCommonPart order r i.key key × (i.value ≡ v)) items → PLe (Lo key) p
               → PLt p (Hi key)
               → Every (λ i. PLe (Hi i.key) (Lo clear) ⊎ PLe (Hi clear) (Lo i.key)) items
@@ -259,7 +259,7 @@ module _ {K : Type 0} (order : KeyOrder K) (lawful : IsLawful order) where
           -- a piece whose start lies in a part that is right is that part
           same_piece : (key part : AnyRange K) (value binding : Option V)
               → Chained order lawful same equal items → IsInside key → IsRight key value
-              → IsKnownRange order part → IsPiece order items r part binding
+              → IsKeyRange order part → IsPiece order items r part binding
               → PLe (Lo key) (Lo part) → PLt (Lo part) (Hi key)
               → (range_cmp order key part ≡ Equal) × (value ≡ binding)
           same_piece key part (Some w) (Some v) chain inside h known piece from upto =
@@ -281,7 +281,7 @@ module _ {K : Type 0} (order : KeyOrder K) (lawful : IsLawful order) where
           same_piece key part None None chain inside h known piece from upto = grind (arith, common_steps, free_inside, lies_in, inside, ends_before, free_apart, equal_then_equal, both, free_part)
 
       piece_inside : (full : Every IsFull items) (part : AnyRange K) (binding : Option V)
-          → IsKnownRange order part → IsPiece order items r part binding
+          → IsKeyRange order part → IsPiece order items r part binding
           → PLe (Lo r) (Lo part) × PLt (Lo part) (Hi r)
       piece_inside full part None known piece = grind (arith, common_steps, free_inside, lt_le_trans)
       piece_inside full part (Some v) known piece = any_use _ _ items piece.1 full (λ i c f.

@@ -1,5 +1,5 @@
 -- The items that a range meets are one run of a stored list.
-use Rattle.range_runs.proofs.Common.{common_steps, PLe, PLt, lower, Every, any_none, any_left, any_right, any_split, every_at, list_is_take_and_drop, drop_all, unbounded_end, IsKnownBound, with_bounds, AnyRange, MeetsSome, IsStored, KeyOrder, IsLawful, start_position, end_position, position_cmp, Position, AreOverlapping, le_refl, lt_le, le_trans, lt_not_le, le_lt_trans, place_before, Item, ◌≡◌, refl, sym, ap, ◌∙◌, ℕ, zero, suc, ◌+◌, ◌-◌, ◌<◌, ◌≤◌, Bool, true, false, List, [], ◌∷◌, ◌++◌, length, take, drop, get_or, arith, Option, Some, None, inl, inr, drop-drop, IsEquivalence, is_gt, MatchOption, Bound, Included, Unbounded, IsFound, IsLastStarting, place_after}
+use Rattle.range_runs.proofs.Common.{common_steps, PLe, PLt, lower, Every, any_none, any_left, any_right, any_split, every_at, list_is_take_and_drop, drop_all, unbounded_end, IsBoundOfKey, with_bounds, AnyRange, MeetsSome, IsStored, KeyOrder, IsLawful, start_position, end_position, position_cmp, Position, AreOverlapping, le_refl, lt_le, le_trans, lt_not_le, le_lt_trans, rank_or_len, Item, ◌≡◌, refl, sym, ap, ◌∙◌, ℕ, zero, suc, ◌+◌, ◌-◌, ◌<◌, ◌≤◌, Bool, true, false, List, [], ◌∷◌, ◌++◌, length, take, drop, get_or, arith, Option, Some, None, inl, inr, drop-drop, IsEquivalence, is_gt, MatchOption, Bound, Included, Unbounded, IsFound, IsLastStarting, index_after}
 use Rattle.range_runs.proofs.Forms.{every_front, every_back}
 use Rattle.range_runs.proofs.Found.{starts_rise, stored_tail, every_nonempty}
 use Rattle.range_runs.proofs.Listed.{IsListed, stored_list_is_listed}
@@ -20,7 +20,7 @@ module _ {K : Type 0} {order : KeyOrder K} (lawful : IsLawful order) where
   End i = end_position order i.key.end
 
   -- the end of all keys is the last
-  pub ends_full : (e : Bound K) → IsKnownBound order e
+  pub ends_full : (e : Bound K) → IsBoundOfKey order e
       → PLe lawful (end_position order e) (end_position order Unbounded)
   ends_full e known = end_le order lawful e Unbounded known tt (unbounded_end order lawful e known)
 
@@ -104,17 +104,17 @@ module _ {K : Type 0} {order : KeyOrder K} (lawful : IsLawful order) {V : Type 0
   pub overlapping_found : (r : AnyRange K) (p e : Position K) → p ≡ start_position order r.start
       → e ≡ end_position order r.end → (before first last : Option P)
       → IsFound order is_good rank items p before first
-      → IsLastStarting order is_good rank items e last (place_after rank last)
+      → IsLastStarting order is_good rank items e last (index_after rank last)
       → AreOverlapping order items r
-      (take (place_after rank last - place_before rank (length items) first)
-      (drop (place_before rank (length items) first) items))
+      (take (index_after rank last - rank_or_len rank (length items) first)
+      (drop (rank_or_len rank (length items) first) items))
   overlapping_found r p e low high before first last found ends = overlapping_are lawful r items
-      (place_before rank (length items) first) (place_after rank last) (rw low at found.below)
+      (rank_or_len rank (length items) first) (index_after rank last) (rw low at found.below)
       (rw low at found.above) (rw high at ends.upto) (rw high at ends.past)
 
   at_end : (last : Option P)
       → MatchOption last (items ≡ []) (λ p. is_good p × (rank p + 1 ≡ length items))
-      → place_after rank last ≡ length items
+      → index_after rank last ≡ length items
   at_end None h = rw h refl
   at_end (Some p) h = h.1
 
@@ -123,17 +123,17 @@ module _ {K : Type 0} {order : KeyOrder K} (lawful : IsLawful order) {V : Type 0
       → IsFound order is_good rank items (start_position order (Included k)) before first
       → MatchOption last (items ≡ []) (λ p. is_good p × (rank p + 1 ≡ length items))
       → AreOverlapping order items (with_bounds (Included k) Unbounded)
-      (take (place_after rank last - place_before rank (length items) first)
-      (drop (place_before rank (length items) first) items))
+      (take (index_after rank last - rank_or_len rank (length items) first)
+      (drop (rank_or_len rank (length items) first) items))
   found_from k key before first last found is_last =
       let upper : Position K = end_position order Unbounded in
       let all : Every (λ i. PLe lawful (lower order i.key) upper) items = every_with _ _ _ items
       (every_nonempty order lawful same items (stored_list_is_listed order lawful same items
       stored)) stored.known (λ i own known. le_trans lawful _ _ _ own
       (ends_full lawful i.key.end known.1)) in
-      let b = place_after rank last in
+      let b = index_after rank last in
       overlapping_are lawful (with_bounds (Included k) Unbounded) items
-      (place_before rank (length items) first) b found.below found.above (every_front _ b items all)
+      (rank_or_len rank (length items) first) b found.below found.above (every_front _ b items all)
       (rw (drop_all items b (at_end last is_last)) tt)
 
 -- the last of the items that lie together stands at the last of their indices

@@ -1,6 +1,6 @@
 -- Two chains sewn together at a place: below it stands what the one holds, and from it on what the
 -- other does.
-use Rattle.range_runs.proofs.Common.{arith, common_steps, ◌≡◌, refl, ℕ, suc, ◌+◌, length, get_or, Bool, true, List, [], ◌∷◌, ◌++◌, ◌↔◌, inl, inr, append-nil, Every, Equal, Le, Lt, any_left, any_right, any_split, every_weaker, every_append, Line, Leads, IsChain, Has, Respects, Leading, IsLeft, IsRight, IsSpliced}
+use Rattle.range_runs.proofs.Common.{arith, common_steps, ◌≡◌, refl, ℕ, suc, ◌+◌, length, get_or, Bool, true, List, [], ◌∷◌, ◌++◌, ◌↔◌, inl, inr, append-nil, Every, Equal, Le, Lt, any_left, any_right, any_split, every_weaker, every_append, Line, Leads, IsChain, Has, Respects, Leading, IsLeft, IsRight, IsFilledWith}
 use Rattle.range_runs.proofs.Chains.{same_is_symmetric, chain_left, chain_right, follows_above, follows_like, strictly_leads, chain_before, chains_join, cases, lt_le, eq_le, eq_ge, le_trans, lt_le_trans, le_lt_trans}
 use Rattle.range_runs.proofs.ChainSides.{none_below, none_above, only_first, only_second, like_item, leading_like}
 
@@ -34,7 +34,7 @@ module _ {L V X : Type 0} (line : Line L V X) where
 
   -- a list that is sewn in at two places stands between them
   pub sewn_between : {items middle body new : List X} {c d : L} → Lt line.cmp c d
-      → IsSewn items middle body c → IsSewn body items new d → IsSpliced line items middle new c d
+      → IsSewn items middle body c → IsSewn body items new d → IsFilledWith line items middle new c d
   sewn_between {c = c} {d = d} l first second = grind (arith, common_steps, through, lt_le_trans, lt_le)
 
   chain_apart : (front back : List X) (c : L) → IsChain line front → IsChain line back

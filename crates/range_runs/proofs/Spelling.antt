@@ -1,5 +1,5 @@
 -- Which bounds are written as those of a list that lie at the same places.
-use Rattle.range_runs.proofs.Common.{common_steps, ◌≡◌, refl, sym, subst, ◌∙◌, ℕ, zero, suc, ◌-◌, arith, Option, Some, None, Bool, List, [], ◌∷◌, ◌++◌, ◌⊎◌, inl, inr, length, get_or, append_assoc, if◌then◌else◌, Every, slice_set, Bound, Ordering, Less, Equal, Greater, is_lt, is_gt, IsEquivalence, KeyOrder, IsLawful, start_position, end_position, position_total, Position, AnyRange, IsBoundClone, SameBound, same_itself, common, lower, upper, le_refl, lt_le, eq_le, eq_ge, lt_not_le, lt_le_trans, le_lt_trans, PLe, PLt, IsKnownRange, gt_le, every_weaker, every_append, every_left, every_right, every_at, reaching_is_before_past, Item, IsPut, line_of, flipped_bound, with_end, IsStartAsIn, IsEndAsIn, IsSpelledAsIn, KeepsSpelling, position_cmp}
+use Rattle.range_runs.proofs.Common.{common_steps, ◌≡◌, refl, sym, subst, ◌∙◌, ℕ, zero, suc, ◌-◌, arith, Option, Some, None, Bool, List, [], ◌∷◌, ◌++◌, ◌⊎◌, inl, inr, length, get_or, append_assoc, if◌then◌else◌, Every, slice_set, Bound, Ordering, Less, Equal, Greater, is_lt, is_gt, IsEquivalence, KeyOrder, IsLawful, start_position, end_position, position_total, Position, AnyRange, IsBoundClone, SameBound, same_itself, common, lower, upper, le_refl, lt_le, eq_le, eq_ge, lt_not_le, lt_le_trans, le_lt_trans, PLe, PLt, IsKeyRange, gt_le, every_weaker, every_append, every_left, every_right, every_at, reaching_is_before_past, Item, IsPut, line_of, flipped_bound, with_end, IsStartAsIn, IsEndAsIn, IsSpelledAsIn, KeepsSpelling, position_cmp}
 use Rattle.range_runs.proofs.Chains.{chain_before, chain_right, follows_above}
 use Rattle.range_runs.proofs.CutParts.{cut_end, cut_start, known_turned, same_turned}
 use Rattle.range_runs.proofs.RangePieces.{every_with}
@@ -43,7 +43,7 @@ every_set P (x ∷ xs) (suc k) y all own = (all.0, every_set P xs k y all.1 own)
 module _ {K : Type 0} {order : KeyOrder K} (lawful : IsLawful order) where
   -- a known range starts below the place past its end
   abbrev IsOpen : AnyRange K → Type 0
-  IsOpen s = IsKnownRange order s × PLt lawful (lower order s) (upper order s)
+  IsOpen s = IsKeyRange order s × PLt lawful (lower order s) (upper order s)
 
   -- the place lies between the start of the range and its end
   abbrev Spans : AnyRange K → Position K → Type 0
@@ -65,7 +65,7 @@ module _ {K : Type 0} {order : KeyOrder K} (lawful : IsLawful order) where
 
   -- what lies apart from a range has none of its places
   off_apart : (side : RangeSide) (s x : AnyRange K) (p : Position K) → IsOpen s
-      → IsKnownRange order x
+      → IsKeyRange order x
       → PLe lawful (upper order s) (lower order x) ⊎ PLe lawful (upper order x) (lower order s)
       → Spans x p → IsOff side p s
   off_apart side s x p whole known (inl le) within = λ e.
@@ -130,7 +130,7 @@ module _ {K : Type 0} {order : KeyOrder K} (lawful : IsLawful order) where
             within_is_kept side (bound_on side x.key) b clone (spans_own side x.key own) (λ e. refl)
 
         -- what it has in common with a range
-        module _ (r : AnyRange K) (known_r : IsKnownRange order r)
+        module _ (r : AnyRange K) (known_r : IsKeyRange order r)
             (starts : PLt lawful (lower order x.key) (upper order r))
             (ends : PLt lawful (lower order r) (upper order x.key)) where
           common_start_by : (b : Bound K) (o : Ordering)
@@ -155,7 +155,7 @@ module _ {K : Type 0} {order : KeyOrder K} (lawful : IsLawful order) where
           common_is_kept EndSide b h = common_end_by b _ refl h
 
         -- an end just before the start of a range that it reaches from before
-        pub cut_end_is_kept : (r : AnyRange K) → IsKnownRange order r
+        pub cut_end_is_kept : (r : AnyRange K) → IsKeyRange order r
             → PLt lawful (lower order x.key) (lower order r)
             → PLt lawful (lower order r) (upper order x.key) → (b : Bound K)
             → SameBound order (flipped_bound r.start) b → IsEndAsIn order items b
@@ -170,7 +170,7 @@ module _ {K : Type 0} {order : KeyOrder K} (lawful : IsLawful order) where
             within_is_kept EndSide a b clone (grind (arith, common_steps, reaching_is_before_past, own, lt_le_trans, eq_ge, lt_le)) (λ e. absurd (lt_not_le lawful _ _ high (eq_le lawful _ _ e)))
 
         -- a start just after the end of a range out of which it reaches
-        pub cut_start_is_kept : (r : AnyRange K) → IsKnownRange order r
+        pub cut_start_is_kept : (r : AnyRange K) → IsKeyRange order r
             → PLt lawful (lower order x.key) (upper order r)
             → PLt lawful (upper order r) (upper order x.key) → (b : Bound K)
             → SameBound order (flipped_bound r.end) b → IsStartAsIn order items b

@@ -1,5 +1,5 @@
 -- The items that a range meets, by places.
-use Rattle.range_runs.proofs.Common.{common_steps, ◌≡◌, ℕ, suc, ◌+◌, ◌-◌, ◌<◌, ◌≤◌, List, [], ◌∷◌, ◌++◌, length, take, drop, get_or, arith, ◌∙◌, sym, ap, Option, Bool, length-drop, IsEquivalence, drop_more, take_more, get_or-drop, Every, KeyOrder, IsLawful, start_position, end_position, Position, AnyRange, IsEmptyRange, IsKnownRange, Item, place_before, line_of, lower, upper, item_lower, IsStored, IsFound, IsWalk, IsWindow, reaching_is_before_past, every_at, list_is_take_and_drop, every_weaker, PLe, PLt}
+use Rattle.range_runs.proofs.Common.{common_steps, ◌≡◌, ℕ, suc, ◌+◌, ◌-◌, ◌<◌, ◌≤◌, List, [], ◌∷◌, ◌++◌, length, take, drop, get_or, arith, ◌∙◌, sym, ap, Option, Bool, length-drop, IsEquivalence, drop_more, take_more, get_or-drop, Every, KeyOrder, IsLawful, start_position, end_position, Position, AnyRange, IsEmptyRange, IsKeyRange, Item, rank_or_len, line_of, lower, upper, item_lower, IsStored, IsFound, IsWalk, IsWindow, reaching_is_before_past, every_at, list_is_take_and_drop, every_weaker, PLe, PLt}
 use Rattle.range_runs.proofs.Chains.{chain_above, chain_right}
 use Rattle.range_runs.proofs.Forms.{every_front, every_back, before_is, Known, Chained, stored_chain}
 
@@ -11,7 +11,7 @@ every_both P Q (x ∷ xs) h k = ((h.0, k.0), every_both P Q xs h.1 k.1)
 module _ {K : Type 0} (order : KeyOrder K) (lawful : IsLawful order) {V : Type 0}
     (same : V → V → Bool) (equal : IsEquivalence same) where
   rest_starts_after_range : (e : Position K) (r : AnyRange K) (ys : List (Item (AnyRange K) V))
-      → e ≡ end_position order r.end → IsKnownRange order r → Known order lawful same equal ys
+      → e ≡ end_position order r.end → IsKeyRange order r → Known order lawful same equal ys
       → Chained order lawful same equal ys → ((d : Item (AnyRange K) V) → 0 < length ys
       → PLt lawful e (start_position order (get_or ys 0 d).key.start))
       → Every (λ i. PLe lawful (upper order r) (item_lower order i)) ys
@@ -24,16 +24,16 @@ module _ {K : Type 0} (order : KeyOrder K) (lawful : IsLawful order) {V : Type 0
   pub window_is : {P : Type 0} (is_good : P → Type 0) (rank : P → ℕ)
       (items : List (Item (AnyRange K) V)) (r : AnyRange K) (p e : Position K)
       (before from last after : Option P) (count : ℕ) →
-      IsKnownRange order r → (IsEmptyRange order r → ⊥) → IsStored order same items
+      IsKeyRange order r → (IsEmptyRange order r → ⊥) → IsStored order same items
       → p ≡ lower order r → e ≡ end_position order r.end →
       IsFound order is_good rank items p before from → IsWalk order is_good rank items e
-      (place_before rank (length items) from) count last after →
+      (rank_or_len rank (length items) from) count last after →
       IsWindow order same is_good rank items r
       (record { before = before; from = from; count = count; last = last; after = after })
-      (place_before rank (length items) from)
+      (rank_or_len rank (length items) from)
   window_is is_good rank items r p e before from last after count known nonempty stored at_start
       at_end found walk =
-      let place = place_before rank (length items) from in
+      let place = rank_or_len rank (length items) from in
       let all = stored.known in
       let end = place + count in
       let chain : Chained order lawful same equal (take end items ++ drop end items) =

@@ -1,13 +1,12 @@
--- Items over intervals of places, each before the next, and touching only beside another value:
--- what is cut out of them and put
--- between.
+-- Items over intervals of positions, each before the next, and touching only beside another
+-- value: what is cut out of them and put between.
 use Rattle.std.specs.Prelude.{◌≡◌, ◌∷◌, ◌⊎◌, ◌↔◌}
 use Rattle.range_runs.specs.Common.{Every, Bool, true, List, [], IsTotalOrder, IsEquivalence, KeyOrder, IsLawful, position_cmp, Position, Le, Lt, Any, AnyRange, Item}
 use Rattle.std.specs.declared.cmp.Ordering.{Ordering}
 use Rattle.range_keys.specs.PositionOrder.{position_total}
 use Rattle.range_runs.specs.Stored.{item_lower, item_upper}
 
--- a line of places: their order, which values are equal, and of an item where it starts and ends
+-- a line of positions: their order, which values are equal, and of an item where it starts and ends
 -- and its value
 pub record Line (L V X : Type 0) : Type 0 where
   pub cmp : L → L → Ordering
@@ -22,7 +21,7 @@ module _ {L V X : Type 0} (line : Line L V X) where
   abbrev pub Good : X → Type 0
   Good x = Lt line.cmp (line.lo x) (line.hi x)
 
-  -- the item ends at the place at most, and just there only beside another value
+  -- the item ends at the position at most, and just there only beside another value
   abbrev pub Leads : X → L → V → Type 0
   Leads x p v =
       Le line.cmp (line.hi x) p
@@ -39,7 +38,7 @@ module _ {L V X : Type 0} (line : Line L V X) where
   abbrev pub Held : L → X → Type 0
   Held p x = Le line.cmp (line.lo x) p × Lt line.cmp p (line.hi x)
 
-  -- some item holds the place with such a value
+  -- some item holds the position with such a value
   abbrev pub Has : (V → Bool) → L → List X → Type 0
   Has W p = Any (λ x. Held p x × (W (line.value x) ≡ true))
 
@@ -47,24 +46,24 @@ module _ {L V X : Type 0} (line : Line L V X) where
   abbrev pub Respects : (V → Bool) → Type 0
   Respects W = (a b : V) → line.same a b ≡ true → W a ≡ true → W b ≡ true
 
-  -- each of the items leads to the place
+  -- each of the items leads to the position
   abbrev pub Leading : L → V → List X → Type 0
   Leading p v xs = Every (λ x. Leads x p v) xs
 
-  -- the items below a place are these
+  -- the items below a position are these
   pub record IsLeft (items kept : List X) (c : L) : Type 0 where
     pub chain : IsChain kept
     pub ends : Every (λ x. Le line.cmp (line.hi x) c) kept
     pub holds : (p : L) (W : V → Bool) → Respects W → Lt line.cmp p c → Has W p kept ↔ Has W p items
 
-  -- the items from a place on are these
+  -- the items from a position on are these
   pub record IsRight (items kept : List X) (d : L) : Type 0 where
     pub chain : IsChain kept
     pub starts : Every (λ x. Le line.cmp d (line.lo x)) kept
     pub holds : (p : L) (W : V → Bool) → Respects W → Le line.cmp d p → Has W p kept ↔ Has W p items
 
-  -- what a chain becomes where the places from `c` up to `d` hold what is said, and all others what
-  -- they held
+  -- what a chain becomes where the positions from `c` up to `d` hold what is said, and all others
+  -- what they held
   pub record IsMade (items new : List X) (c d : L)
       (Holds : L → (V → Bool) → Type 0) : Type 0 where
     pub chain : IsChain new
@@ -82,8 +81,8 @@ module _ {L V X : Type 0} (line : Line L V X) where
   IsUnbound items new c d = IsMade items new c d (λ p W. ⊥)
 
   -- it holds what the middle does
-  abbrev pub IsSpliced : List X → List X → List X → L → L → Type 0
-  IsSpliced items middle new c d = IsMade items new c d (λ p W. Has W p middle)
+  abbrev pub IsFilledWith : List X → List X → List X → L → L → Type 0
+  IsFilledWith items middle new c d = IsMade items new c d (λ p W. Has W p middle)
 
 -- the line of positions on which stored items lie
 abbrev pub line_of : {K : Type 0} (order : KeyOrder K) (lawful : IsLawful order) {V : Type 0}

@@ -12,10 +12,10 @@ pub use Rattle.range_algebra.specs.Clones.{IsBoundClone, SameBound}
 pub use Rattle.range_algebra.specs.Compared.{flipped, is_before, range_ordering, starts_past_end}
 pub use Rattle.range_algebra.specs.Cuts.{lower, upper}
 pub use Rattle.range_algebra.specs.Intervals.{Any, Le, Lt}
-pub use Rattle.range_algebra.specs.Range.{HoldSame, Holds, IsEmptyRange, IsKeyless, IsKnownBound, IsKnownRange}
+pub use Rattle.range_algebra.specs.Range.{HoldSame, Holds, IsEmptyRange, IsKeyless, IsBoundOfKey, IsKeyRange}
 pub use Rattle.range_algebra.specs.Relations.{AreBelow, AreJoined, LiesBefore, Touches}
 pub use Rattle.range_algebra.specs.declared.any.AnyRange.{AnyRange}
-pub use Rattle.range_store.specs.ListPlaces.{IsAt, place_before}
+pub use Rattle.range_store.specs.ListRanks.{IsAt, rank_or_len}
 pub use Rattle.range_store.specs.declared.storage.Item.{Item}
 pub use Rattle.range_runs.specs.declared.window.Window.{Window}
 pub use denote.Ref.{Bor}

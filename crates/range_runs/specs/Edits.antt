@@ -16,12 +16,12 @@ with_start i b = record i { key = record i.key { start = b } }
 abbrev pub with_end : {K V : Type 0} → Item (AnyRange K) V → Bound K → Item (AnyRange K) V
 with_end i b = record i { key = record i.key { end = b } }
 
--- the item at the place is edited so, and each other stands
+-- the item at the index is edited so, and each other stands
 abbrev pub IsEditedAt : {T : Type 0} → List T → List T → ℕ → (T → T) → Type 0
-IsEditedAt {T} items new place edited = (d : T)
-    → new ≡ slice_set items place (edited (slice_index_or items place d))
+IsEditedAt {T} items new index edited = (d : T)
+    → new ≡ slice_set items index (edited (slice_index_or items index d))
 
--- each good position is good afterwards, and names the same place
+-- each good position is good afterwards, and names the same index
 abbrev pub KeepsPositions : {S P : Type 0} → (S → P → Type 0) → (S → P → ℕ) → S → S → Type 0
 KeepsPositions {S} {P} is_good rank old new = (p : P) → is_good old p
     → is_good new p × (rank new p ≡ rank old p)

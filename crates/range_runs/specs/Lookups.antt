@@ -1,6 +1,6 @@
 -- What a range meets among the stored ones, and where it stands once it is put among them.
 use Rattle.std.specs.Prelude.{◌≡◌, ◌≤◌, ◌⊎◌, ◌↔◌}
-use Rattle.range_runs.specs.Common.{ℕ, List, length, insert, KeyOrder, Any, Holds, IsEmptyRange, IsKnownRange, AnyRange, Item, Touches, LiesBefore}
+use Rattle.range_runs.specs.Common.{ℕ, List, length, insert, KeyOrder, Any, Holds, IsEmptyRange, IsKeyRange, AnyRange, Item, Touches, LiesBefore}
 use Rattle.range_runs.specs.Bindings.{IsBound}
 
 -- neither lies before the other
@@ -21,7 +21,7 @@ module _ {K : Type 0} (order : KeyOrder K) where
     -- earlier list, and nowhere else
     abbrev pub MeetAlso : List (Item (AnyRange K) V) → List (Item (AnyRange K) V) → AnyRange K
         → Type 0
-    MeetAlso before after r = (s : AnyRange K) → IsKnownRange order s → (¬ IsEmptyRange order s)
+    MeetAlso before after r = (s : AnyRange K) → IsKeyRange order s → (¬ IsEmptyRange order s)
         → MeetsSome after s ↔ (Overlap order r s ⊎ MeetsSome before s)
 
     -- some stored range meets or touches it
@@ -38,4 +38,4 @@ module _ {K : Type 0} (order : KeyOrder K) where
 
 -- the one list with an item put in somewhere is the other
 abbrev pub IsPutInto : {T : Type 0} → List T → List T → T → Type 0
-IsPutInto before after x = (place : ℕ) × (place ≤ length before) × (after ≡ insert before place x)
+IsPutInto before after x = (index : ℕ) × (index ≤ length before) × (after ≡ insert before index x)

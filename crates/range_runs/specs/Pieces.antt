@@ -1,6 +1,6 @@
 -- The parts of a range that the items of a list bind, and those that they leave free.
 use Rattle.std.specs.Prelude.{◌≡◌, if◌then◌else◌}
-use Rattle.range_runs.specs.Common.{Every, List, Option, Some, None, Equal, KeyOrder, start_position, end_position, position_cmp, Position, Le, Any, IsKnownRange, IsEmptyRange, AnyRange, Item, LiesBefore}
+use Rattle.range_runs.specs.Common.{Every, List, Option, Some, None, Equal, KeyOrder, start_position, end_position, position_cmp, Position, Le, Any, IsKeyRange, IsEmptyRange, AnyRange, Item, LiesBefore}
 use Rattle.std.specs.Ordering.{is_gt}
 use Rattle.range_algebra.specs.RangeOrder.{range_cmp}
 use Rattle.range_runs.specs.Neighbours.{EachNext}
@@ -29,7 +29,7 @@ module _ {K : Type 0} (order : KeyOrder K) where
   module _ {V : Type 0} (items : List (Item (AnyRange K) V)) (r : AnyRange K) where
     -- a nonempty range within r that meets no item
     pub record IsFreePart (part : AnyRange K) : Type 0 where
-      pub known : IsKnownRange order part
+      pub known : IsKeyRange order part
       pub nonempty : ¬ IsEmptyRange order part
       pub within : LiesIn part r
       pub free : Every (λ i. ¬ Overlap order i.key part) items
@@ -47,6 +47,6 @@ module _ {K : Type 0} (order : KeyOrder K) where
     pub record ArePieces (pieces : List (Item (AnyRange K) (Option V))) : Type 0 where
       pub each : Every (λ p. IsPiece p.key p.value) pieces
       pub rising : EachNext (λ p q. LiesBefore order p.key q.key) pieces
-      pub all : (part : AnyRange K) (binding : Option V) → IsKnownRange order part
+      pub all : (part : AnyRange K) (binding : Option V) → IsKeyRange order part
           → IsPiece part binding
           → Any (λ p. (range_cmp order p.key part ≡ Equal) × (p.value ≡ binding)) pieces

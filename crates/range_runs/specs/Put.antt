@@ -1,6 +1,6 @@
 -- How an answer is added to those before it.
 use Rattle.std.specs.Prelude.{◌≡◌, ◌-◌, ◌<◌, ◌⊎◌, ◌∷◌, ◌++◌}
-use Rattle.range_runs.specs.Common.{Bool, true, List, [], length, slice_index_or, slice_set, Option, Some, None, Bound, KeyOrder, IsBoundClone, IsKnownBound, Touches, AnyRange, Item}
+use Rattle.range_runs.specs.Common.{Bool, true, List, [], length, slice_index_or, slice_set, Option, Some, None, Bound, KeyOrder, IsBoundClone, IsBoundOfKey, Touches, AnyRange, Item}
 use Rattle.range_runs.specs.Edits.{with_end}
 
 module _ {K : Type 0} (order : KeyOrder K) {V : Type 0} (same : V → V → Bool) where
@@ -25,7 +25,7 @@ module _ {K : Type 0} (order : KeyOrder K) {V : Type 0} (same : V → V → Bool
       pub end : Bound K
       pub start_clone : IsBoundClone is_clone r.start start
       pub end_clone : IsBoundClone is_clone r.end end
-      pub known : IsKnownBound order start × IsKnownBound order end
+      pub known : IsBoundOfKey order start × IsBoundOfKey order end
       pub list : new ≡ old ++ record { key = record { start = start; end = end }; value = v } ∷ []
       pub apart : JoinsNoLast old r v
 
@@ -34,7 +34,7 @@ module _ {K : Type 0} (order : KeyOrder K) {V : Type 0} (same : V → V → Bool
         (v : V) : Type 0 where
       pub end : Bound K
       pub end_clone : IsBoundClone is_clone r.end end
-      pub known : IsKnownBound order end
+      pub known : IsBoundOfKey order end
       pub list : (d : Item (AnyRange K) V)
           → new ≡ slice_set old (length old - 1)
           (with_end (slice_index_or old (length old - 1) d) end)

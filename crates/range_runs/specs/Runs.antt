@@ -19,9 +19,9 @@ module _ {K : Type 0} (order : KeyOrder K) {V : Type 0} where
     pub above : Every (λ i. LiesBefore order r i.key) after
 
 -- two good positions in order, unless there are none
-abbrev pub IsRun : {P : Type 0} → (P → Type 0) → (P → ℕ) → Option (P × P) → Type 0
-IsRun is_good rank None = ⊤
-IsRun is_good rank (Some ends) = is_good ends.0 × is_good ends.1 × (rank ends.0 ≤ rank ends.1)
+abbrev pub AreRunEnds : {P : Type 0} → (P → Type 0) → (P → ℕ) → Option (P × P) → Type 0
+AreRunEnds is_good rank None = ⊤
+AreRunEnds is_good rank (Some ends) = is_good ends.0 × is_good ends.1 × (rank ends.0 ≤ rank ends.1)
 
 -- the items from the one position to the other
 abbrev pub run_items : {P X : Type 0} → (P → ℕ) → List X → Option (P × P) → List X

@@ -1,4 +1,5 @@
--- How the bounds of a new list are written, where those of an earlier one lay at the same places.
+-- How the bounds of a new list are written, where those of an earlier one lay at the same
+-- positions.
 use Rattle.std.specs.Prelude.{◌≡◌}
 use Rattle.range_runs.specs.Common.{Every, List, Equal, Bound, KeyOrder, start_position, end_position, position_cmp, SameBound, AnyRange, Item}
 

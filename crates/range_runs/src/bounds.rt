@@ -4,7 +4,7 @@ ghost use Rattle.std.specs.Option.{option_map};
 ghost use Rattle.range_keys.specs.Position.{bound_of};
 ghost use Rattle.range_algebra.specs.Clones.{IsBoundClone, SameBound};
 ghost use Rattle.range_algebra.specs.Compared.{flipped};
-ghost use Rattle.range_algebra.specs.Range.{ClonesAreEqual, IsKnownBound};
+ghost use Rattle.range_algebra.specs.Range.{ClonesAreEqual, IsBoundOfKey};
 ghost use Rattle.range_runs.specs.Clones.{ClonesNeverFail};
 ghost use Rattle.range_runs.specs.Edits.{flipped_bound};
 
@@ -36,7 +36,7 @@ pub fn flip_bound<K>(bound: Bound<K>) -> Bound<K>
 
 /// Does nothing, and promises that the bound is a key.
 pub fn known_bound<K: PartialEnum>(bound: &Bound<K>)
-    ensures { IsKnownBound K.order bound.now }
+    ensures { IsBoundOfKey K.order bound.now }
 {
     match bound {
         Bound::Included(key) | Bound::Excluded(key) => key.known(),
@@ -61,7 +61,7 @@ fn flip_clone<K: Clone>(bound: Bound<&K>) -> Result<Bound<K>, AllocError>
 /// of its value.
 pub fn cut_bound<K: PartialEnum + Clone>(bound: Bound<&K>) -> Result<Bound<K>, AllocError>
     requires { ClonesAreEqual K.is_clone K.eq }
-    ensures known { IfOk result (λ cut. IsKnownBound K.order cut) }
+    ensures known { IfOk result (λ cut. IsBoundOfKey K.order cut) }
     ensures flipped { IfOk result
         (λ cut. SameBound K.order (flipped_bound (bound_of bound.entry)) cut) }
     ensures succeeds { ClonesNeverFail K.is_infallible → IsOk result }

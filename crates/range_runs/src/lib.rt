@@ -13,7 +13,7 @@
 //!   `proofs/{RangePieces,PieceLists,PieceSteps}.antt`
 //! - what a closure returns for each of them, as one list: `src/answers.rt`,
 //!   `specs/{Answers,Put}.antt`, `proofs/{AnswerLists,PieceAnswers}.antt`
-//! - chains of intervals with values on a line of places, and two sewn together at one:
+//! - chains of intervals with values on a line of positions, and two sewn together at one:
 //!   `specs/Chains.antt`, `proofs/{Chains,ChainSides,Sewn}.antt`
 //! - what a change leaves as it was, and puts in the place of the rest: `specs/Frames.antt`
 //! - which bounds an update leaves as they are written: `specs/Spelling.antt`,

@@ -5,7 +5,7 @@ ghost use Rattle.std.specs.Option.{option_map};
 ghost use Rattle.range_keys.specs.Position.{bound_of};
 ghost use Rattle.range_algebra.specs.Combined.{common};
 ghost use Rattle.range_algebra.specs.References.{range_of};
-ghost use Rattle.range_store.specs.ListPlaces.{place_before};
+ghost use Rattle.range_store.specs.ListRanks.{rank_or_len};
 ghost use Rattle.range_runs.specs.PieceLists.{between, pieces_of, shown_piece};
 ghost use Rattle.range_runs.specs.Window.{IsWindowOf, option_items};
 
@@ -74,9 +74,9 @@ pub fn pieces_within<'a, K: Measure, V: Eq + Drop, C: Storage<Item<AnyRange<K>, 
 ) -> Pieces<'a, K, V, C>
     requires window { IsWindowOf K.order V.eq C.is_good C.rank C.items stored.now range.now
         window.now }
-    ensures { let place = place_before (C.rank stored.now) (length (C.items stored.now))
+    ensures { let index = rank_or_len (C.rank stored.now) (length (C.items stored.now))
         window.now.from in result
-        ≡ pieces_of K.order range.now (take window.now.count (drop place (C.items stored.now))) }
+        ≡ pieces_of K.order range.now (take window.now.count (drop index (C.items stored.now))) }
 {
     let ends = match (window.from, window.last) {
         (Some(first), Some(last)) => Some((first, last)),

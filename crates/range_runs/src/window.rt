@@ -8,9 +8,9 @@ ghost use Rattle.range_keys.specs.Position.{position_cmp, start_position, end_po
 ghost use Rattle.std.specs.Ordering.{is_gt, is_lt};
 ghost use Rattle.range_algebra.specs.Range.{IsEmptyRange};
 ghost use Rattle.range_store.specs.Counting.{AddsSteps};
-ghost use Rattle.range_store.specs.ListPlaces.{place_before};
+ghost use Rattle.range_store.specs.ListRanks.{rank_or_len};
 ghost use Rattle.range_runs.specs.Stored.{IsStored};
-ghost use Rattle.range_runs.specs.Window.{IsFound, IsLastStarting, IsWalk, IsWindowOf, place_after};
+ghost use Rattle.range_runs.specs.Window.{IsFound, IsLastStarting, IsWalk, IsWindowOf, index_after};
 
 use crate::probe::{EndsBefore, StartsBy};
 use range_algebra::any::AnyRange;
@@ -73,7 +73,7 @@ pub fn find_last_started<K: PartialEnum, V: Eq + Drop, C: Storage<Item<AnyRange<
     requires { IsStored K.order V.eq (C.items stored.now) }
     ensures found { IsLastStarting K.order (C.is_good stored.now) (C.rank stored.now)
         (C.items stored.now) (reference_position K.order bound.now) result
-        (place_after (C.rank stored.now) result) }
+        (index_after (C.rank stored.now) result) }
     ensures counted { AddsSteps steps.old steps.new (C.least_asks stored.now)
         (C.most_asks stored.now) }
     ensures idle { length (C.items stored.now) ≡ 0 → C.most_asks stored.now ≡ 0 }
@@ -139,9 +139,9 @@ pub fn walk<K: PartialEnum, V: Eq + Drop, C: Storage<Item<AnyRange<K>, V>>>(
     steps: &mut Steps,
 ) -> (usize, Option<C::Position>, Option<C::Position>)
     requires { ForSome from (C.is_good stored.now) }
-    ensures walked { let place = place_before (C.rank stored.now) (length (C.items stored.now))
+    ensures walked { let index = rank_or_len (C.rank stored.now) (length (C.items stored.now))
         from in IsWalk K.order (C.is_good stored.now) (C.rank stored.now) (C.items stored.now)
-        (reference_position K.order end.now) place result.0 result.1 result.2 }
+        (reference_position K.order end.now) index result.0 result.1 result.2 }
     ensures counted { AddsSteps steps.old steps.new 0 (result.0 + 1) }
 {
     let mut at = from;

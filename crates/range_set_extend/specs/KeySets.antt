@@ -11,7 +11,7 @@ use Rattle.range_runs.specs.Stored.{IsStored}
 
 module _ {K : Type 0} (order : KeyOrder K) where
   -- the form of a map whose values are all equal: nonempty ranges, each before the next with a
-  -- place between
+  -- position between
   abbrev pub IsStoredSet : List (Item (AnyRange K) (Unit {0})) → Type 0
   IsStoredSet items = IsStored order (λ _ _. true) items
 

@@ -7,7 +7,7 @@ use Rattle.std.specs.declared.cmp.Ordering.TheVariants.{Equal}
 use Rattle.serde_json.specs.Data.{Data}
 use Rattle.range_keys.specs.Order.{KeyOrder, IsLawful}
 use Rattle.range_algebra.specs.declared.any.AnyRange.{AnyRange}
-use Rattle.range_algebra.specs.Range.{IsKnownRange}
+use Rattle.range_algebra.specs.Range.{IsKeyRange}
 use Rattle.range_store.specs.declared.storage.Item.{Item}
 use Rattle.range_reads.specs.FreeRanges.{item_ranges}
 use Rattle.range_map.proofs.CloneLists.{equal_items_are_copy, copy_stored}
@@ -57,8 +57,8 @@ module _ {K : Type 0} (order : KeyOrder K) (shape : K → Data) (reads : Data �
       sets_back xs rs v.1 h.1,
     )
 
-    known_items : (ranges : List (AnyRange K)) → AllByRecursion (λ r. IsKnownRange order r) ranges
-        → AllByRecursion (λ i. IsKnownRange order i.key) (range_items ranges)
+    known_items : (ranges : List (AnyRange K)) → AllByRecursion (λ r. IsKeyRange order r) ranges
+        → AllByRecursion (λ i. IsKeyRange order i.key) (range_items ranges)
     known_items [] h = tt
     known_items (r ∷ rs) h = (h.0, known_items rs h.1)
 
@@ -78,7 +78,7 @@ module _ {K : Type 0} (order : KeyOrder K) (shape : K → Data) (reads : Data �
         copy_stored lawful all_equal (range_items h.ranges) items
         (equal_items_are_copy lawful all_equal items
         (range_items h.ranges) copies)
-        (All-from_recursion (λ i. IsKnownRange order i.key) (range_items h.ranges)
+        (All-from_recursion (λ i. IsKeyRange order i.key) (range_items h.ranges)
         (known_items h.ranges h.known)) stored in
         subst (λ is. IsTrue (same_ranges order is items)) (sym (h.kept form))
         (subst IsTrue (same_sets order (range_items h.ranges) items)

@@ -5,7 +5,7 @@ use Rattle.std.specs.List.{AllByRecursion, AllZip}
 use Rattle.serde_json.specs.Data.{Data}
 use Rattle.range_keys.specs.Order.{KeyOrder}
 use Rattle.range_algebra.specs.declared.any.AnyRange.{AnyRange}
-use Rattle.range_algebra.specs.Range.{IsKnownRange}
+use Rattle.range_algebra.specs.Range.{IsKeyRange}
 use Rattle.range_sets.specs.KeySets.{HoldsAllOf, IsStoredSet}
 use Rattle.range_store.specs.declared.storage.Item.{Item}
 use Rattle.range_json.specs.declared.error.JsonError.{JsonError}
@@ -29,6 +29,6 @@ module _ {K : Type 0} (key_is_read : Data → K → Type 0) where
     pub ranges : List (AnyRange K)
     pub whole : elements_of d ≡ Some ds
     pub read : AllZip (IsRangeRead key_is_read) ds ranges
-    pub known : AllByRecursion (λ r. IsKnownRange order r) ranges
+    pub known : AllByRecursion (λ r. IsKeyRange order r) ranges
     pub held : HoldsAllOf order items ranges
     pub kept : IsStoredSet order (range_items ranges) → items ≡ range_items ranges

@@ -2,7 +2,7 @@
 ghost use Rattle.std.specs.Prelude.{◌≡◌, ◌⊎◌, Some, None, IfOk, OnOk, IfErr};
 ghost use Rattle.std.specs.BTreeSet.{IsEmpty};
 ghost use Rattle.serde_json.specs.View.{view};
-ghost use Rattle.range_algebra.specs.Range.{IsEmptyRange, IsKnownRange};
+ghost use Rattle.range_algebra.specs.Range.{IsEmptyRange, IsKeyRange};
 ghost use Rattle.range_runs.specs.Bindings.{IsBoundAfter};
 ghost use Rattle.range_runs.specs.Canonical.{IsCanonical};
 ghost use Rattle.range_runs.specs.Frames.{IsInsertionFrame};
@@ -81,7 +81,7 @@ fn insert_values<K: Measure, S: MaybeEmpty, C: Storage<Item<AnyRange<K>, S>>>(
     index: usize,
 ) -> Result<(), JsonError>
     requires { ¬ S.is_void item.value }
-    ensures known { IsKnownRange K.order item.key }
+    ensures known { IsKeyRange K.order item.key }
     ensures apart { OnOk result
         (¬ ((¬ IsEmptyRange K.order item.key)
         × MeetsSome K.order (C.items multimap.old) item.key)) }

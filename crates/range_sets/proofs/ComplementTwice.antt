@@ -14,7 +14,7 @@ use Rattle.range_runs.proofs.Windows.{every_both}
 use Rattle.range_algebra.specs.Intervals.{Any}
 use Rattle.range_algebra.specs.RangeOrder.{range_cmp, range_total}
 use Rattle.range_algebra.specs.Relations.{LiesBefore}
-use Rattle.range_algebra.proofs.Places.{unbounded_start}
+use Rattle.range_algebra.proofs.Positions.{unbounded_start}
 use Rattle.range_store.specs.declared.storage.Item.{Item}
 use Rattle.range_reads.specs.FreeRanges.{full_range, AreGaps, free_from}
 use Rattle.range_reads.specs.ListOrder.{same_list}

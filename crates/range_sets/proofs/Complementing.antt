@@ -9,7 +9,7 @@ use Rattle.range_keys.proofs.Orderings.{less_or_not, not_both_greater_and_not, n
 use Rattle.range_algebra.specs.Cuts.{upper}
 use Rattle.range_algebra.specs.Intervals.{Le}
 use Rattle.range_runs.proofs.PlaceOrder.{le_refl, lt_le, le_trans, lt_not_le}
-use Rattle.range_algebra.specs.Range.{IsKnownRange, IsEmptyRange}
+use Rattle.range_algebra.specs.Range.{IsKeyRange, IsEmptyRange}
 use Rattle.range_algebra.specs.Relations.{LiesBefore, Touches}
 use Rattle.range_algebra.specs.declared.any.AnyRange.{AnyRange}
 use Rattle.range_store.specs.declared.storage.Item.{Item}
@@ -48,8 +48,8 @@ module _ {K : Type 0} (order : KeyOrder K) (lawful : IsLawful order) where
       grind arith
 
   -- no nonempty range stands between two that touch
-  none_between : (i g h : AnyRange K) → IsKnownRange order i → (IsEmptyRange order i → ⊥)
-      → IsKnownRange order g → IsKnownRange order h → (IsEmptyRange order h → ⊥)
+  none_between : (i g h : AnyRange K) → IsKeyRange order i → (IsEmptyRange order i → ⊥)
+      → IsKeyRange order g → IsKeyRange order h → (IsEmptyRange order h → ⊥)
       → LiesBefore order g h → Touches order g h → LiesBefore order g i → LiesBefore order i h → ⊥
   none_between i g h known full known_g known_h full_h before touching l m =
       let le = (before_is order lawful g.end h.start known_g.1 known_h.0).0 before in
@@ -61,8 +61,8 @@ module _ {K : Type 0} (order : KeyOrder K) (lawful : IsLawful order) where
       (le_trans lawful _ (Start i) _ under (not_greater _ full)))
 
   -- where two ranges that touch miss an item, so does the range over both
-  joint_misses : (i g h : AnyRange K) → IsKnownRange order i → (IsEmptyRange order i → ⊥)
-      → IsKnownRange order g → IsKnownRange order h → (IsEmptyRange order h → ⊥)
+  joint_misses : (i g h : AnyRange K) → IsKeyRange order i → (IsEmptyRange order i → ⊥)
+      → IsKeyRange order g → IsKeyRange order h → (IsEmptyRange order h → ⊥)
       → LiesBefore order g h → Touches order g h → (Overlap order i g → ⊥) → (Overlap order i h → ⊥)
       → Overlap order i (joint g h) → ⊥
   joint_misses i g h known full known_g known_h full_h before touching miss_g miss_h meets =
@@ -73,16 +73,16 @@ module _ {K : Type 0} (order : KeyOrder K) (lawful : IsLawful order) where
 
   module _ {V : Type 0} where
     abbrev IsFullItem : Item (AnyRange K) V → Type 0
-    IsFullItem i = IsKnownRange order i.key × (IsEmptyRange order i.key → ⊥)
+    IsFullItem i = IsKeyRange order i.key × (IsEmptyRange order i.key → ⊥)
 
     every_full : (items : List (Item (AnyRange K) V))
-        → Every (λ i. IsKnownRange order i.key) items
+        → Every (λ i. IsKeyRange order i.key) items
         → Every (λ i. IsEmptyRange order i.key → ⊥) items → Every IsFullItem items
     every_full [] known full = tt
     every_full (i ∷ rest) known full = ((known.0, full.0), every_full rest known.1 full.1)
 
     all_missed : (items : List (Item (AnyRange K) V)) (g h : AnyRange K) → Every IsFullItem items
-        → IsKnownRange order g → IsKnownRange order h → (IsEmptyRange order h → ⊥)
+        → IsKeyRange order g → IsKeyRange order h → (IsEmptyRange order h → ⊥)
         → LiesBefore order g h → Touches order g h → Every (λ i. ¬ Overlap order i.key g) items
         → Every (λ i. ¬ Overlap order i.key h) items
         → Every (λ i. ¬ Overlap order i.key (joint g h)) items

@@ -12,8 +12,8 @@ use Rattle.range_algebra.specs.Compared.{flipped}
 use Rattle.range_algebra.specs.Cuts.{past}
 use Rattle.range_algebra.specs.Intervals.{Le, Lt, Any}
 use Rattle.range_runs.proofs.PlaceOrder.{eq_ge, le_trans, lt_not_le, not_le, not_lt, cases, lt_le_trans, le_lt_trans}
-use Rattle.range_algebra.specs.Range.{IsKnownBound, IsKnownRange, IsEmptyRange}
-use Rattle.range_algebra.proofs.Places.{reaching_is_before_past, flipped_bound_is_past, flipped_back, flipped_known, unbounded_start}
+use Rattle.range_algebra.specs.Range.{IsBoundOfKey, IsKeyRange, IsEmptyRange}
+use Rattle.range_algebra.proofs.Positions.{reaching_is_before_past, flipped_bound_is_past, flipped_back, flipped_known, unbounded_start}
 use Rattle.range_store.specs.declared.storage.Item.{Item}
 use Rattle.range_reads.specs.FreeRanges.{between, free_from}
 use Rattle.range_runs.specs.Pieces.{LiesIn}
@@ -47,20 +47,20 @@ module _ {K : Type 0} (order : KeyOrder K) (lawful : IsLawful order) where
   gap_would_overlap r s e a b f g le all = grind (arith, between_at)
 
   -- a bound that another start lies before has a bound on its other side
-  start_is_flipped : (x p : Bound K) → IsKnownBound order p → PLt (Start p) (Start x)
+  start_is_flipped : (x p : Bound K) → IsBoundOfKey order p → PLt (Start p) (Start x)
       → (b : Bound K) × (flipped x ≡ Some b)
   start_is_flipped (Included a) p known l = (Excluded a, refl)
   start_is_flipped (Excluded a) p known l = (Included a, refl)
   start_is_flipped Unbounded p known l = grind (arith, lt_not_le, unbounded_start)
 
-  end_is_flipped : (e q : Bound K) → IsKnownBound order q → PLt (End e) (End q)
+  end_is_flipped : (e q : Bound K) → IsBoundOfKey order q → PLt (End e) (End q)
       → (a : Bound K) × (flipped e ≡ Some a)
   end_is_flipped (Included a) q known l = (Excluded a, refl)
   end_is_flipped (Excluded a) q known l = (Included a, refl)
   end_is_flipped Unbounded q known l = grind (arith, ends_full, lt_not_le)
 
   -- what starts before a start is at most at the end just before it
-  reach_before : (p x b : Bound K) → IsKnownBound order p → IsKnownBound order x
+  reach_before : (p x b : Bound K) → IsBoundOfKey order p → IsBoundOfKey order x
       → flipped x ≡ Some b → PLt (Start p) (Start x) → PLe (Start p) (End b)
   reach_before p x b known known_x turns l =
       grind (
@@ -74,7 +74,7 @@ module _ {K : Type 0} (order : KeyOrder K) (lawful : IsLawful order) where
       )
 
   -- what starts past the end just before a start is at least there
-  start_after : (p x b : Bound K) → IsKnownBound order p → IsKnownBound order x
+  start_after : (p x b : Bound K) → IsBoundOfKey order p → IsBoundOfKey order x
       → flipped x ≡ Some b → PLt (End b) (Start p) → PLe (Start x) (Start p)
   start_after p x b known known_x turns l =
       let at = flipped_bound_is_past order lawful b x (flipped_back order lawful x b turns) in
@@ -83,7 +83,7 @@ module _ {K : Type 0} (order : KeyOrder K) (lawful : IsLawful order) where
       ((before_is order lawful b p (flipped_known order lawful x b turns known_x) known).0 l)
 
   -- what ends after an end reaches the start just past it
-  end_reaches : (e a q : Bound K) → IsKnownBound order e → IsKnownBound order q
+  end_reaches : (e a q : Bound K) → IsBoundOfKey order e → IsBoundOfKey order q
       → flipped e ≡ Some a → PLt (End e) (End q) → PLt (End q) (Start a) → ⊥
   end_reaches e a q known_e known turns l under =
       lt_not_le lawful (End e) (End q) l
@@ -91,7 +91,7 @@ module _ {K : Type 0} (order : KeyOrder K) (lawful : IsLawful order) where
 
   -- a range after a bound that misses the gap up to a start does not start before it
   start_is_not_before_item : (s : Option (Bound K)) (x : Bound K) (r : AnyRange K)
-      → IsKnownBound order x → IsFull order lawful r → From order lawful s r
+      → IsBoundOfKey order x → IsFull order lawful r → From order lawful s r
       → Every (λ g. ¬ Overlap order g r) (between order s (flipped x))
       → PLt (Start r.start) (Start x) → ⊥
   start_is_not_before_item None x r known full from all l = absurd from
@@ -103,7 +103,7 @@ module _ {K : Type 0} (order : KeyOrder K) (lawful : IsLawful order) where
       (grind (arith, le_trans, lt_not_le))
 
   -- a range that misses the gap after an end, the last one, does not reach over it
-  over_last : (e : Bound K) (r : AnyRange K) → IsKnownBound order e → IsFull order lawful r
+  over_last : (e : Bound K) (r : AnyRange K) → IsBoundOfKey order e → IsFull order lawful r
       → Every (λ g. ¬ Overlap order g r) (between order (flipped e) (Some Unbounded))
       → PLt (End e) (End r.end) → ⊥
   over_last e r known full all l =
@@ -117,8 +117,8 @@ module _ {K : Type 0} (order : KeyOrder K) (lawful : IsLawful order) where
       (grind (arith, le_trans, lt_not_le))
 
   -- nor does one that starts before it where a range stands after the gap
-  over_next : (e : Bound K) (next r : AnyRange K) → IsKnownBound order e → IsFull order lawful r
-      → IsKnownRange order next → (IsEmptyRange order next → ⊥) → PLt (End e) (Start next.start)
+  over_next : (e : Bound K) (next r : AnyRange K) → IsBoundOfKey order e → IsFull order lawful r
+      → IsKeyRange order next → (IsEmptyRange order next → ⊥) → PLt (End e) (Start next.start)
       → (PLe (Start next.start) (past order (End e)) → ⊥)
       → Every (λ g. ¬ Overlap order g r) (between order (flipped e) (flipped next.start))
       → PLe (Start r.start) (End e) → PLt (End e) (End r.end) → ⊥
@@ -141,7 +141,7 @@ module _ {K : Type 0} (order : KeyOrder K) (lawful : IsLawful order) where
       )
 
   -- what starts past an end is after the bound on the other side of it
-  from_next : (e : Bound K) (r : AnyRange K) → IsKnownBound order e → IsFull order lawful r
+  from_next : (e : Bound K) (r : AnyRange K) → IsBoundOfKey order e → IsFull order lawful r
       → PLt (End e) (Start r.start) → From order lawful (flipped e) r
   from_next (Included a) r known full l =
       start_after r.start (Excluded a) (Included a) full.0.0 known refl l
@@ -159,7 +159,7 @@ module _ {K : Type 0} (order : KeyOrder K) (lawful : IsLawful order) where
     rest_listed i (j ∷ rest) h = h.4
 
     first_known : (i : Item (AnyRange K) V) (rest : List (Item (AnyRange K) V))
-        → IsSetList (i ∷ rest) → IsKnownRange order i.key
+        → IsSetList (i ∷ rest) → IsKeyRange order i.key
     first_known i [] h = h.0
     first_known i (j ∷ rest) h = h.0
 

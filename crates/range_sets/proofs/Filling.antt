@@ -8,7 +8,7 @@ use Rattle.std.specs.declared.cmp.Ordering.TheVariants.{Equal}
 use Rattle.range_keys.specs.Order.{KeyOrder, IsLawful}
 use Rattle.range_algebra.proofs.Lists.{every_more}
 use Rattle.range_algebra.specs.Clones.{IsRangeClone, range_clone}
-use Rattle.range_algebra.specs.Range.{IsKnownRange}
+use Rattle.range_algebra.specs.Range.{IsKeyRange}
 use Rattle.range_algebra.specs.RangeOrder.{range_cmp, range_total}
 use Rattle.range_algebra.specs.declared.any.AnyRange.{AnyRange}
 use Rattle.range_algebra.proofs.Canonical.{equal_is_same}
@@ -65,7 +65,7 @@ module _ {K : Type 0} (order : KeyOrder K) where
     -- with the clone of the next gap the items are in the form of a set
     pub next_gap_fits : (gaps rest others : List (AnyRange K)) (items : Items) (room : ℕ)
         (g r : AnyRange K) → IsStoredSet order (set_items gaps) → IsFilled gaps rest items room
-        → rest ≡ g ∷ others → IsKnownRange order r → range_cmp order r g ≡ Equal
+        → rest ≡ g ∷ others → IsKeyRange order r → range_cmp order r g ≡ Equal
         → IsStoredSet order (items ++ record { key = r; value = tt } ∷ [])
     next_gap_fits gaps rest others items room g r form filled next known same =
         let more = items ++ record { key = r; value = tt } ∷ [] in
@@ -77,13 +77,13 @@ module _ {K : Type 0} (order : KeyOrder K) where
         (record { key = r; value = tt }) g filled.copied same in
         copy_stored lawful all_equal more (set_items front)
         (as_copy more front zip)
-        (All-from_recursion (λ i. IsKnownRange order i.key) more
+        (All-from_recursion (λ i. IsKeyRange order i.key) more
         (grind (arith, every_more)))
         (grind (arith, front_stored))
 
     pub filled_more : (gaps rest others : List (AnyRange K)) (items next : Items) (room left : ℕ)
         (g r : AnyRange K) → IsStoredSet order (set_items gaps) → IsFilled gaps rest items room
-        → rest ≡ g ∷ others → IsKnownRange order r → range_cmp order r g ≡ Equal
+        → rest ≡ g ∷ others → IsKeyRange order r → range_cmp order r g ≡ Equal
         → next ≡ items ++ record { key = r; value = tt } ∷ [] → room ≡ left + 1
         → IsFilled gaps others next left
     filled_more gaps rest others items next room left g r form filled came known same put room_is =

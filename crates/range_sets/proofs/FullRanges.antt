@@ -8,11 +8,11 @@ use Rattle.range_keys.proofs.Orderings.{equal_then_equal, not_greater}
 use Rattle.range_keys.specs.Order.{KeyOrder, IsLawful}
 use Rattle.range_keys.specs.Position.{start_position, end_position, position_cmp}
 use Rattle.range_keys.specs.PositionOrder.{position_total}
-use Rattle.range_algebra.proofs.Places.{flipped_back, flipped_bound_is_past, flipped_known, unbounded_end}
+use Rattle.range_algebra.proofs.Positions.{flipped_back, flipped_bound_is_past, flipped_known, unbounded_end}
 use Rattle.range_algebra.specs.Compared.{flipped}
 use Rattle.range_algebra.specs.Intervals.{Le, Lt}
 use Rattle.range_algebra.specs.Orders.{both, eq_ge, le_trans}
-use Rattle.range_algebra.specs.Range.{IsKnownBound, IsKnownRange}
+use Rattle.range_algebra.specs.Range.{IsBoundOfKey, IsKeyRange}
 use Rattle.range_algebra.specs.RangeOrder.{range_cmp}
 use Rattle.range_algebra.specs.Relations.{LiesBefore}
 use Rattle.range_algebra.specs.declared.any.AnyRange.{AnyRange}
@@ -33,7 +33,7 @@ module _ {K : Type 0} (order : KeyOrder K) (lawful : IsLawful order) where
 
   abbrev pub IsFull : AnyRange K → Type 0
   IsFull r =
-      IsKnownRange order r
+      IsKeyRange order r
       × Le (position_cmp order.cmp) (start_position order r.start) (end_position order r.end)
 
   -- where the bounds are in order, their range is there
@@ -50,12 +50,12 @@ module _ {K : Type 0} (order : KeyOrder K) (lawful : IsLawful order) where
       equal_then_equal _ _ (both cmp total _ _ k.starts h.starts) (both cmp total _ _ h.ends k.ends)
 
   -- every end is at most at that of the full range
-  pub ends_full : (e : Bound K) → IsKnownBound order e
+  pub ends_full : (e : Bound K) → IsBoundOfKey order e
       → Le (position_cmp order.cmp) (end_position order e) (end_position order Unbounded)
   ends_full e known = end_le order lawful e Unbounded known tt (unbounded_end order lawful e known)
 
   -- an end before a start lies at most at the end that is just before it
-  pub ends_before : (e s i : Bound K) → IsKnownBound order e → IsKnownBound order i
+  pub ends_before : (e s i : Bound K) → IsBoundOfKey order e → IsBoundOfKey order i
       → flipped s ≡ Some i
       → Lt (position_cmp order.cmp) (end_position order e) (start_position order s)
       → Le (position_cmp order.cmp) (end_position order e) (end_position order i)
@@ -70,7 +70,7 @@ module _ {K : Type 0} (order : KeyOrder K) (lawful : IsLawful order) where
 
   module _ {V : Type 0} where
     pub all_full : (items : List (Item (AnyRange K) V))
-        → Every (λ i. IsKnownRange order i.key) items
+        → Every (λ i. IsKeyRange order i.key) items
         → IsAscending order items → Every (λ i. IsFull i.key) items
     all_full [] known up = tt
     all_full (i ∷ rest) known up = ((known.0, not_greater _ up.0), all_full rest known.1 up.2)

@@ -18,10 +18,10 @@ use Rattle.range_algebra.specs.Clones.{IsBoundClone, IsRangeClone, SameBound}
 use Rattle.range_algebra.specs.Compared.{flipped}
 use Rattle.range_algebra.specs.Cuts.{lower, past, upper}
 use Rattle.range_algebra.specs.Intervals.{Le, Lt}
-use Rattle.range_algebra.specs.Range.{Holds, IsKnownBound, IsKnownRange, with_bounds}
+use Rattle.range_algebra.specs.Range.{Holds, IsBoundOfKey, IsKeyRange, with_bounds}
 use Rattle.range_algebra.specs.declared.any.AnyRange.{AnyRange}
 use Rattle.range_algebra.proofs.Lists.{every_append, every_weaker}
-use Rattle.range_algebra.proofs.Places.{flipped_bound_is_past, held_between, unbounded_start, unbounded_end}
+use Rattle.range_algebra.proofs.Positions.{flipped_bound_is_past, held_between, unbounded_start, unbounded_end}
 use Rattle.range_store.specs.declared.storage.Item.{Item}
 use Rattle.range_runs.specs.Bindings.{IsBound}
 use Rattle.range_runs.specs.Chains.{Follows, line_of}
@@ -155,9 +155,9 @@ module _ {K : Type 0} {order : KeyOrder K} (lawful : IsLawful order) where
     pub before : Every (λ i. Lt (cmp order) (item_upper order i) (lower order last)) built
 
   -- where the later of two ends lies
-  later_known : (last r : AnyRange K) (e : Bound K) → IsKnownRange order last
-      → IsKnownRange order r → IsLaterEnd order last.end r.end e
-      → IsKnownBound order e × Le (cmp order) (upper order last) (past order (end_position order e))
+  later_known : (last r : AnyRange K) (e : Bound K) → IsKeyRange order last
+      → IsKeyRange order r → IsLaterEnd order last.end r.end e
+      → IsBoundOfKey order e × Le (cmp order) (upper order last) (past order (end_position order e))
       × Le (cmp order) (upper order r) (past order (end_position order e))
   later_known last r e known others (inl h) = grind (arith, le_refl, past_le)
   later_known last r e known others (inr h) = grind (arith, le_refl, past_le)
@@ -206,14 +206,14 @@ module _ {K : Type 0} {order : KeyOrder K} (lawful : IsLawful order) where
   module _ (is_clone : K → K → Type 0)
       (clones : (a b : Bound K) → IsBoundClone is_clone a b → SameBound order a b) where
     -- a clone of a range lies where that does
-    copy_lies : (r copy : AnyRange K) → IsKnownRange order r → IsKnownRange order copy
+    copy_lies : (r copy : AnyRange K) → IsKeyRange order r → IsKeyRange order copy
         → IsRangeClone is_clone r copy
         → (cmp order (lower order r) (lower order copy) ≡ Equal)
         × (cmp order (upper order r) (upper order copy) ≡ Equal)
     copy_lies r copy known others clone = grind (arith, past_same)
 
-    copy_holds : (r copy : AnyRange K) (k : K) → order.is_key k → IsKnownRange order r
-        → IsKnownRange order copy → IsRangeClone is_clone r copy
+    copy_holds : (r copy : AnyRange K) (k : K) → order.is_key k → IsKeyRange order r
+        → IsKeyRange order copy → IsRangeClone is_clone r copy
         → Holds order copy k ↔ Holds order r k
     copy_holds r copy k key known others clone =
         let lies = copy_lies r copy known others clone in
@@ -232,7 +232,7 @@ module _ {K : Type 0} {order : KeyOrder K} (lawful : IsLawful order) where
           → HoldsKey order new k ↔ (HoldsKey order built k ⊎ Holds order last k)
 
     push_copy : (built : Items order) (last copy : AnyRange K) → IsPlaced order last
-        → StandBefore built last → IsKnownRange order copy → IsRangeClone is_clone last copy
+        → StandBefore built last → IsKeyRange order copy → IsRangeClone is_clone last copy
         → ArePushed built (built ++ record { key = copy; value = tt } ∷ []) last
     push_copy built last copy placed stand copied clone =
         let line = line_of order lawful one_value one_class in

@@ -6,7 +6,7 @@ use Rattle.range_keys.specs.Position.{end_position, position_cmp}
 use Rattle.range_algebra.specs.Clones.{IsRangeClone}
 use Rattle.range_algebra.specs.Cuts.{lower, past, upper}
 use Rattle.range_algebra.specs.Intervals.{Le, Lt}
-use Rattle.range_algebra.specs.Range.{IsKnownRange}
+use Rattle.range_algebra.specs.Range.{IsKeyRange}
 use Rattle.range_algebra.specs.declared.any.AnyRange.{AnyRange}
 use Rattle.range_store.specs.declared.storage.Item.{Item}
 
@@ -43,7 +43,7 @@ module _ {K : Type 0} (order : KeyOrder K) where
         (r : AnyRange K) : Type 0 where
       pub copy : AnyRange K
       pub clone : IsRangeClone is_clone r copy
-      pub known : IsKnownRange order copy
+      pub known : IsKeyRange order copy
       pub list : new ≡ old ++ record { key = copy; value = tt } ∷ []
 
     -- the last range goes on to the end of another, or it stands after the others, and the other

@@ -48,7 +48,7 @@ pub use try_insert::NotAdded;
 pub type Gaps<'a, T, C> = map::Gaps<'a, T, (), C>;
 
 /// A set of keys, kept as ranges: nonempty ones in order, each of which ends before the next one
-/// starts, with a place between.
+/// starts, with a position between.
 ///
 /// A contract sees the container, and the stored ranges as `C.items`.
 ///

@@ -1,4 +1,4 @@
 pub mod Cells
 pub mod Counting
-pub mod ListPlaces
+pub mod ListRanks
 pub mod Rewriting

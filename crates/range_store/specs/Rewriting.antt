@@ -1,4 +1,4 @@
--- A container with another item at a place.
+-- A container with another item at an index.
 use Rattle.std.specs.Prelude.{ℕ, ◌<◌, length}
 use Rattle.std.specs.Vec.{with_item}
 use Rattle.std.proofs.Common.{subst, sym}

@@ -7,7 +7,7 @@ ghost use Rattle.std.specs.Option.{ForSome};
 ghost use Rattle.std.specs.Borrow.{Lends, sem};
 ghost use Rattle.range_store.specs.Cells.{items_in, AreFull};
 ghost use Rattle.range_store.specs.Counting.{one_step_after, AddsSteps, greatest_count};
-ghost use Rattle.range_store.specs.ListPlaces.{place_before, IsAt, IsFrontOf};
+ghost use Rattle.range_store.specs.ListRanks.{rank_or_len, IsAt, IsFrontOf};
 
 use std::alloc::{AllocError, Global};
 use std::marker::Model;
@@ -326,11 +326,11 @@ pub trait Storage<T>: Drop {
         requires has_room { 1 ≤ room self.old }
         ensures list { items self.new
             ≡ insert (items self.old)
-            (place_before (λ q. rank self.old q) (length (items self.old)) before) item }
+            (rank_or_len (λ q. rank self.old q) (length (items self.old)) before) item }
         ensures space { room self.old ≡ room self.new + 1 }
         ensures position { is_good self.new result
             × (rank self.new result
-            ≡ place_before (λ q. rank self.old q) (length (items self.old)) before) };
+            ≡ rank_or_len (λ q. rank self.old q) (length (items self.old)) before) };
 
     /// Puts the items, in their order, after all others.
     ///

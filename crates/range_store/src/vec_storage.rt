@@ -3,7 +3,7 @@ ghost use Rattle.std.specs.Prelude.{◌≡◌, ℕ, ◌+◌, ◌-◌, ◌<◌, �
 ghost use Rattle.std.specs.Option.{ForSome};
 ghost use Rattle.std.proofs.Common.{arith, refl};
 ghost use Rattle.range_store.specs.Rewriting.{with_vec_item, good_with};
-ghost use Rattle.range_store.specs.ListPlaces.{place_before};
+ghost use Rattle.range_store.specs.ListRanks.{rank_or_len};
 
 use crate::storage::{Chunk, Probe, Run, Storage};
 use std::alloc::{AllocError, Global};
@@ -108,11 +108,11 @@ impl<T: Drop> Storage<T> for VecStorage<T> {
         requires has_room { 1 ≤ vec_capacity self.old.stored - vec_len self.old.stored }
         ensures list { self.new.stored.items
             ≡ insert self.old.stored.items
-            (place_before (λ q. q.0) (length self.old.stored.items) before) item }
+            (rank_or_len (λ q. q.0) (length self.old.stored.items) before) item }
         ensures space { vec_capacity self.old.stored - vec_len self.old.stored
             ≡ vec_capacity self.new.stored - vec_len self.new.stored + 1 }
         ensures position { (result.0 < length self.new.stored.items)
-            × (result.0 ≡ place_before (λ q. q.0) (length self.old.stored.items) before) }
+            × (result.0 ≡ rank_or_len (λ q. q.0) (length self.old.stored.items) before) }
     {
         let at = before.unwrap_or(VecPosition(self.stored.len()));
         self.stored.insert(at.0, item).unwrap();

@@ -9,7 +9,7 @@ use Rattle.range_tree.specs.declared.btree.path.Edge.{Edge}
 use Rattle.range_tree.specs.declared.btree.path.Home.{Home}
 use Rattle.range_tree.specs.declared.btree.path.Subtree.{Subtree}
 use Rattle.range_tree.specs.declared.btree.path.TheConstants.{PATH_BASE}
-use Rattle.range_tree.specs.Edges.{turn, inside, IsEdge, place, home_of}
+use Rattle.range_tree.specs.Edges.{turn, inside, IsEdge, offset, home_of}
 use Rattle.range_tree.specs.Nodes.{items_below, ShapedBut}
 use Rattle.range_tree.proofs.Below.{items_below_leaf}
 use Rattle.range_tree.proofs.Edges.{leaf_is, leaf_index, leaf_place}
@@ -32,7 +32,7 @@ module _ {T : Type 0} (s : Heap T) where
         → home_of s below number edge ≡ home_of s left at inner
 
   pub home_sets_out : {below number : ℕ} (edge : Edge) (home : Home) → IsEdge s below number edge
-      → 0 < place s below number edge → HasHome below number edge below number edge home
+      → 0 < offset s below number edge → HasHome below number edge below number edge home
   home_sets_out edge home is some = grind (arith, place_of_start)
 
   pub home_goes_on : {below number : ℕ} {edge : Edge} {left at : ℕ} {inner : Edge} {home : Home}
@@ -56,9 +56,9 @@ module _ {T : Type 0} (s : Heap T) where
     pub low : subtree.below ≤ below
     pub shaped : ShapedBut 1 CAPACITY s subtree.below subtree.node
     pub first : (e : Edge) → IsEdge s subtree.below subtree.node e
-        → place s subtree.below subtree.node e ≡ 0
+        → offset s subtree.below subtree.node e ≡ 0
         → IsEdge s below number (record e { path = subtree.path })
-        × (place s below number (record e { path = subtree.path }) ≡ ahead)
+        × (offset s below number (record e { path = subtree.path }) ≡ ahead)
 
   -- the subtree that comes once so many items and the one after them are passed, if there is one
   abbrev pub ComesAfter : ℕ → ℕ → Option Subtree → ℕ → Type 0
@@ -75,7 +75,7 @@ module _ {T : Type 0} (s : Heap T) where
     pub is : IsEdge s left at inner
     pub leaf_is : inner.leaf ≡ edge.leaf
     pub index_is : inner.index ≡ edge.index
-    pub place_is : place s below number edge ≡ ahead + place s left at inner
+    pub place_is : offset s below number edge ≡ ahead + offset s left at inner
     pub after : ComesAfter below number behind (ahead + length (items_below s (suc left) at))
 
   pub sets_out : {below number : ℕ} (edge : Edge) → ShapedBut 1 CAPACITY s below number
@@ -139,7 +139,7 @@ module _ {T : Type 0} (s : Heap T) where
       (behind : Option Subtree) → left ≡ 0
       → IsOnTheWay below number edge left at path weight inner behind
       → length (node_items s edge.leaf) ≤ edge.index
-      → ComesAfter below number behind (place s below number edge)
+      → ComesAfter below number behind (offset s below number edge)
   comes_to_the_end {below} {number} {edge} (suc left) at path weight inner behind bottom way last =
       absurd (omega arith)
   comes_to_the_end zero at path weight inner behind bottom way last =

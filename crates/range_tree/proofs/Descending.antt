@@ -8,7 +8,7 @@ use Rattle.range_tree.specs.declared.btree.path.Edge.{Edge}
 use Rattle.range_tree.specs.declared.btree.path.TheConstants.{PATH_BASE}
 use Rattle.range_tree.specs.declared.btree.searching.TheConstants.{MAX_ASKS}
 use Rattle.range_store.specs.Counting.{AddsSteps}
-use Rattle.range_tree.specs.Edges.{IsEdge, place}
+use Rattle.range_tree.specs.Edges.{IsEdge, offset}
 use Rattle.range_tree.specs.Falling.{Falls}
 use Rattle.range_tree.specs.Nodes.{items_below, ShapedBut}
 use Rattle.range_tree.proofs.Below.{items_below_leaf}
@@ -20,7 +20,7 @@ module _ {T : Type 0} (p : T → Bool) (s : Heap T) where
   -- the edge after what passes below a node
   pub record Outcome (d n : ℕ) (e : Edge) : Type 0 where
     pub edge : IsEdge s d n e
-    pub count : place s d n e ≡ count_by p (items_below s (suc d) n)
+    pub count : offset s d n e ≡ count_by p (items_below s (suc d) n)
 
   -- how far a search below a node has come: to the node `at`, over `left` levels, before which all
   -- items pass

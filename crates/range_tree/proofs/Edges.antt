@@ -7,7 +7,7 @@ use Rattle.range_nodes.specs.Heap.{Heap, node_of, node_items, node_children, nod
 use Rattle.range_tree.specs.declared.btree.path.Edge.{Edge}
 use Rattle.range_tree.specs.declared.btree.path.TheConstants.{PATH_BASE, MAX_LEVELS}
 use Rattle.range_tree.specs.Nodes.{items_below, used, ShapedBut, child_lists, before_child}
-use Rattle.range_tree.specs.Edges.{turn, inside, IsEdge, place}
+use Rattle.range_tree.specs.Edges.{turn, inside, IsEdge, offset}
 use Rattle.range_tree.specs.Frame.{AgreeAt, AgreeAt-right, agree_kid, same_children}
 use Rattle.range_tree.proofs.Below.{items_below_at, items_below_leaf}
 use Rattle.range_tree.proofs.Rank.{kid_shaped}
@@ -41,8 +41,8 @@ pub leaf_index : {T : Type 0} (s : Heap T) (n : ℕ) (g : Edge) → IsEdge s zer
 unfolding IsEdge
 leaf_index s n g is = is.2
 
-pub leaf_place : {T : Type 0} (s : Heap T) (n : ℕ) (g : Edge) → place s zero n g ≡ g.index
-unfolding place
+pub leaf_place : {T : Type 0} (s : Heap T) (n : ℕ) (g : Edge) → offset s zero n g ≡ g.index
+unfolding offset
 leaf_place s n g = refl
 
 pub turn_within : {T : Type 0} (s : Heap T) (d n : ℕ) (g : Edge) → IsEdge s (suc d) n g
@@ -62,19 +62,19 @@ unfolding IsEdge
 edge_above s d n i g h at within small is = rw (at, within) (small, is)
 
 pub place_above : {T : Type 0} (s : Heap T) (d n i : ℕ) (g h : Edge) → turn h ≡ i → inside h ≡ g
-    → place s (suc d) n h ≡ length (before_child s (suc d) n i) + place s d (node_child s n i) g
-unfolding place
+    → offset s (suc d) n h ≡ length (before_child s (suc d) n i) + offset s d (node_child s n i) g
+unfolding offset
 place_above s d n i g h at within = rw (at, within) refl
 
 pub place_inside : {T : Type 0} (s : Heap T) (d n : ℕ) (g : Edge)
-    → place s (suc d) n g ≡ length (before_child s (suc d) n
-    (turn g)) + place s d (node_child s n (turn g)) (inside g)
-unfolding place
+    → offset s (suc d) n g ≡ length (before_child s (suc d) n
+    (turn g)) + offset s d (node_child s n (turn g)) (inside g)
+unfolding offset
 place_inside s d n g = refl
 
 -- no edge lies past the end
 pub place_within : {T : Type 0} {s : Heap T} (d : ℕ) {n : ℕ} (g : Edge) {least most : ℕ}
-    → ShapedBut least most s d n → IsEdge s d n g → place s d n g ≤ length (items_below s (suc d) n)
+    → ShapedBut least most s d n → IsEdge s d n g → offset s d n g ≤ length (items_below s (suc d) n)
 place_within {T} {s} zero {n} g {least} {most} shaped is =
     omega (arith, leaf_place, leaf_index, ap length (items_below_leaf s n shaped.node.branches))
 place_within {T} {s} (suc d) {n} g {least} {most} shaped is =
@@ -90,11 +90,11 @@ module _ {T : Type 0} where
   -- an edge is the same in two slabs that agree at the nodes below
   pub record SameEdge (s t : Heap T) (d n : ℕ) (g : Edge) : Type 0 where
     pub edge : IsEdge s d n g → IsEdge t d n g
-    pub place : place t d n g ≡ place s d n g
+    pub offset : offset t d n g ≡ offset s d n g
 
 pub same_edge : {T : Type 0} (s t : Heap T) (d n : ℕ) (g : Edge) → AgreeAt s t (used s (suc d) n)
     → IsEdge s d n g → SameEdge s t d n g
-unfolding used IsEdge place
+unfolding used IsEdge offset
 same_edge s t zero n g agree is =
     grind (arith, occurrences_here)
 same_edge s t (suc d) n g agree is =
@@ -106,4 +106,4 @@ same_edge s t (suc d) n g agree is =
     let kid =
     same_edge s t d (get_or ks (turn g) 0) (inside g)
     (agree_kid s t (suc d) (turn g) ks below is.0) is.1 in
-    record { edge = λ h. rw here (h.0, kid.edge h.1); place = rw (here, lists, kid.place) refl }
+    record { edge = λ h. rw here (h.0, kid.edge h.1); offset = rw (here, lists, kid.offset) refl }

@@ -7,9 +7,9 @@ use Rattle.range_nodes.specs.declared.nodes.TheConstants.{CAPACITY}
 use Rattle.range_tree.specs.declared.btree.BoxStorage.{BoxStorage}
 use Rattle.range_tree.specs.declared.btree.path.Edge.{Edge}
 use Rattle.range_tree.specs.declared.btree.path.EndLeaves.{EndLeaves}
-use Rattle.range_tree.specs.Edges.{turn, inside, IsEdge, place}
+use Rattle.range_tree.specs.Edges.{turn, inside, IsEdge, offset}
 use Rattle.range_tree.specs.EndLeaves.{first_start, IsLastPath, AreEndLeaves, HasEndLeaves, end_leaves_kept}
-use Rattle.range_tree.specs.Holding.{box_items, box_levels, box_place, IsBoxEdge}
+use Rattle.range_tree.specs.Holding.{box_items, box_levels, box_offset, IsBoxEdge}
 use Rattle.range_tree.specs.Nodes.{items_below, ShapedBut, before_child, after_child}
 use Rattle.range_tree.specs.Written.{place_of_start, root_shaped}
 use Rattle.range_tree.proofs.Below.{items_below_at, items_below_leaf, length-before_more, none_after_last}
@@ -20,7 +20,7 @@ use Rattle.range_tree.proofs.Rank.{kid_shaped}
 module _ {T : Type 0} {s : Heap T} where
   -- where an edge after all items leads
   pub last_path : (d : ℕ) {n : ℕ} (g : Edge) {least most : ℕ} → ShapedBut least most s d n
-      → IsEdge s d n g → place s d n g ≡ length (items_below s (suc d) n)
+      → IsEdge s d n g → offset s d n g ≡ length (items_below s (suc d) n)
       → IsLastPath s d n g.path
   unfolding IsLastPath
   last_path zero {n} g {least} {most} shaped is end = tt
@@ -67,7 +67,7 @@ module _ {T : Type 0} {s : Heap T} where
   -- how many items stand before the edge after the last leaf's items
   pub place_of_last : (d : ℕ) {n : ℕ} (g : Edge) {least most : ℕ} → ShapedBut least most s d n
       → IsEdge s d n g → IsLastPath s d n g.path → g.index ≡ length (node_items s g.leaf)
-      → place s d n g ≡ length (items_below s (suc d) n)
+      → offset s d n g ≡ length (items_below s (suc d) n)
   unfolding IsLastPath
   place_of_last zero {n} g {least} {most} shaped is last end =
       omega (
@@ -99,7 +99,7 @@ module _ {T : Type 0} {s : Heap T} where
   -- the leaves of the edges before all items and after them
   pub are_end_leaves : {least most : ℕ} (d : ℕ) {n : ℕ} (g h : Edge) (ends : EndLeaves)
       → ShapedBut least most s d n → g.path ≡ 0 → g.index ≡ 0 → IsEdge s d n g → IsEdge s d n h
-      → place s d n h ≡ length (items_below s (suc d) n) → ends.first ≡ g.leaf
+      → offset s d n h ≡ length (items_below s (suc d) n) → ends.first ≡ g.leaf
       → ends.last ≡ record h { index = 0 } → AreEndLeaves s d n ends
   are_end_leaves d {n} g h ends shaped path index first last end first_is last_is =
       let start = record h { index = 0 } in
@@ -129,7 +129,7 @@ module _ {T : Type 0} (s : BoxStorage T) (some : 0 < s.levels) where
   ends = s.ended some
 
   -- the edge before all items
-  pub box_start : IsBoxEdge s (first_start s.ends) × (box_place s (first_start s.ends) ≡ 0)
+  pub box_start : IsBoxEdge s (first_start s.ends) × (box_offset s (first_start s.ends) ≡ 0)
   box_start = (
     record { some = some; edge = ends.first },
     place_of_start s.nodes (s.levels - 1) s.root (first_start s.ends) refl refl,
@@ -139,7 +139,7 @@ module _ {T : Type 0} (s : BoxStorage T) (some : 0 < s.levels) where
   end = record s.ends.last { index = length (node_items s.nodes s.ends.last.leaf) }
 
   -- the edge after all items
-  pub box_end : IsBoxEdge s end × (box_place s end ≡ length (box_items s))
+  pub box_end : IsBoxEdge s end × (box_offset s end ≡ length (box_items s))
   box_end =
       let beside =
       leaf_beside s.nodes (s.levels - 1) s.root s.ends.last end refl refl (omega arith)

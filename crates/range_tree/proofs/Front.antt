@@ -4,7 +4,7 @@ use Rattle.std.specs.List.Sorted.{IsPartitionedBy}
 use Rattle.std.proofs.lemmas.Bool.{false_from_ne_true, false≢true, both_ways}
 use Rattle.std.proofs.lemmas.List.Sums.{sum_by-cons, sum_by-append, count_by-le-length}
 use Rattle.range_store.specs.Counting.{greatest_count}
-use Rattle.range_store.specs.ListPlaces.{IsFrontOf}
+use Rattle.range_store.specs.ListRanks.{IsFrontOf}
 use Rattle.range_tree.specs.Falling.{Falls}
 
 module _ {X : Type 0} (p : X → Bool) where

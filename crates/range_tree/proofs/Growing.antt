@@ -20,7 +20,7 @@ use Rattle.range_tree.proofs.Room.{children_le}
 use Rattle.range_tree.proofs.Seats.{seat_run, seat_side, seat_written}
 use Rattle.range_tree.proofs.Contents.{written_settles, written_holds, written_agree}
 use Rattle.range_tree.specs.declared.btree.path.Edge.{Edge}
-use Rattle.range_tree.specs.Edges.{turn, inside, IsEdge, place, IsSeat, seat_place}
+use Rattle.range_tree.specs.Edges.{turn, inside, IsEdge, offset, IsSeat, seat_offset}
 
 module _ {T : Type 0} where
   -- the run ms of the children of n, before vs and after us, became ts
@@ -139,8 +139,8 @@ pub grows_below : {T : Type 0} {s t : Heap T} {b n : ℕ} {item : T} {split : Op
     → ShapedBut 1 CAPACITY s b n → Owned s (suc b) n → (g : Edge) → IsEdge s b n g
     → Replaces s t (b - 1) (node_child s n (turn g)) split
     (insert (items_below s (suc (b - 1)) (node_child s n (turn g)))
-    (place s (b - 1) (node_child s n (turn g)) (inside g)) item)
-    → Grows s t b n (turn g) (place s (b - 1) (node_child s n (turn g)) (inside g)) item split
+    (offset s (b - 1) (node_child s n (turn g)) (inside g)) item)
+    → Grows s t b n (turn g) (offset s (b - 1) (node_child s n (turn g)) (inside g)) item split
 grows_below inner shaped owned g is child = grind (arith, below_turn, below_most, below_inside)
 
 module _ {T : Type 0} {s t : Heap T} {b n i rest : ℕ} {item : T} {split : Option (Split T)}
@@ -224,14 +224,14 @@ module _ {T : Type 0} {s t : Heap T} {b n i rest : ℕ} {item : T} {split : Opti
   pub grown_seat : (side : ℕ) (g : Edge)
       → IsSeat t (suc (b - 1)) (separators split) (tops kid split) side g
       → IsSeat t b new_xs new_ks (i + side) g
-      × (seat_place t b new_xs new_ks (i + side) g
-      ≡ length (before xs lists i) + seat_place t (suc (b - 1)) (separators split)
+      × (seat_offset t b new_xs new_ks (i + side) g
+      ≡ length (before xs lists i) + seat_offset t (suc (b - 1)) (separators split)
       (tops kid split) side g)
   grown_seat side g seat =
       let all =
       seat_run t (b - 1) us (tops kid split) vs (take i xs) (separators split)
       (drop i xs) i side g us_many (length-take-le i xs grows.low) (tops_many kid split) seat in
-      let here = ap (λ m. seat_place t m new_xs new_ks (i + side) g) level in
+      let here = ap (λ m. seat_offset t m new_xs new_ks (i + side) g) level in
       let sums = ap (λ m. sum_by length (map (items_below t m) us)) level in
       let front =
       length-before xs lists i grows.low (omega (arith, many, length-map ks (items_below s b))) in
@@ -282,8 +282,8 @@ module _ {T : Type 0} {s t : Heap T} {b n i rest : ℕ} {item : T}
 
   pub none_edge : (side : ℕ) (g h : Edge) → turn h ≡ i → inside h ≡ g
       → IsSeat t (suc (b - 1)) (separators {T = T} None)
-      (tops {T = T} (node_child s n i) None) side g → IsEdge t b n h × (place t b n h ≡ length
-      (before_child s b n i) + seat_place t (suc (b - 1)) (separators {T = T} None)
+      (tops {T = T} (node_child s n i) None) side g → IsEdge t b n h × (offset t b n h ≡ length
+      (before_child s b n i) + seat_offset t (suc (b - 1)) (separators {T = T} None)
       (tops {T = T} (node_child s n i) None) side g)
   none_edge side g h at into seat =
       let up = grown_seat grows side g seat in

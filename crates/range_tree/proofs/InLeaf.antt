@@ -7,7 +7,7 @@ use Rattle.range_nodes.specs.declared.nodes.TheConstants.{CAPACITY}
 use Rattle.range_tree.specs.declared.btree.path.TheConstants.{PATH_BASE}
 use Rattle.range_tree.specs.declared.btree.path.Edge.{Edge}
 use Rattle.range_tree.specs.Nodes.{ShapedBut}
-use Rattle.range_tree.specs.Edges.{turn, inside, IsEdge, place, home_of}
+use Rattle.range_tree.specs.Edges.{turn, inside, IsEdge, offset, home_of}
 use Rattle.range_tree.proofs.Below.{shaped_within_wider}
 use Rattle.range_tree.proofs.Rank.{kid_shaped}
 
@@ -16,8 +16,8 @@ pub no_child_gone : (ks : List ℕ) → length ks ≡ 0 → remove ks 0 ≡ ks
 no_child_gone ks none = grind arith
 
 -- what stands before it there stands before it below the node
-pub place_index : {T : Type 0} (s : Heap T) (d n : ℕ) (g : Edge) → g.index ≤ place s d n g
-unfolding place
+pub place_index : {T : Type 0} (s : Heap T) (d n : ℕ) (g : Edge) → g.index ≤ offset s d n g
+unfolding offset
 place_index s zero n g = omega arith
 place_index s (suc d) n g = omega (arith, place_index s d (node_child s n (turn g)) (inside g))
 
@@ -45,8 +45,8 @@ leaf_of_edge {T} {s} (suc d) {n} g shaped is =
 -- another edge in it
 pub leaf_beside : {T : Type 0} (s : Heap T) (d n : ℕ) (g h : Edge) → h.leaf ≡ g.leaf
     → h.path ≡ g.path → h.index ≤ length (node_items s g.leaf) → IsEdge s d n g
-    → IsEdge s d n h × (place s d n h + g.index ≡ place s d n g + h.index)
-unfolding IsEdge place
+    → IsEdge s d n h × (offset s d n h + g.index ≡ offset s d n g + h.index)
+unfolding IsEdge offset
 leaf_beside s zero n g h leaf path index is =
     grind arith
 leaf_beside s (suc d) n g h leaf path index is =

@@ -8,8 +8,8 @@ use Rattle.range_nodes.specs.declared.nodes.TheConstants.{CAPACITY, MIN_LEN}
 use Rattle.range_tree.specs.declared.btree.BoxStorage.{BoxStorage}
 use Rattle.range_tree.specs.declared.btree.path.Edge.{Edge}
 use Rattle.range_tree.specs.Nodes.{items_below, Shaped, ShapedBut, Owned, IsTree, before_child, after_child}
-use Rattle.range_tree.specs.Edges.{turn, inside, IsEdge, place}
-use Rattle.range_tree.specs.Holding.{box_items, IsBoxEdge, box_place}
+use Rattle.range_tree.specs.Edges.{turn, inside, IsEdge, offset}
+use Rattle.range_tree.specs.Holding.{box_items, IsBoxEdge, box_offset}
 use Rattle.range_tree.proofs.Below.{items_below_at, items_below_leaf, shaped_within_wider, Shaped-from_but}
 use Rattle.range_tree.proofs.Contents.{IsRewritten, Holds, written_holds, held_items_below, held_used, bare_content}
 use Rattle.range_tree.proofs.Edges.{leaf_edge, leaf_place, edge_above, place_inside}
@@ -29,10 +29,10 @@ module _ {T : Type 0} where
     pub front : List T
     pub rest : List T
     pub was : items_below s (suc d) n ≡ front ++ (node_items s g.leaf ++ rest)
-    pub place_is : place s d n g ≡ length front + g.index
+    pub place_is : offset s d n g ≡ length front + g.index
     pub rewritten : IsRewritten s t d n (front ++ (items ++ rest))
     pub edges : (h : Edge) → h.leaf ≡ g.leaf → h.path ≡ g.path → h.index ≤ length items
-        → IsEdge t d n h × (place t d n h ≡ length front + h.index)
+        → IsEdge t d n h × (offset t d n h ≡ length front + h.index)
 
 -- of a leaf itself
 module _ {T : Type 0} {s t : Heap T} {n : ℕ} (g : Edge) {items : List T}
@@ -111,7 +111,7 @@ module _ {T : Type 0} {s t : Heap T} {d n : ℕ} (item : T) {g : Edge}
     (edit : IsLeafEdit s t d n g (insert (node_items s g.leaf) g.index item))
     (within : g.index ≤ length (node_items s g.leaf)) where
   pub inserted_in_leaf : edit.front ++ (insert (node_items s g.leaf) g.index item ++ edit.rest)
-      ≡ insert (items_below s (suc d) n) (place s d n g) item
+      ≡ insert (items_below s (suc d) n) (offset s d n g) item
   inserted_in_leaf = grind (arith, insert_middle)
 
 -- an item less, from before the edge
@@ -119,9 +119,9 @@ module _ {T : Type 0} {s t : Heap T} {d n : ℕ} {g : Edge}
     (edit : IsLeafEdit s t d n g (remove (node_items s g.leaf) (g.index - 1)))
     (some : 0 < g.index) (within : g.index ≤ length (node_items s g.leaf)) where
   pub removed_in_leaf : edit.front ++ (remove (node_items s g.leaf) (g.index - 1) ++ edit.rest)
-      ≡ remove (items_below s (suc d) n) (place s d n g - 1)
+      ≡ remove (items_below s (suc d) n) (offset s d n g - 1)
   removed_in_leaf =
-      let at : length edit.front + (g.index - 1) ≡ place s d n g - 1 = omega arith in
+      let at : length edit.front + (g.index - 1) ≡ offset s d n g - 1 = omega arith in
       grind (arith, remove_middle)
 
 -- the leaf of an edge of a whole tree, with an item more or less
@@ -147,12 +147,12 @@ module _ {T : Type 0} {t : BoxStorage T} (new : Heap T) {g : Edge} (is : IsBoxEd
     pub items_are : items_below new t.levels t.root ≡ list
     pub capacity : new.capacity ≡ t.nodes.capacity
     pub edge : IsEdge new (t.levels - 1) t.root h
-    pub place_is : place new (t.levels - 1) t.root h + g.index ≡ box_place t g + before
+    pub place_is : offset new (t.levels - 1) t.root h + g.index ≡ box_offset t g + before
 
   pub put_in_leaf : (item : T) (h : Edge) → length items < CAPACITY
       → Writes t.nodes new g.leaf (insert items g.index item) (node_children t.nodes g.leaf)
       → h.leaf ≡ g.leaf → h.path ≡ g.path → h.index ≡ g.index + 1
-      → IsLeafChange (insert (box_items t) (box_place t g) item) h h.index
+      → IsLeafChange (insert (box_items t) (box_offset t g) item) h h.index
   put_in_leaf item h room written at path next =
       let within = leaf.within in
       let more = length-insert items g.index item within in
@@ -163,7 +163,7 @@ module _ {T : Type 0} {t : BoxStorage T} (new : Heap T) {g : Edge} (is : IsBoxEd
   pub take_from_leaf : (h : Edge) → MIN_LEN < length items → 0 < g.index
       → Writes t.nodes new g.leaf (remove items (g.index - 1))
       (node_children t.nodes g.leaf) → h.leaf ≡ g.leaf → h.path ≡ g.path
-      → h.index ≡ g.index - 1 → IsLeafChange (remove (box_items t) (box_place t g - 1)) h h.index
+      → h.index ≡ g.index - 1 → IsLeafChange (remove (box_items t) (box_offset t g - 1)) h h.index
   take_from_leaf h spare some written at path back =
       let within = leaf.within in
       let less = length-remove items (g.index - 1) (omega (arith, within, some)) in

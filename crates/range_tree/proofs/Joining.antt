@@ -9,7 +9,7 @@ use Rattle.range_nodes.specs.declared.nodes.Split.{Split}
 use Rattle.range_nodes.specs.declared.nodes.TheConstants.{CAPACITY, MIN_LEN}
 use Rattle.range_tree.specs.declared.btree.path.Edge.{Edge}
 use Rattle.range_tree.specs.Nodes.{weave, items_below, used, Shaped}
-use Rattle.range_tree.specs.Edges.{turn, inside, seat_of, IsEdge, place, IsSeat, seat_place}
+use Rattle.range_tree.specs.Edges.{turn, inside, seat_of, IsEdge, offset, IsSeat, seat_offset}
 use Rattle.range_tree.specs.Contents.{IsContent}
 use Rattle.range_nodes.specs.Occurrences.{occurrences, occurrences-append, occurrences-cons, occurrences_itself}
 use Rattle.range_tree.specs.Weave.{weave_cut}
@@ -130,8 +130,8 @@ module _ {T : Type 0} (s : Heap T) (l : ℕ) (x : T) (r : ℕ) (g : Edge) where
 
   pub seat_from_left : (d : ℕ) → IsPair s d l r → IsEdge s d l g
       → IsSeat s d all_items all_children (seat_of d g) (inside g)
-      × (seat_place s d all_items all_children (seat_of d g) (inside g) ≡ place s d l g)
-  unfolding IsEdge place IsSeat seat_place
+      × (seat_offset s d all_items all_children (seat_of d g) (inside g) ≡ offset s d l g)
+  unfolding IsEdge offset IsSeat seat_offset
   seat_from_left zero pair is = grind (arith, length-append)
   seat_from_left (suc e) pair is =
       let run =
@@ -142,9 +142,9 @@ module _ {T : Type 0} (s : Heap T) (l : ℕ) (x : T) (r : ℕ) (g : Edge) where
 
   pub seat_from_right : (d : ℕ) → IsPair s d l r → IsEdge s d r g
       → IsSeat s d all_items all_children (length (node_items s l) + 1 + seat_of d g) (inside g)
-      × (seat_place s d all_items all_children (length (node_items s l) + 1 + seat_of d g)
-      (inside g) ≡ length (items_below s (suc d) l) + 1 + place s d r g)
-  unfolding IsEdge place IsSeat seat_place
+      × (seat_offset s d all_items all_children (length (node_items s l) + 1 + seat_of d g)
+      (inside g) ≡ length (items_below s (suc d) l) + 1 + offset s d r g)
+  unfolding IsEdge offset IsSeat seat_offset
   seat_from_right zero pair is = grind (arith, length-append, items_below_leaf)
   seat_from_right (suc e) pair is =
       let xs = node_items s l in

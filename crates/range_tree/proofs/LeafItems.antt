@@ -4,7 +4,7 @@ use Rattle.std.proofs.lemmas.List.{get_or-drop, get_or-take, length-drop, length
 use Rattle.std.specs.Prelude.{is_some}
 use Rattle.range_store.specs.Cells.{items_in, AreFull}
 use Rattle.range_nodes.specs.Heap.{node_of, items_of}
-use Rattle.range_tree.specs.Holding.{box_items, box_place, IsBoxEdge}
+use Rattle.range_tree.specs.Holding.{box_items, box_offset, IsBoxEdge}
 use Rattle.range_nodes.specs.Rows.{full_cells, HoldsItems}
 use Rattle.range_tree.specs.declared.btree.BoxStorage.{BoxStorage}
 use Rattle.range_tree.specs.declared.btree.path.Edge.{Edge}
@@ -36,11 +36,11 @@ module _ {T : Type 0} {t : BoxStorage T} {g : Edge} (is : IsBoxEdge t g) where
   -- the edge at another index of the leaf
   pub at_index : (index : ℕ) → index ≤ length leaf_items
       → IsBoxEdge t (record g { index = index })
-      × (box_place t (record g { index = index }) + g.index ≡ box_place t g + index)
+      × (box_offset t (record g { index = index }) + g.index ≡ box_offset t g + index)
   at_index index low = tree_beside is (record g { index = index }) refl refl low
 
   pub leaf_rest : drop g.index leaf_items
-      ≡ take (length leaf_items - g.index) (drop (box_place t g) (box_items t))
+      ≡ take (length leaf_items - g.index) (drop (box_offset t g) (box_items t))
   leaf_rest =
       let end = at_index (length leaf_items) (omega arith) in
       let most = edge_within end.0 in
@@ -49,6 +49,6 @@ module _ {T : Type 0} {t : BoxStorage T} {g : Edge} (is : IsBoxEdge t g) where
       (λ k d low.
       let here : g.index + k < length leaf_items = omega (arith, length-drop g.index leaf_items) in
       let next = at_index (g.index + k + 1) (omega arith) in
-      let at : box_place t (record g { index = g.index + k + 1 }) - 1 ≡ box_place t g + k =
+      let at : box_offset t (record g { index = g.index + k + 1 }) - 1 ≡ box_offset t g + k =
       omega arith in
       grind (arith, get_or-drop, leaf_item, get_or-take))

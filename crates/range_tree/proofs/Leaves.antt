@@ -7,7 +7,7 @@ use Rattle.range_nodes.specs.Heap.{Heap, node_items, node_children}
 use Rattle.range_nodes.specs.declared.nodes.TheConstants.{CAPACITY}
 use Rattle.range_tree.specs.declared.btree.path.Edge.{Edge}
 use Rattle.range_tree.specs.Nodes.{weave, items_below, used, ShapedBut, Owned, Moves, child_lists}
-use Rattle.range_tree.specs.Edges.{IsSeat, seat_place}
+use Rattle.range_tree.specs.Edges.{IsSeat, seat_offset}
 use Rattle.range_tree.specs.Contents.{IsContent}
 use Rattle.range_tree.proofs.Below.{used_is, items_below_leaf}
 use Rattle.range_tree.proofs.Moves.{Moves-none}
@@ -37,6 +37,6 @@ unfolding IsSeat
 leaf_seat s xs ks i g low = low
 
 pub leaf_seat_place : {T : Type 0} (s : Heap T) (xs : List T) (ks : List ℕ) (i : ℕ) (g : Edge)
-    → seat_place s 0 xs ks i g ≡ i
-unfolding seat_place
+    → seat_offset s 0 xs ks i g ≡ i
+unfolding seat_offset
 leaf_seat_place s xs ks i g = refl

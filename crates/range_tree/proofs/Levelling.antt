@@ -6,7 +6,7 @@ use Rattle.range_nodes.specs.Heap.{Heap, Writes, node_items, node_children, node
 use Rattle.range_nodes.specs.declared.nodes.Split.{Split}
 use Rattle.range_tree.specs.declared.btree.path.Edge.{Edge}
 use Rattle.range_tree.specs.Nodes.{weave, rest_of, front_of, before, items_below, used, tops, separators, Shrinks, IsLevelled, Moves}
-use Rattle.range_tree.specs.Edges.{turn, inside, IsEdge, place, IsSeat, seat_place}
+use Rattle.range_tree.specs.Edges.{turn, inside, IsEdge, offset, IsSeat, seat_offset}
 use Rattle.range_tree.specs.Contents.{IsContent}
 use Rattle.range_nodes.specs.Occurrences.{occurrences-append, occurrences-cons}
 use Rattle.range_tree.specs.Weave.{list_splits_at, weave_splice, length-before}
@@ -135,8 +135,8 @@ module _ {T : Type 0} {s : Heap T} {low n j : ℕ} (x : T) (levelled : IsLevelle
       pub levelled_edge : (side : ℕ) (g h : Edge) → turn h ≡ j + side → inside h ≡ g
           → IsSeat t (suc low) (separators split) (tops l split) side g
           → IsEdge u (suc low) n h
-          × (place u (suc low) n h
-          ≡ length (before xs (map (items_below s (suc low)) ks) j) + seat_place t (suc low)
+          × (offset u (suc low) n h
+          ≡ length (before xs (map (items_below s (suc low)) ks) j) + seat_offset t (suc low)
           (separators split) (tops l split) side g)
       levelled_edge side g h at into seat =
           let run =

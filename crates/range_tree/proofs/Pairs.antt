@@ -5,7 +5,7 @@ use Rattle.range_nodes.specs.Heap.{Heap, node_items, node_children, node_child}
 use Rattle.range_nodes.specs.declared.nodes.TheConstants.{CAPACITY}
 use Rattle.range_tree.specs.declared.btree.path.Edge.{Edge}
 use Rattle.range_tree.specs.Nodes.{items_below, before, ShapedBut, IsLevelled, child_size}
-use Rattle.range_tree.specs.Edges.{inside, seat_of, IsEdge, IsSeat, seat_place}
+use Rattle.range_tree.specs.Edges.{inside, seat_of, IsEdge, IsSeat, seat_offset}
 use Rattle.range_tree.proofs.Edges.{leaf_index, turn_within}
 use Rattle.range_tree.specs.Weave.{length-before_next}
 use Rattle.range_tree.proofs.Joining.{seat_from_left, seat_from_right}
@@ -50,9 +50,9 @@ module _ {T : Type 0} {s : Heap T} {low n j : ℕ} (x : T) (levelled : IsLevelle
       → IsEdge s low (get_or ks i 0) g → (i - j ≡ 0 → q ≡ seat_of low g)
       → (0 < i - j → q ≡ length (node_items s l) + 1 + seat_of low g)
       → IsSeat s low wide_items wide_children q (inside g)
-      × (length (before xs (map (items_below s (suc low)) ks) j) + seat_place s low wide_items
-      wide_children q (inside g) ≡ seat_place s (suc low) xs ks i g)
-  unfolding seat_place
+      × (length (before xs (map (items_below s (suc low)) ks) j) + seat_offset s low wide_items
+      wide_children q (inside g) ≡ seat_offset s (suc low) xs ks i g)
+  unfolding seat_offset
   pair_seat i g q (inl same) is left right =
       grind (arith, seat_from_left s l x r g low (pair_of x levelled here) (rw same at is))
   pair_seat i g q (inr next) is left right =

@@ -4,7 +4,7 @@ use Rattle.range_nodes.specs.Heap.{Heap, node_items, node_children, node_child}
 use Rattle.range_nodes.specs.declared.nodes.TheConstants.{CAPACITY}
 use Rattle.range_tree.specs.declared.btree.path.Edge.{Edge}
 use Rattle.range_tree.specs.Nodes.{items_below, ShapedBut, before_child}
-use Rattle.range_tree.specs.Edges.{turn, inside, is_start, IsEdge, place, home_of}
+use Rattle.range_tree.specs.Edges.{turn, inside, is_start, IsEdge, offset, home_of}
 use Rattle.range_tree.specs.Written.{place_of_start, start_of_place}
 use Rattle.range_tree.proofs.Below.{children_length, items_below_at, length-before_more, none_after_last}
 use Rattle.range_tree.proofs.Edges.{edge_above, place_above, place_inside, edge_inside, turn_within, place_within}
@@ -28,13 +28,13 @@ start_parts g start = grind arith
 
 -- nothing stands before an edge just where it is a start
 pub stands_first : {T : Type 0} (s : Heap T) (d n : ℕ) (g : Edge) → is_start g ≡ true
-    → place s d n g ≡ 0
+    → offset s d n g ≡ 0
 stands_first s d n g start = place_of_start s d n g (start_parts g start).0 (start_parts g start).1
 
 pub not_start : {T : Type 0} {s : Heap T} {d n : ℕ} (g : Edge) → ShapedBut 1 CAPACITY s d n
-    → IsEdge s d n g → is_start g ≡ false → 0 < place s d n g
+    → IsEdge s d n g → is_start g ≡ false → 0 < offset s d n g
 not_start {T} {s} {d} {n} g shaped is later =
-    elim (cases_eq (place s d n g) 0) [
+    elim (cases_eq (offset s d n g) 0) [
       | inr some ↦ omega arith
       | inl none ↦ grind (arith, start_of_place s 1 CAPACITY d n g shaped is none)
     ]
@@ -67,16 +67,16 @@ module _ {T : Type 0} {s : Heap T} {b n : ℕ} (inner : b ≢ 0)
       rw level_of_children at (edge_above s (b - 1) n i g h at within (child_within i low) is)
 
   pub below_place : (i : ℕ) (g h : Edge) → turn h ≡ i → inside h ≡ g
-      → place s b n h ≡ length (before_child s b n i) + place s (b - 1) (node_child s n i) g
+      → offset s b n h ≡ length (before_child s b n i) + offset s (b - 1) (node_child s n i) g
   below_place i g h at within = rw level_of_children at (place_above s (b - 1) n i g h at within)
 
   pub below_here : (g : Edge)
-      → place s b n g ≡ length (before_child s b n (turn g))
-      + place s (b - 1) (node_child s n (turn g)) (inside g)
+      → offset s b n g ≡ length (before_child s b n (turn g))
+      + offset s (b - 1) (node_child s n (turn g)) (inside g)
   below_here g = rw level_of_children at (place_inside s (b - 1) n g)
 
   pub below_most : (i : ℕ) (g : Edge) → i ≤ length (node_items s n)
-      → IsEdge s (b - 1) (node_child s n i) g → place s (b - 1) (node_child s n i) g
+      → IsEdge s (b - 1) (node_child s n i) g → offset s (b - 1) (node_child s n i) g
       ≤ length (items_below s b (node_child s n i))
   below_most i g low is = rw level_of_children at (place_within (b - 1) g (below_kid i low) is)
 

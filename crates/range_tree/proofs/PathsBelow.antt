@@ -5,7 +5,7 @@ use Rattle.range_nodes.specs.Heap.{Heap, node_items, node_child}
 use Rattle.range_nodes.specs.declared.nodes.TheConstants.{CAPACITY}
 use Rattle.range_tree.specs.declared.btree.path.Edge.{Edge}
 use Rattle.range_tree.specs.declared.btree.path.TheConstants.{PATH_BASE, MAX_LEVELS}
-use Rattle.range_tree.specs.Edges.{turn, inside, IsEdge, place}
+use Rattle.range_tree.specs.Edges.{turn, inside, IsEdge, offset}
 use Rattle.range_tree.specs.Nodes.{ShapedBut, before_child}
 use Rattle.range_tree.specs.Written.{start_of_place}
 use Rattle.range_tree.proofs.Paths.{below_kid, below_edge, below_place}
@@ -34,7 +34,7 @@ module _ {T : Type 0} (s : Heap T) where
     pub shaped : ShapedBut 1 CAPACITY s left at
     pub edge : (e : Edge) → IsEdge s left at e → IsEdge s below number (from_above path weight e)
     pub place_is : (e : Edge) → IsEdge s left at e
-        → place s below number (from_above path weight e) ≡ ahead + place s left at e
+        → offset s below number (from_above path weight e) ≡ ahead + offset s left at e
 
   pub lies_in_child : {below number left : ℕ} (at path weight ahead : ℕ) → left ≢ 0
       → LiesBelow below number left at path weight ahead → (i : ℕ)
@@ -66,7 +66,7 @@ module _ {T : Type 0} (s : Heap T) where
   -- its first edge as it is seen from above
   pub first_below : {below number left : ℕ} (at path weight ahead : ℕ)
       → LiesBelow below number left at path weight ahead → (e : Edge) → IsEdge s left at e
-      → place s left at e ≡ 0 → IsEdge s below number (record e { path = path }) ×
-      (place s below number (record e { path = path }) ≡ ahead)
+      → offset s left at e ≡ 0 → IsEdge s below number (record e { path = path }) ×
+      (offset s below number (record e { path = path }) ≡ ahead)
   first_below {below} {number} {left} at path weight ahead lies e is first =
       grind (arith, start_of_place s 1 CAPACITY left)

@@ -7,7 +7,7 @@ use Rattle.range_nodes.specs.declared.nodes.Split.{Split}
 use Rattle.range_nodes.specs.declared.nodes.TheConstants.{MAX_LEN, MIN_LEN}
 use Rattle.range_tree.specs.declared.btree.path.Edge.{Edge}
 use Rattle.range_tree.specs.Nodes.{items_below, used, IsTree, IsRoomy, here, Replaces}
-use Rattle.range_tree.specs.Edges.{turn, inside, IsEdge, place, IsSeat, seat_place}
+use Rattle.range_tree.specs.Edges.{turn, inside, IsEdge, offset, IsSeat, seat_offset}
 use Rattle.range_nodes.specs.Occurrences.{occurrences, occurrences-cons, occurrences-nil, occurrences_itself, occurrences_other}
 use Rattle.range_tree.proofs.Below.{items_below_leaf, used_leaf, Shaped-from_but}
 use Rattle.range_tree.proofs.Contents.{Holds, held_items_below, held_used, held_shape, held_new}
@@ -61,8 +61,8 @@ kept_root levels some tree step' = grind (arith, append-nil)
 
 pub kept_edge : {T : Type 0} (t : Heap T) (d root side : ℕ) (g : Edge)
     → IsSeat t (suc d) [] (root ∷ []) side g
-    → IsEdge t d root g × (place t d root g ≡ seat_place t (suc d) [] (root ∷ []) side g)
-unfolding IsSeat seat_place
+    → IsEdge t d root g × (offset t d root g ≡ seat_offset t (suc d) [] (root ∷ []) side g)
+unfolding IsSeat seat_offset
 kept_edge t d root side g seat = grind arith
 
 module _ {T : Type 0} {s t u : Heap T} {d root n : ℕ} (split : Split T) {list : List T}
@@ -87,7 +87,7 @@ module _ {T : Type 0} {s t u : Heap T} {d root n : ℕ} (split : Split T) {list 
   taller_seat : (side : ℕ) (g h : Edge) → turn h ≡ side → inside h ≡ g
       → IsSeat t (suc d) (split.middle ∷ []) ts side g
       → IsEdge u (suc d) n h
-      × (place u (suc d) n h ≡ seat_place t (suc d) (split.middle ∷ []) ts side g)
+      × (offset u (suc d) n h ≡ seat_offset t (suc d) (split.middle ∷ []) ts side g)
   taller_seat side g h at within seat =
       seat_written t u n (split.middle ∷ []) ts side g h (suc d) holds (λ k among. grind arith)
       (λ no. absurd (omega (arith, no))) (λ some. at) (λ some. within) seat
@@ -108,7 +108,7 @@ pub taller_edge : {T : Type 0} {s t u : Heap T} (levels : ℕ) {root n : ℕ} (s
     → Replaces s t (levels - 1) root (Some split) list
     → Stores t u n (split.middle ∷ []) (root ∷ split.right ∷ []) → turn h ≡ side → inside h ≡ g
     → IsSeat t (suc (levels - 1)) (split.middle ∷ []) (root ∷ split.right ∷ []) side g
-    → IsEdge u (levels + 1 - 1) n h × (place u (levels + 1 - 1) n h ≡ seat_place t
+    → IsEdge u (levels + 1 - 1) n h × (offset u (levels + 1 - 1) n h ≡ seat_offset t
     (suc (levels - 1)) (split.middle ∷ []) (root ∷ split.right ∷ []) side g)
 taller_edge {T} {s} {t} {u} zero {root} {n} side split {list} g h some tree step stored at within
     seat = absurd (omega arith)

@@ -9,7 +9,7 @@ use Rattle.range_tree.specs.Frame.{AgreeAt, same_below, SameBelow}
 use Rattle.range_tree.proofs.Edges.{same_edge, edge_inside, turn_within, place_inside}
 use Rattle.range_tree.proofs.Rank.{items_below_none, used_none}
 use Rattle.range_tree.specs.declared.btree.path.Edge.{Edge}
-use Rattle.range_tree.specs.Edges.{turn, inside, IsEdge, place}
+use Rattle.range_tree.specs.Edges.{turn, inside, IsEdge, offset}
 
 -- the items after one went below the root
 pub loosened_items : {T : Type 0} {s t : Heap T} (levels : ℕ) {root : ℕ} {list : List T}
@@ -78,8 +78,8 @@ only_child_is_root {T} {s} {t} (suc (suc e)) {root} more loose empty gone =
 pub lowered_edge : {T : Type 0} {s t : Heap T} (levels : ℕ) {root : ℕ} (g : Edge) → levels ≢ 1
     → IsLooseTree s levels root → length (node_items s root) ≡ 0 → Removes s t root
     → IsEdge s (levels - 1) root g
-    → IsEdge t (levels - 1 - 1) (node_child s root 0) (inside g) × (place t
-    (levels - 1 - 1) (node_child s root 0) (inside g) ≡ place s (levels - 1) root g)
+    → IsEdge t (levels - 1 - 1) (node_child s root 0) (inside g) × (offset t
+    (levels - 1 - 1) (node_child s root 0) (inside g) ≡ offset s (levels - 1) root g)
 lowered_edge {T} {s} {t} zero {root} g more loose empty gone is = absurd (omega arith)
 lowered_edge {T} {s} {t} (suc zero) {root} g more loose empty gone is = absurd (more refl)
 lowered_edge {T} {s} {t} (suc (suc e)) {root} g more loose empty gone is' =

@@ -9,7 +9,7 @@ use Rattle.range_nodes.specs.declared.nodes.Split.{Split}
 use Rattle.range_nodes.specs.declared.nodes.TheConstants.{CAPACITY, MIN_LEN}
 use Rattle.range_tree.specs.declared.btree.path.Edge.{Edge}
 use Rattle.range_tree.specs.Nodes.{before, items_below, Shrinks, IsLevelled, child_size}
-use Rattle.range_tree.specs.Edges.{turn, inside, seat_of, IsEdge, place, IsSeat, seat_place}
+use Rattle.range_tree.specs.Edges.{turn, inside, seat_of, IsEdge, offset, IsSeat, seat_offset}
 use Rattle.range_tree.specs.Written.{item_behind, some_of}
 use Rattle.range_tree.specs.Frame.{used_kid_le}
 use Rattle.range_nodes.specs.Occurrences.{occurrences-cons, occurrences_here, occurrences_itself}
@@ -111,8 +111,8 @@ module _ {T : Type 0} {s : Heap T} {low n j : ℕ} (levelled : IsLevelled s low 
           → (low ≡ 0 → e ≡ record { leaf = l; path = 0; index = q }) → (0 < low → turn e ≡ q)
           → (0 < low → inside e ≡ g) → turn h ≡ j → inside h ≡ e
           → IsEdge u (suc low) n h
-          × (place u (suc low) n h
-          ≡ length (before xs (map (items_below s (suc low)) ks) j) + seat_place s low X K q g)
+          × (offset u (suc low) n h
+          ≡ length (before xs (map (items_below s (suc low)) ks) j) + seat_offset s low X K q g)
       stays_left q g e h small seat leaf at into turned inner =
           let left = seat_left s half X K q g within low (pair_content x pair).branches small seat
           in
@@ -131,8 +131,8 @@ module _ {T : Type 0} {s : Heap T} {low n j : ℕ} (levelled : IsLevelled s low 
           → (0 < low → turn e ≡ q - half - 1) → (0 < low → inside e ≡ g) → turn h ≡ j + 1
           → inside h ≡ e
           → IsEdge u (suc low) n h
-          × (place u (suc low) n h
-          ≡ length (before xs (map (items_below s (suc low)) ks) j) + seat_place s low X K q g)
+          × (offset u (suc low) n h
+          ≡ length (before xs (map (items_below s (suc low)) ks) j) + seat_offset s low X K q g)
       moves_right q g e h large seat leaf at into turned inner =
           let right =
           seat_right s half X K q g within low (pair_content x pair).branches large seat in
@@ -165,8 +165,8 @@ module _ {T : Type 0} {s : Heap T} {low n j : ℕ} (levelled : IsLevelled s low 
           → (low ≡ 0 → e ≡ record { leaf = l; path = 0; index = q }) → (0 < low → turn e ≡ q)
           → (0 < low → inside e ≡ g) → turn h ≡ j → inside h ≡ e
           → IsEdge u (suc low) n h
-          × (place u (suc low) n h
-          ≡ length (before xs (map (items_below s (suc low)) ks) j) + seat_place s low X K q g)
+          × (offset u (suc low) n h
+          ≡ length (before xs (map (items_below s (suc low)) ks) j) + seat_offset s low X K q g)
       merged_edge q g e h seat leaf at into turned inner =
           let edge = seat_written s t l X K q g e low
           (united_holds x pair first second few) (united_agree x pair first second few) leaf at into
@@ -235,7 +235,7 @@ module _ {T : Type 0} {s : Heap T} {low n j : ℕ} (levelled : IsLevelled s low 
         → (low ≡ 0 → g ≡ record { leaf = r; path = 0; index = seat_of low e + 1 })
         → (0 < low → turn g ≡ seat_of low e + 1) → (0 < low → inside g ≡ inside e) → turn h ≡ j + 1
         → inside h ≡ g
-        → IsEdge u (suc low) n h × (place u (suc low) n h ≡ seat_place s (suc low) xs ks (j + 1) e)
+        → IsEdge u (suc low) n h × (offset u (suc low) n h ≡ seat_offset s (suc low) xs ks (j + 1) e)
     next_edge e g h is leaf at into turned inner =
         let q = a + 1 + seat_of low e in
         let seat = pair_seat rotates.down levelled rotates.down_is (j + 1) e q (inr refl) is
@@ -271,7 +271,7 @@ module _ {T : Type 0} {s : Heap T} {low n j : ℕ} (levelled : IsLevelled s low 
     previous_kept = ap length rotates.rotates.parent.items_are ∙ length-set xs j rotates.up
 
     pub previous_edge : (e h : Edge) → IsEdge s low l e → turn h ≡ j → inside h ≡ e
-        → IsEdge u (suc low) n h × (place u (suc low) n h ≡ seat_place s (suc low) xs ks j e)
+        → IsEdge u (suc low) n h × (offset u (suc low) n h ≡ seat_offset s (suc low) xs ks j e)
     previous_edge e h is turned inner =
         let seat = pair_seat rotates.down levelled rotates.down_is j e (seat_of low e) (inl refl) is
         (λ none. refl) (λ some. absurd (omega (arith, some))) in
@@ -296,7 +296,7 @@ module _ {T : Type 0} {s : Heap T} {low n j : ℕ} (levelled : IsLevelled s low 
         → (0 < i - j → q ≡ length (node_items s l) + 1 + seat_of low e)
         → (low ≡ 0 → g ≡ record { leaf = l; path = 0; index = q }) → (0 < low → turn g ≡ q)
         → (0 < low → inside g ≡ inside e) → turn h ≡ j → inside h ≡ g
-        → IsEdge u (suc low) n h × (place u (suc low) n h ≡ seat_place s (suc low) xs ks i e)
+        → IsEdge u (suc low) n h × (offset u (suc low) n h ≡ seat_offset s (suc low) xs ks i e)
     joined_edge i e g h q near is first second leaf at into turned inner =
         let seat = pair_seat merges.down levelled merges.down_is i e q near is first second
         in

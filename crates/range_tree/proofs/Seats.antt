@@ -8,7 +8,7 @@ use Rattle.range_nodes.specs.declared.nodes.Split.{Split}
 use Rattle.range_tree.specs.declared.btree.path.Edge.{Edge}
 use Rattle.range_tree.specs.declared.btree.path.TheConstants.{MAX_LEVELS}
 use Rattle.range_tree.specs.Nodes.{weave, before, items_below, used, tops, separators}
-use Rattle.range_tree.specs.Edges.{turn, inside, IsEdge, place, IsSeat, seat_place}
+use Rattle.range_tree.specs.Edges.{turn, inside, IsEdge, offset, IsSeat, seat_offset}
 use Rattle.range_tree.proofs.Edges.{same_edge, path_small}
 use Rattle.range_store.proofs.Edits.{take-append-add}
 use Rattle.range_tree.specs.Frame.{agree_kid, AgreeAt}
@@ -20,8 +20,8 @@ module _ {T : Type 0} (s t : Heap T) (n : ℕ) (xs : List T) (ks : List ℕ) (i 
   pub seat_written : (d : ℕ) → Holds s t d n xs ks → AgreeAt s t (flat_map (used s d) ks)
       → (d ≡ 0 → h ≡ record { leaf = n; path = 0; index = i }) → (0 < d → turn h ≡ i)
       → (0 < d → inside h ≡ g) → IsSeat s d xs ks i g
-      → IsEdge t d n h × (place t d n h ≡ seat_place s d xs ks i g)
-  unfolding IsEdge place IsSeat seat_place
+      → IsEdge t d n h × (offset t d n h ≡ seat_offset s d xs ks i g)
+  unfolding IsEdge offset IsSeat seat_offset
   seat_written zero holds agree leaf at within seat =
       rw (leaf refl) ((refl, refl, rw holds.items_are seat), refl)
   seat_written (suc d) holds agree leaf at within seat =
@@ -45,16 +45,16 @@ module _ {T : Type 0} (s : Heap T) (half : ℕ) (xs : List T) (ks : List ℕ) (i
     (low : half < length xs) where
   pub seat_left : (d : ℕ) → length ks ≡ child_count d (length xs) → i ≤ half → IsSeat s d xs ks i g
       → IsSeat s d (take half xs) (take (half + 1) ks) i g
-      × (seat_place s d (take half xs) (take (half + 1) ks) i g ≡ seat_place s d xs ks i g)
-  unfolding IsSeat seat_place
+      × (seat_offset s d (take half xs) (take (half + 1) ks) i g ≡ seat_offset s d xs ks i g)
+  unfolding IsSeat seat_offset
   seat_left d branches small seat = grind (arith, length-take-le, get_or-take, take-take, take-map)
 
   -- or in the second part
   pub seat_right : (d : ℕ) → length ks ≡ child_count d (length xs) → half < i → IsSeat s d xs ks i g
       → IsSeat s d (drop (half + 1) xs) (drop (half + 1) ks) (i - half - 1) g
-      × (length (weave (take half xs) (map (items_below s d) (take (half + 1) ks))) + 1 + seat_place
-      s d (drop (half + 1) xs) (drop (half + 1) ks) (i - half - 1) g ≡ seat_place s d xs ks i g)
-  unfolding IsSeat seat_place
+      × (length (weave (take half xs) (map (items_below s d) (take (half + 1) ks))) + 1 + seat_offset
+      s d (drop (half + 1) xs) (drop (half + 1) ks) (i - half - 1) g ≡ seat_offset s d xs ks i g)
+  unfolding IsSeat seat_offset
   seat_right d branches large seat =
       grind (
         arith,
@@ -74,15 +74,15 @@ module _ {T : Type 0} (s : Heap T) (half : ℕ) (xs : List T) (ks : List ℕ) (i
 module _ {T : Type 0} (s : Heap T) (d n : ℕ) (g : Edge) where
   pub seat_alone : (split : Option (Split T)) → IsEdge s d n g
       → IsSeat s (suc d) (separators split) (tops n split) 0 g
-      × (seat_place s (suc d) (separators split) (tops n split) 0 g ≡ place s d n g)
-  unfolding IsSeat seat_place
+      × (seat_offset s (suc d) (separators split) (tops n split) 0 g ≡ offset s d n g)
+  unfolding IsSeat seat_offset
   seat_alone split is = grind arith
 
   pub seat_beside : (split : Split T) → IsEdge s d split.right g
       → IsSeat s (suc d) (separators (Some split)) (tops n (Some split)) 1 g
-      × (seat_place s (suc d) (separators (Some split)) (tops n (Some split)) 1 g
-      ≡ length (items_below s (suc d) n) + 1 + place s d split.right g)
-  unfolding IsSeat seat_place
+      × (seat_offset s (suc d) (separators (Some split)) (tops n (Some split)) 1 g
+      ≡ length (items_below s (suc d) n) + 1 + offset s d split.right g)
+  unfolding IsSeat seat_offset
   seat_beside split is = grind (arith, length-append)
 
 -- an edge in a run of children, among all of them
@@ -91,9 +91,9 @@ module _ {T : Type 0} (s : Heap T) (d : ℕ) (us ts vs : List ℕ) (xs seps ys :
     (more : length ts ≡ length seps + 1) where
   pub seat_run : IsSeat s (suc d) seps ts j g
       → IsSeat s (suc d) (xs ++ (seps ++ ys)) (us ++ (ts ++ vs)) (i + j) g
-      × (seat_place s (suc d) (xs ++ (seps ++ ys)) (us ++ (ts ++ vs)) (i + j) g
-      ≡ i + sum_by length (map (items_below s (suc d)) us) + seat_place s (suc d) seps ts j g)
-  unfolding IsSeat seat_place
+      × (seat_offset s (suc d) (xs ++ (seps ++ ys)) (us ++ (ts ++ vs)) (i + j) g
+      ≡ i + sum_by length (map (items_below s (suc d)) us) + seat_offset s (suc d) seps ts j g)
+  unfolding IsSeat seat_offset
   seat_run seat =
       let f = items_below s (suc d) in
       let kid : get_or (us ++ (ts ++ vs)) (i + j) 0 ≡ get_or ts j 0 =
@@ -123,7 +123,7 @@ seat_inside s d xs ks i g seat = seat.1
 
 pub seat_place_inner : {T : Type 0} (s : Heap T) (d : ℕ) (xs : List T) (ks : List ℕ) (i : ℕ)
     (g : Edge)
-    → seat_place s (suc d) xs ks i g
-    ≡ length (before xs (map (items_below s (suc d)) ks) i) + place s d (get_or ks i 0) g
-unfolding seat_place
+    → seat_offset s (suc d) xs ks i g
+    ≡ length (before xs (map (items_below s (suc d)) ks) i) + offset s d (get_or ks i 0) g
+unfolding seat_offset
 seat_place_inner s d xs ks i g = refl

@@ -7,7 +7,7 @@ use Rattle.range_nodes.specs.declared.nodes.TheConstants.{MIN_LEN}
 use Rattle.range_tree.specs.declared.btree.path.TheConstants.{MAX_LEVELS}
 use Rattle.range_tree.specs.declared.btree.BoxStorage.{BoxStorage}
 use Rattle.range_tree.specs.declared.btree.path.Edge.{Edge}
-use Rattle.range_tree.specs.Holding.{box_items, IsBoxEdge, box_place, good_item}
+use Rattle.range_tree.specs.Holding.{box_items, IsBoxEdge, box_offset, good_item}
 use Rattle.range_tree.specs.Nodes.{IsRoomy}
 use Rattle.range_tree.proofs.Edges.{place_within}
 use Rattle.range_tree.proofs.InLeaf.{IsLeafOf, leaf_of_edge, leaf_beside, leaf_home, place_index}
@@ -28,7 +28,7 @@ tree_is_not_too_deep {T} {s} (suc d) {root} roomy =
 
 -- no edge lies past the end
 pub edge_within : {T : Type 0} {t : BoxStorage T} {g : Edge} → IsBoxEdge t g
-    → box_place t g ≤ length (box_items t)
+    → box_offset t g ≤ length (box_items t)
 edge_within {T} {t} {g} is =
     grind (arith, place_within (t.levels - 1) g (root_shaped t.levels is.some t.whole.tree) is.edge)
 
@@ -39,14 +39,14 @@ module _ {T : Type 0} {t : BoxStorage T} {g : Edge} (is : IsBoxEdge t g) where
 
   pub tree_beside : (h : Edge) → h.leaf ≡ g.leaf → h.path ≡ g.path
       → h.index ≤ length (node_items t.nodes g.leaf)
-      → IsBoxEdge t h × (box_place t h + g.index ≡ box_place t g + h.index)
+      → IsBoxEdge t h × (box_offset t h + g.index ≡ box_offset t g + h.index)
   tree_beside h leaf path index =
       grind (arith, leaf_beside t.nodes (t.levels - 1) t.root g h leaf path index is.edge)
 
   -- the edge after the first item of the leaf
   pub tree_behind : g.index ≡ 0
       → IsBoxEdge t (record { leaf = g.leaf; path = g.path; index = 1 })
-      × (box_place t (record { leaf = g.leaf; path = g.path; index = 1 }) ≡ box_place t g + 1)
+      × (box_offset t (record { leaf = g.leaf; path = g.path; index = 1 }) ≡ box_offset t g + 1)
   tree_behind first =
       let beside =
       tree_beside (record { leaf = g.leaf; path = g.path; index = 1 }) refl refl
@@ -55,6 +55,6 @@ module _ {T : Type 0} {t : BoxStorage T} {g : Edge} (is : IsBoxEdge t g) where
 
   -- the item before an edge that has one in its leaf
   pub leaf_item : (e : T) → 0 < g.index
-      → get_or (box_items t) (box_place t g - 1) e
+      → get_or (box_items t) (box_offset t g - 1) e
       ≡ get_or (node_items t.nodes g.leaf) (g.index - 1) e
   leaf_item e some = grind (arith, place_index, good_item, leaf_home)

@@ -33,11 +33,11 @@ module _ {T : Type 0} where
       × IsEdge s d (node_child s n (turn edge)) (inside edge)
 
   -- how many items below the node stand before the edge
-  unfoldable pub place : Heap T → ℕ → ℕ → Edge → ℕ
-  place s zero n edge = edge.index
-  place s (suc d) n edge =
+  unfoldable pub offset : Heap T → ℕ → ℕ → Edge → ℕ
+  offset s zero n edge = edge.index
+  offset s (suc d) n edge =
       length (before_child s (suc d) n (turn edge))
-      + place s d (node_child s n (turn edge)) (inside edge)
+      + offset s d (node_child s n (turn edge)) (inside edge)
 
   -- where the item before the edge stands
   unfoldable pub home_of : Heap T → ℕ → ℕ → Edge → Home
@@ -53,11 +53,11 @@ module _ {T : Type 0} where
   IsSeat s zero xs ks i edge = i ≤ length xs
   IsSeat s (suc d) xs ks i edge = (i < length ks) × IsEdge s d (slice_index ks i) edge
 
-  unfoldable pub seat_place : Heap T → ℕ → List T → List ℕ → ℕ → Edge → ℕ
-  seat_place s zero xs ks i edge = i
-  seat_place s (suc d) xs ks i edge =
-      length (before xs (map (items_below s (suc d)) ks) i) + place s d (slice_index ks i) edge
+  unfoldable pub seat_offset : Heap T → ℕ → List T → List ℕ → ℕ → Edge → ℕ
+  seat_offset s zero xs ks i edge = i
+  seat_offset s (suc d) xs ks i edge =
+      length (before xs (map (items_below s (suc d)) ks) i) + offset s d (slice_index ks i) edge
 
   -- how many items below n stand before an edge below its child at i
-  abbrev pub place_through : Heap T → ℕ → ℕ → ℕ → Edge → ℕ
-  place_through s d n i edge = seat_place s (suc d) (node_items s n) (node_children s n) i edge
+  abbrev pub offset_through : Heap T → ℕ → ℕ → ℕ → Edge → ℕ
+  offset_through s d n i edge = seat_offset s (suc d) (node_items s n) (node_children s n) i edge

@@ -6,9 +6,9 @@ use Rattle.std.proofs.lemmas.Bool.{cases_lt, cases_eq}
 use Rattle.std.proofs.lemmas.List.{set_past}
 use Rattle.range_nodes.specs.Heap.{Heap, with_item, node_items, node_children}
 use Rattle.range_tree.specs.Nodes.{items_below, IsRoomy}
-use Rattle.range_tree.specs.Edges.{turn, inside, IsEdge, place, home_of}
+use Rattle.range_tree.specs.Edges.{turn, inside, IsEdge, offset, home_of}
 use Rattle.range_tree.specs.EndLeaves.{end_leaves_kept}
-use Rattle.range_store.specs.ListPlaces.{place_before}
+use Rattle.range_store.specs.ListRanks.{rank_or_len}
 use Rattle.range_nodes.proofs.Heaps.{item_written}
 use Rattle.range_tree.specs.Written.{SameShape, turned, length_same, tree_same, edge_same, place_same, IsHome, home_is, home_item, home_set, home_within, written_shape, tree_once, root_shaped}
 use Rattle.range_tree.specs.declared.btree.BoxStorage.{BoxStorage}
@@ -36,8 +36,8 @@ module _ {T : Type 0} where
     pub edge : IsEdge s.nodes (s.levels - 1) s.root point
 
   -- how many items stand before an edge, and where the last of them does
-  abbrev pub box_place : BoxStorage T → Edge → ℕ
-  box_place s edge = place s.nodes (s.levels - 1) s.root edge
+  abbrev pub box_offset : BoxStorage T → Edge → ℕ
+  box_offset s edge = offset s.nodes (s.levels - 1) s.root edge
 
   abbrev pub box_home : BoxStorage T → Edge → Home
   box_home s edge = home_of s.nodes (s.levels - 1) s.root edge
@@ -45,17 +45,17 @@ module _ {T : Type 0} where
   -- how many items stand before an edge, or, where none is given, before the end
   abbrev pub edge_or_end : BoxStorage T → Option Edge → ℕ
   edge_or_end s None = length (box_items s)
-  edge_or_end s (Some edge) = box_place s edge
+  edge_or_end s (Some edge) = box_offset s edge
 
   -- the edge after the item of this rank, or none past the last
   abbrev pub IsNextEdge : BoxStorage T → Option Edge → ℕ → Type 0
   IsNextEdge s None rank = rank ≡ length (box_items s)
-  IsNextEdge s (Some edge) rank = IsBoxEdge s edge × (box_place s edge ≡ rank + 1)
+  IsNextEdge s (Some edge) rank = IsBoxEdge s edge × (box_offset s edge ≡ rank + 1)
 
   -- an edge after an item, for which it stands
   pub record IsGood (s : BoxStorage T) (edge : Edge) : Type 0 where
     pub is : IsBoxEdge s edge
-    pub some : 0 < box_place s edge
+    pub some : 0 < box_offset s edge
 
   -- the items below the root of a tree that has one
   pub box_levels : (s : BoxStorage T) → 0 < s.levels
@@ -101,7 +101,7 @@ module _ {T : Type 0} where
             elim (edge_or_not s.nodes (s.levels - 1) s.root edge) [
               | inr other ↦ inr (λ good. other good.is.edge)
               | inl is ↦
-                  elim (cases_lt 0 (box_place s edge)) [
+                  elim (cases_lt 0 (box_offset s edge)) [
                     | inl later ↦
                         inl (record { is = record { some = some; edge = is }; some = later })
                     | inr first ↦ inr (λ good. omega (arith, first, good.some))
@@ -111,28 +111,28 @@ module _ {T : Type 0} where
 
   -- the rank of the item before a good edge; any other edge has the rank of the end
   abbrev pub rank_as : (s : BoxStorage T) (edge : Edge) → Decided s edge → ℕ
-  rank_as s edge (inl good) = box_place s edge - 1
+  rank_as s edge (inl good) = box_offset s edge - 1
   rank_as s edge (inr bad) = length (box_items s)
 
   abbrev pub box_rank : BoxStorage T → Edge → ℕ
   box_rank s edge = rank_as s edge (good_or_not s edge)
 
   -- the rank of a position, or the end of the list
-  abbrev pub box_place_before : BoxStorage T → Option Edge → ℕ
-  box_place_before s before = place_before (box_rank s) (length (box_items s)) before
+  abbrev pub box_rank_or_len : BoxStorage T → Option Edge → ℕ
+  box_rank_or_len s before = rank_or_len (box_rank s) (length (box_items s)) before
 
   rank_when : {s : BoxStorage T} {edge : Edge} (decided : Decided s edge) → IsGood s edge
-      → rank_as s edge decided ≡ box_place s edge - 1
+      → rank_as s edge decided ≡ box_offset s edge - 1
   rank_when {s} {edge} (inl _) good = refl
   rank_when (inr bad) good = absurd (bad good)
 
   pub rank_is : {s : BoxStorage T} {edge : Edge} → IsGood s edge
-      → box_rank s edge ≡ box_place s edge - 1
+      → box_rank s edge ≡ box_offset s edge - 1
   rank_is {s} {edge} good = rank_when (good_or_not s edge) good
 
   -- the item before a good edge has a home
   pub good_home : {s : BoxStorage T} {edge : Edge} → IsGood s edge → IsHome s.nodes (s.levels - 1)
-      s.root (box_home s edge).node (box_home s edge).index (box_place s edge - 1)
+      s.root (box_home s edge).node (box_home s edge).index (box_offset s edge - 1)
   good_home {s} {edge} good = home_is s.nodes 1 CAPACITY (s.levels - 1) s.root edge
       (root_shaped s.levels good.is.some s.whole.tree) (tree_once good.is.some s.whole.tree)
       good.is.edge good.some
@@ -141,7 +141,7 @@ module _ {T : Type 0} (s : BoxStorage T) (edge : Edge) (good : IsGood s edge) wh
   level : suc (s.levels - 1) ≡ s.levels
   level = omega (arith, good.is.some)
 
-  pub good_within : box_place s edge - 1 < length (box_items s)
+  pub good_within : box_offset s edge - 1 < length (box_items s)
   good_within = rw level at (home_within s.nodes (good_home good))
 
   abbrev now : T → Heap T
@@ -154,7 +154,7 @@ module _ {T : Type 0} (s : BoxStorage T) (edge : Edge) (good : IsGood s edge) wh
       (item_written s.nodes (box_home s edge).node (box_home s edge).index x home.present)
 
   pub written_items : (x : T)
-      → items_below (now x) s.levels s.root ≡ set (box_items s) (box_place s edge - 1) x
+      → items_below (now x) s.levels s.root ≡ set (box_items s) (box_offset s edge - 1) x
   written_items x =
       let home = good_home good in
       rw level at (home_set s.nodes home x
@@ -162,7 +162,7 @@ module _ {T : Type 0} (s : BoxStorage T) (edge : Edge) (good : IsGood s edge) wh
 
   -- the item before the edge
   pub good_item : (e : T)
-      → get_or (box_items s) (box_place s edge - 1) e
+      → get_or (box_items s) (box_offset s edge - 1) e
       ≡ get_or (node_items s.nodes (box_home s edge).node) (box_home s edge).index e
   good_item e = rw level at (home_item s.nodes (good_home good) e)
 
@@ -186,7 +186,7 @@ module _ {T : Type 0} (s : BoxStorage T) (edge : Edge) (good : IsGood s edge) wh
       }
 
   pub good_then : (x : T) {other : Edge} → IsGood s other → IsGood (with_good_item x) other ×
-      (box_place (with_good_item x) other ≡ box_place s other)
+      (box_offset (with_good_item x) other ≡ box_offset s other)
   good_then x {other} is =
       let same = place_same (written_nodes x) (s.levels - 1) s.root other in (
         record {

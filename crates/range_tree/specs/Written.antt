@@ -14,7 +14,7 @@ use Rattle.range_tree.specs.declared.btree.path.Edge.{Edge}
 use Rattle.range_tree.specs.declared.btree.path.Home.{Home}
 use Rattle.range_nodes.specs.declared.nodes.TheConstants.{CAPACITY, MIN_LEN}
 use Rattle.range_tree.specs.Nodes.{weave, rest_of, before, after, items_below, used, IsNode, Shaped, ShapedBut, IsRoot, IsTree, here, child_lists}
-use Rattle.range_tree.specs.Edges.{turn, inside, is_start, IsEdge, place, home_of}
+use Rattle.range_tree.specs.Edges.{turn, inside, is_start, IsEdge, offset, home_of}
 use Rattle.range_tree.specs.Frame.{AgreeAt, same_children, used_kid, used_kid_le}
 use Rattle.range_tree.specs.Weave.{weave_at, weave_cut, length-weave, length-before, list_splits_at, regroup}
 
@@ -161,8 +161,8 @@ module _ {T : Type 0} {s t : Heap T} (same : SameShape s t) where
   edge_same zero n g is = (is.0, is.1, omega (arith, is.2, same.sizes n))
   edge_same (suc d) n g is = rw (same.children n) (is.0, edge_same d _ (inside g) is.1)
 
-  pub place_same : (d n : ℕ) (g : Edge) → place t d n g ≡ place s d n g
-  unfolding place
+  pub place_same : (d n : ℕ) (g : Edge) → offset t d n g ≡ offset s d n g
+  unfolding offset
   place_same zero n g = refl
   place_same (suc d) n g =
       let ks = node_children s n in
@@ -226,8 +226,8 @@ module _ {T : Type 0} (s : Heap T) where
       record { node = kid.0; children = kid.1 }
 
   -- the edge that a start is has nothing before it
-  pub place_of_start : (d n : ℕ) (g : Edge) → g.path ≡ 0 → g.index ≡ 0 → place s d n g ≡ 0
-  unfolding place
+  pub place_of_start : (d n : ℕ) (g : Edge) → g.path ≡ 0 → g.index ≡ 0 → offset s d n g ≡ 0
+  unfolding offset
   place_of_start zero n g path index = index
   place_of_start (suc d) n g path index =
       let first : turn g ≡ 0 = omega (arith, path) in
@@ -236,8 +236,8 @@ module _ {T : Type 0} (s : Heap T) where
       rw first (omega (arith, below))
 
   pub start_of_place : (least most d n : ℕ) (g : Edge) → ShapedBut least most s d n → IsEdge s d n g
-      → place s d n g ≡ 0 → (g.path ≡ 0) × (g.index ≡ 0)
-  unfolding IsEdge place
+      → offset s d n g ≡ 0 → (g.path ≡ 0) × (g.index ≡ 0)
+  unfolding IsEdge offset
   start_of_place least most zero n g shaped is none = (is.1, none)
   start_of_place least most (suc d) n g shaped is none =
       let xs = node_items s n in
@@ -252,7 +252,7 @@ module _ {T : Type 0} (s : Heap T) where
 
   module _ (d n : ℕ) (g : Edge) (once : (k : ℕ) → occurrences k (used s (suc (suc d)) n) ≤ 1)
       (branches : length (node_children s n) ≡ length (node_items s n) + 1)
-      (low : turn g < length (node_children s n)) (some : 0 < place s (suc d) n g) where
+      (low : turn g < length (node_children s n)) (some : 0 < offset s (suc d) n g) where
     abbrev xs : List T
     xs = node_items s n
 
@@ -280,13 +280,13 @@ module _ {T : Type 0} (s : Heap T) where
     lists_many : length lists ≡ length xs + 1
     lists_many = length-map ks (items_below s (suc d)) ∙ branches
 
-    place_is : place s (suc d) n g ≡ length (before xs lists i) + place s d kid (inside g)
-    unfolding place
+    place_is : offset s (suc d) n g ≡ length (before xs lists i) + offset s d kid (inside g)
+    unfolding offset
     place_is = refl
 
     -- the item stands in the node itself
-    home_here : IsSome (node_of s n) → place s d kid (inside g) ≡ 0
-        → IsHome s (suc d) n n (turn g - 1) (place s (suc d) n g - 1)
+    home_here : IsSome (node_of s n) → offset s d kid (inside g) ≡ 0
+        → IsHome s (suc d) n n (turn g - 1) (offset s (suc d) n g - 1)
     unfolding items_below used
     home_here present first =
         let front =
@@ -332,9 +332,9 @@ module _ {T : Type 0} (s : Heap T) where
         above_start (suc t) at = omega arith
 
     -- or below the child through which the path goes
-    home_below : {m q : ℕ} → 0 < place s d kid (inside g)
-        → IsHome s d kid m q (place s d kid (inside g) - 1)
-        → IsHome s (suc d) n m q (place s (suc d) n g - 1)
+    home_below : {m q : ℕ} → 0 < offset s d kid (inside g)
+        → IsHome s d kid m q (offset s d kid (inside g) - 1)
+        → IsHome s (suc d) n m q (offset s (suc d) n g - 1)
     unfolding items_below used
     home_below {m} more home =
         let among = used_kid s (suc d) i ks m home.among low in
@@ -397,9 +397,9 @@ module _ {T : Type 0} (s : Heap T) where
         }
 
   pub home_is : (least most d n : ℕ) (g : Edge) → ShapedBut least most s d n
-      → ((k : ℕ) → occurrences k (used s (suc d) n) ≤ 1) → IsEdge s d n g → 0 < place s d n g
-      → IsHome s d n (home_of s d n g).node (home_of s d n g).index (place s d n g - 1)
-  unfolding IsEdge place home_of items_below used
+      → ((k : ℕ) → occurrences k (used s (suc d) n) ≤ 1) → IsEdge s d n g → 0 < offset s d n g
+      → IsHome s d n (home_of s d n g).node (home_of s d n g).index (offset s d n g - 1)
+  unfolding IsEdge offset home_of items_below used
   home_is least most zero n g shaped once is some = record {
     present = shaped.node.present;
     within = omega (arith, is.2, some);
@@ -428,15 +428,15 @@ module _ {T : Type 0} (s : Heap T) where
             used_kid_le s (suc d) (turn g) (node_children s n) k is.0,
           )
 
-      pick : (0 < place s d (node_child s n (turn g)) (inside g)
+      pick : (0 < offset s d (node_child s n (turn g)) (inside g)
           → IsHome s d (node_child s n (turn g))
           (home_of s d (node_child s n (turn g)) (inside g)).node
           (home_of s d (node_child s n (turn g)) (inside g)).index
-          (place s d (node_child s n (turn g)) (inside g) - 1)) → (b : Bool)
+          (offset s d (node_child s n (turn g)) (inside g) - 1)) → (b : Bool)
           → is_start (inside g) ≡ b → (h : Home)
           → h ≡ cond b (record { node = n; index = turn g - 1 })
           (home_of s d (node_child s n (turn g)) (inside g))
-          → IsHome s (suc d) n h.node h.index (place s (suc d) n g - 1)
+          → IsHome s (suc d) n h.node h.index (offset s (suc d) n g - 1)
       pick further true start h at =
           let none = and_parts ((inside g).path == 0) ((inside g).index == 0) start in
           let first =
@@ -445,8 +445,8 @@ module _ {T : Type 0} (s : Heap T) where
           rw at (home_here d n g once shaped.node.branches is.0 some shaped.node.present first)
       pick further false later h at =
           let below = node_child s n (turn g) in
-          let more : 0 < place s d below (inside g) =
-          not_start (place s d below (inside g)) (λ none.
+          let more : 0 < offset s d below (inside g) =
+          not_start (offset s d below (inside g)) (λ none.
           let start = start_of_place MIN_LEN CAPACITY d below (inside g) kid_shaped is.1 none in
           both_ways _ later (and_from _ _ (eq-eqb _ _ start.0) (eq-eqb _ _ start.1))) in
           rw at (home_below d n g once shaped.node.branches is.0 some more (further more))

@@ -54,13 +54,13 @@ impl<T> BoxStorage<T> {
 }
 
 impl<T: Drop> BoxStorage<T> {
-    ghost use Rattle.range_tree.specs.Holding.{box_items, IsBoxEdge, IsGood, box_place_before, edge_or_end};
+    ghost use Rattle.range_tree.specs.Holding.{box_items, IsBoxEdge, IsGood, box_rank_or_len, edge_or_end};
 
     // The edge before an item, or at the end of the list, if the list has items.
     fn edge_at(&self, before: Option<Edge>) -> Option<Edge>
         requires { ForSome before (IsGood self.now) }
         ensures edge { MatchOption result (box_items self.now ≡ []) (IsBoxEdge self.now) }
-        ensures place { edge_or_end self.now result ≡ box_place_before self.now before }
+        ensures offset { edge_or_end self.now result ≡ box_rank_or_len self.now before }
     {
         match before {
             Some(edge) => self.edge_before(edge),
@@ -71,7 +71,7 @@ impl<T: Drop> BoxStorage<T> {
 
 impl<T: Drop> Storage<T> for BoxStorage<T> {
     ghost use Rattle.range_tree.specs.declared.btree.searching.TheConstants.{MAX_ASKS};
-    ghost use Rattle.range_tree.specs.Holding.{box_items, box_place, box_rank, box_room, box_place_before, IsGood, with_box_item, items_with_box_item, room_with_box_item, good_with_box_item, rank_with_box_item, good_in_range, items_fit, none_asked_of_empty};
+    ghost use Rattle.range_tree.specs.Holding.{box_items, box_offset, box_rank, box_room, box_rank_or_len, IsGood, with_box_item, items_with_box_item, room_with_box_item, good_with_box_item, rank_with_box_item, good_in_range, items_fit, none_asked_of_empty};
 
     type Position = Edge;
 
@@ -188,10 +188,10 @@ impl<T: Drop> Storage<T> for BoxStorage<T> {
         requires good { ForSome before (IsGood self.old) }
         requires has_room { 1 ≤ box_room self.old }
         ensures list { box_items self.new
-            ≡ insert (box_items self.old) (box_place_before self.old before) item }
+            ≡ insert (box_items self.old) (box_rank_or_len self.old before) item }
         ensures space { box_room self.old ≡ box_room self.new + 1 }
         ensures position { IsGood self.new result
-            × (box_rank self.new result ≡ box_place_before self.old before) }
+            × (box_rank self.new result ≡ box_rank_or_len self.old before) }
     {
         let edge = self.edge_at(before);
         self.insert(edge, item)

@@ -11,7 +11,7 @@ use Rattle.btree_range_map.specs.Item.{Item}
 use Rattle.btree_range_map.specs.LastCommands.{last_command_decides}
 use Rattle.btree_range_map.specs.Order.{KeyOrder, IsLawful}
 use Rattle.btree_range_map.specs.Reply.{Reply}
-use Rattle.btree_range_map.specs.Runs.{IsStep, IsRun}
+use Rattle.btree_range_map.specs.Runs.{IsStep, AreSteps}
 use Rattle.rangerun.specs.declared.command_line.CommandLine.TheVariants.{Run, Show, Gaps, Len, Levels, Save}
 use Rattle.rangerun.specs.declared.tag.Tag.{Tag}
 use Rattle.line_program.specs.Conversation.{Conversation}
@@ -25,9 +25,10 @@ module _ {K : Type 0} (order : KeyOrder K) where
   -- a run that goes one step on
   one_more : (items middle last : List (Item (AnyRange K) ℤ)) (commands : List (Command K ℤ Tag))
       (replies : List (Reply K ℤ ℤ)) (command : Command K ℤ Tag) (reply : Reply K ℤ ℤ)
-      → IsRun order int_eq IsAnswerOf items commands replies middle
+      → AreSteps order int_eq IsAnswerOf items commands replies middle
       → IsStep order int_eq IsAnswerOf middle command reply last
-      → IsRun order int_eq IsAnswerOf items (commands ++ command ∷ []) (replies ++ reply ∷ []) last
+      → AreSteps order int_eq IsAnswerOf items (commands ++ command ∷ [])
+      (replies ++ reply ∷ []) last
   one_more items middle last [] [] command reply run step = (last, rw run at step, refl)
   one_more items middle last (c ∷ commands) (r ∷ replies) command reply run step =
       (run.0, run.1, one_more run.0 middle last commands replies command reply run.2 step)
@@ -36,7 +37,7 @@ module _ {K : Type 0} (order : KeyOrder K) where
 module _ {K : Type 0} (order : KeyOrder K) (as_number : K → ℤ) (shape : K → Data)
     (reads : Data → Bool) (is_read : Data → K → Type 0) where
   abbrev IsChain : Commands K → List (Item (AnyRange K) ℤ) → Type 0
-  IsChain done last = IsRun order int_eq IsAnswerOf done.first done.commands done.replies last
+  IsChain done last = AreSteps order int_eq IsAnswerOf done.first done.commands done.replies last
 
   chain_after : (done : Commands K) (items : List (Item (AnyRange K) ℤ)) (levels : ℕ)
       (line answer : List ℕ) (next : List (Item (AnyRange K) ℤ))

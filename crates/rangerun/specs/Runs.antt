@@ -11,7 +11,7 @@ use Rattle.btree_range_map.specs.History.{BindOver}
 use Rattle.btree_range_map.specs.Item.{Item}
 use Rattle.btree_range_map.specs.Order.{KeyOrder}
 use Rattle.btree_range_map.specs.Reply.{Reply}
-use Rattle.btree_range_map.specs.Runs.{IsRun}
+use Rattle.btree_range_map.specs.Runs.{AreSteps}
 use Rattle.rangerun.specs.declared.command_line.CommandLine.TheVariants.{Run}
 use Rattle.rangerun.specs.declared.tag.Tag.{Tag}
 use Rattle.line_program.specs.Conversation.{Conversation}
@@ -32,7 +32,7 @@ no_commands items = record { first = items; commands = []; replies = [] }
 -- key says
 pub record AreOneRun {K : Type 0} (order : KeyOrder K) (done : Commands K)
     (last : List (Item (AnyRange K) ℤ)) : Type 0 where
-  pub chain : IsRun order int_eq IsAnswerOf done.first done.commands done.replies last
+  pub chain : AreSteps order int_eq IsAnswerOf done.first done.commands done.replies last
   pub history : (k : K) → order.is_key k → (b : Option ℤ) → Binds order int_eq last k b
       → BindOver order int_eq IsAnswerOf k
       (λ u. Binds order int_eq done.first k u) done.commands done.replies b

@@ -23,7 +23,7 @@ use Rattle.btree_range_map.specs.Pieces.{IsFreePart, IsPiece}
 use Rattle.btree_range_map.specs.Relations.{LiesBefore}
 use Rattle.btree_range_map.specs.RangeOrder.{range_cmp}
 use Rattle.btree_range_map.specs.Position.{start_position, end_position, position_cmp}
-use Rattle.btree_range_map.specs.Range.{StartHolds, EndHolds, Holds, IsEmptyRange, IsKnownBound, IsKnownRange}
+use Rattle.btree_range_map.specs.Range.{StartHolds, EndHolds, Holds, IsEmptyRange, IsBoundOfKey, IsKeyRange}
 use Rattle.btree_range_map.specs.Unsigned.{unsigned_counted}
 use Rattle.tour.specs.Coverage.{Bytes, HasCome, IsMissing, IsWhole, first_of, past_of}
 
@@ -48,7 +48,7 @@ end_holds (Excluded b) m h = grind (arith, nat_tests)
 end_holds Unbounded m h = tt
 
 -- of a range that is not empty
-some_byte : (s e : Bound ℕ) → IsKnownBound u64_order s → IsKnownBound u64_order e
+some_byte : (s e : Bound ℕ) → IsBoundOfKey u64_order s → IsBoundOfKey u64_order e
     → (position_cmp u64_order.cmp (start_position u64_order s) (end_position u64_order e) ≡ Greater
     → ⊥) → first_of s < past_of e
 some_byte (Included a) (Included b) known known' some = grind (arith, nat_tests)
@@ -62,7 +62,7 @@ some_byte Unbounded (Excluded b) known known' some = grind (arith, nat_tests)
 some_byte Unbounded Unbounded known known' some = grind (arith, nat_tests)
 
 -- a range that lies before another
-bytes_before : (e s : Bound ℕ) → IsKnownBound u64_order e → IsKnownBound u64_order s
+bytes_before : (e s : Bound ℕ) → IsBoundOfKey u64_order e → IsBoundOfKey u64_order s
     → position_cmp u64_order.cmp (end_position u64_order e) (start_position u64_order s) ≡ Less
     → past_of e ≤ first_of s
 bytes_before (Included b) (Included a) known known' less = grind (arith, nat_tests)
@@ -117,7 +117,7 @@ come_or_not (i ∷ rest) byte =
     ]
 
 -- an end that is not before a start
-reaches : (e s : Bound ℕ) → IsKnownBound u64_order e → IsKnownBound u64_order s
+reaches : (e s : Bound ℕ) → IsBoundOfKey u64_order e → IsBoundOfKey u64_order s
     → ¬ (position_cmp u64_order.cmp (end_position u64_order e) (start_position u64_order s) ≡ Less)
     → first_of s < past_of e
 reaches (Included b) (Included a) known known' reached = grind (arith, nat_tests)
@@ -131,8 +131,8 @@ reaches Unbounded (Excluded a) known known' reached = grind (arith, nat_tests)
 reaches Unbounded Unbounded known known' reached = grind (arith, nat_tests)
 
 -- a range that holds no byte of a piece does not meet it
-apart : (r part : AnyRange ℕ) → IsKnownRange u64_order r → ¬ IsEmptyRange u64_order r
-    → IsKnownRange u64_order part → first_of part.start < past_of part.end
+apart : (r part : AnyRange ℕ) → IsKeyRange u64_order r → ¬ IsEmptyRange u64_order r
+    → IsKeyRange u64_order part → first_of part.start < past_of part.end
     → ((byte : ℕ) → first_of part.start ≤ byte → byte < past_of part.end → ¬ Holds u64_order r byte)
     → ¬ Overlap u64_order r part
 apart r part known some known' wide none meet =
@@ -151,8 +151,8 @@ apart r part known some known' wide none meet =
     ]
 
 all_apart : (items : List (Item (AnyRange ℕ) (Unit {0}))) (part : AnyRange ℕ)
-    → Every (λ i. IsKnownRange u64_order i.key) items
-    → Every (λ i. ¬ IsEmptyRange u64_order i.key) items → IsKnownRange u64_order part
+    → Every (λ i. IsKeyRange u64_order i.key) items
+    → Every (λ i. ¬ IsEmptyRange u64_order i.key) items → IsKeyRange u64_order part
     → first_of part.start < past_of part.end
     → ((byte : ℕ) → first_of part.start ≤ byte → byte < past_of part.end
     → ¬ HoldsKey u64_order items byte)
@@ -165,7 +165,7 @@ all_apart (i ∷ items) part known some known' wide none = (
 )
 
 -- how the positions of starts and ends lie to those of single bytes
-start_by : (s : Bound ℕ) (m : ℕ) → IsKnownBound u64_order s → m ≤ 18446744073709551615
+start_by : (s : Bound ℕ) (m : ℕ) → IsBoundOfKey u64_order s → m ≤ 18446744073709551615
     → Le (position_cmp u64_order.cmp) (start_position u64_order s) (start_position u64_order (Included m))
     → first_of s ≤ m
 start_by (Included a) m known fits le = grind (arith, nat_tests)
@@ -202,7 +202,7 @@ ends_inside : (m size : ℕ) → m < size → size ≤ 18446744073709551615
     (end_position u64_order (Excluded size))
 ends_inside m size less fits = grind (arith, nat_tests)
 
-end_inside : (e : Bound ℕ) (size : ℕ) → IsKnownBound u64_order e → size ≤ 18446744073709551615
+end_inside : (e : Bound ℕ) (size : ℕ) → IsBoundOfKey u64_order e → size ≤ 18446744073709551615
     → Le (position_cmp u64_order.cmp) (end_position u64_order e) (end_position u64_order (Excluded size))
     → past_of e ≤ size
 end_inside (Included b) size known fits le = grind (arith, nat_tests)
@@ -301,7 +301,7 @@ module _ (bytes : Bytes) where
   module _ (fits : bytes.size ≤ 18446744073709551615) (stored : IsStoredSet u64_order bytes.come)
     where
       -- bytes of the file that have not come are a free part of it
-      free_bytes : (s : Bound ℕ) (last : ℕ) → IsKnownBound u64_order s → first_of s ≤ last
+      free_bytes : (s : Bound ℕ) (last : ℕ) → IsBoundOfKey u64_order s → first_of s ≤ last
           → last < bytes.size → NoneCame (first_of s) last → IsFree (up_to s last)
       free_bytes s last known some inside none = record {
         known = (known, omega (arith, fits, inside));
@@ -438,7 +438,7 @@ module _ (bytes : Bytes) where
               | inr free ↦
                   let small : byte < bytes.size = omega (arith, before, wide, inside) in
                   let (first, last, low, within, gap) = gap_around byte small free in
-                  let known : IsKnownRange u64_order (range_inclusive first last) =
+                  let known : IsKeyRange u64_order (range_inclusive first last) =
                   (omega (arith, low, small, fits), omega (arith, within, fits)) in
                   let after = first_gap part rest first last (omega (arith, low, small, fits))
                   gaps.each gaps.rising (gaps.all (range_inclusive first last) known gap) in

@@ -1,6 +1,6 @@
 //! Copies of a map, and an empty one.
 ghost use Rattle.std.specs.Prelude.{◌≡◌, [], IfOk, All};
-ghost use Rattle.range_algebra.specs.Range.{ClonesAreEqual, IsKnownRange};
+ghost use Rattle.range_algebra.specs.Range.{ClonesAreEqual, IsKeyRange};
 ghost use Rattle.range_reads.specs.ListOrder.{IsCopyOf};
 ghost use Rattle.range_runs.specs.Canonical.{IsCanonical};
 
@@ -15,7 +15,7 @@ use std::marker::PhantomData;
 /// Goes over the items, and promises that their bounds are keys: a clone of a key promises no such
 /// thing.
 fn known_items<K: PartialEnum, V, C: Storage<Item<AnyRange<K>, V>>>(stored: &C)
-    ensures { All (λ i. IsKnownRange K.order i.key) (C.items stored.now) }
+    ensures { All (λ i. IsKeyRange K.order i.key) (C.items stored.now) }
 {
     let mut at = stored.first();
     while let Some(p) = at {

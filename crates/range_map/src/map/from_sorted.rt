@@ -1,7 +1,7 @@
 //! A map built of ranges that are in order.
 ghost use Rattle.std.specs.List.{AllByRecursion as Every};
 ghost use Rattle.std.specs.Prelude.{◌≡◌, ◌↔◌, ℕ, IfOk, IsOk, Err, length, map};
-ghost use Rattle.range_algebra.specs.Range.{IsKnownRange};
+ghost use Rattle.range_algebra.specs.Range.{IsKeyRange};
 ghost use Rattle.range_bulk.specs.Sorting.{IsFirstFault, IsSorted, item_of};
 ghost use Rattle.range_runs.specs.Bindings.{BindAlike};
 ghost use Rattle.range_runs.specs.Canonical.{IsCanonical};
@@ -35,7 +35,7 @@ fn build<K: Measure, V: Eq + Drop, C: Storage<Item<AnyRange<K>, V>>, R: IntoRang
     pairs: Vec<(R, V)>,
 ) -> Result<RangeMap<K, V, C>, AllocError>
     requires sorted { IsSorted K.order (map (item_of R.range) pairs.items) }
-    requires known { Every (λ i. IsKnownRange K.order i.key)
+    requires known { Every (λ i. IsKeyRange K.order i.key)
         (map (item_of R.range) pairs.items) }
     ensures bound { IfOk result
         (λ new. BindAlike K.order V.eq (C.items new) (map (item_of R.range) pairs.items)) }

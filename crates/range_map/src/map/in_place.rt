@@ -5,10 +5,10 @@ ghost use Rattle.range_map.specs.Overlays.{IsOverlaid, IsRestricted, IsWithout};
 ghost use Rattle.range_map.specs.PartWay.{AreUnboundAfter, BeforeOne, BeforeOneGap};
 ghost use Rattle.range_runs.specs.Canonical.{IsCanonical};
 
-use crate::map::RangeMap;
+use crate::map::{GapsWithin, RangeMap};
 use range_algebra::any::AnyRange;
 use range_edit::error::MapError;
-use range_keys::traits::Measure;
+use range_keys::traits::{Measure, PartialEnum};
 use range_store::storage::{Item, Storage};
 
 impl<K: Measure + Clone, V: Eq + Clone, C: Storage<Item<AnyRange<K>, V>>> RangeMap<K, V, C> {
@@ -87,11 +87,11 @@ impl<K: Measure + Clone, V: Eq + Clone, C: Storage<Item<AnyRange<K>, V>>> RangeM
     ///
     /// Searches once for each gap of the other map, and takes each stored range out by itself. It
     /// goes once over both maps, as `restrict` does, where the other map has 64 ranges or more and
-    /// half as many as this one, or where the first quarter of its gaps meet a fifth of 64 ranges
-    /// or more. Allocates a clone of each bound of a gap, and what `remove` does; or what
-    /// `restrict` does, and where that fails, goes gap by gap. After an error the keys of the other
-    /// map's gaps before the one at which it failed are unbound, and each other key is bound as
-    /// before.
+    /// half as many as this one, or where a quarter of its gaps, taken from both ends in turn, meet
+    /// a fifth of 64 ranges or more. Allocates a clone of each bound of a gap, and what `remove`
+    /// does; or what `restrict` does, and where that fails, goes gap by gap. After an error the
+    /// keys of the other map's gaps before the one at which it failed are unbound, and each other
+    /// key is bound as before.
     ///
     /// ```
     /// // of a map that binds 0..=5 to 1, and one that binds 4..9 to 10
@@ -120,25 +120,27 @@ impl<K: Measure + Clone, V: Eq + Clone, C: Storage<Item<AnyRange<K>, V>>> RangeM
         self.remove_gaps(other)
     }
 
-    // Whether one pass costs no more than the removal of each gap of the other map: for its many
-    // ranges, or for what the first of its gaps take out.
+    // Whether to go once over both maps in place of removing each gap of the other map: for its
+    // many ranges, or for what its outer gaps take out.
     fn loses_many<W: Eq + Drop, D: Storage<Item<AnyRange<K>, W>>>(
         &self,
         other: &RangeMap<K, W, D>,
     ) -> bool {
         let ranges = self.range_count();
-        is_many(other.range_count(), ranges) || (ranges >= FEWEST && self.meets_first_gaps(other))
+        is_many(other.range_count(), ranges) || (ranges >= FEWEST && self.meets_outer_gaps(other))
     }
 
-    // Whether the first quarter of the other map's gaps meet a fifth of the ranges.
-    fn meets_first_gaps<W: Eq + Drop, D: Storage<Item<AnyRange<K>, W>>>(
+    // Whether a quarter of the other map's gaps, taken from both ends in turn, meet a fifth of the
+    // ranges.
+    fn meets_outer_gaps<W: Eq + Drop, D: Storage<Item<AnyRange<K>, W>>>(
         &self,
         other: &RangeMap<K, W, D>,
     ) -> bool {
         let mut left = self.range_count() / 5;
-        let mut gaps = other.gaps();
-        for _ in 0..other.range_count() / 4 + 2 {
-            let Some(gap) = gaps.next() else {
+        let all = (..).into();
+        let mut gaps = other.gaps_within::<AnyRange<K>>(&all);
+        for turn in 0..other.range_count() / 4 + 2 {
+            let Some(gap) = next_outer(&mut gaps, turn) else {
                 return false;
             };
             let Ok(gap) = gap.cloned() else {
@@ -161,6 +163,18 @@ impl<K: Measure + Clone, V: Eq + Clone, C: Storage<Item<AnyRange<K>, V>>> RangeM
             }
         }
         0
+    }
+}
+
+// The next gap from one end, or in each other turn from the other.
+fn next_outer<'a, K: PartialEnum, W: Eq + Drop, D: Storage<Item<AnyRange<K>, W>>>(
+    gaps: &mut GapsWithin<'a, K, W, D>,
+    turn: usize,
+) -> Option<AnyRange<&'a K>> {
+    if turn % 2 == 0 {
+        gaps.next()
+    } else {
+        gaps.next_back()
     }
 }
 

@@ -2,7 +2,7 @@
 ghost use Rattle.std.specs.Prelude.{◌≡◌, ◌↔◌, Some, IsNone, IsSomeAnd};
 ghost use Rattle.range_keys.specs.Counted.{IsCountedMeasure};
 ghost use Rattle.range_algebra.specs.Intervals.{Any};
-ghost use Rattle.range_algebra.specs.Measures.{list_measure, AreInOrder, HasUntoldEnd};
+ghost use Rattle.range_algebra.specs.Measures.{list_measure, AreInOrder, HasUnknownEnd};
 ghost use Rattle.range_algebra.specs.Numbers.{IsNumberOfKeys};
 ghost use Rattle.range_runs.specs.Bindings.{IsBound};
 ghost use Rattle.range_reads.specs.FreeRanges.{item_ranges};
@@ -62,7 +62,8 @@ impl<K: Measure, V: Eq + Drop, C: Storage<Item<AnyRange<K>, V>>> RangeMap<K, V, 
     pub fn bounded_len(&self) -> Option<u128>
         ensures measure { result
             ≡ list_measure K.order K.len K.distance (item_ranges (C.items self.now)) }
-        ensures untold { IsNone result ↔ Any (λ i. HasUntoldEnd K.order i.key) (C.items self.now) }
+        ensures unknown { IsNone result
+            ↔ Any (λ i. HasUnknownEnd K.order i.key) (C.items self.now) }
         ensures counted { IsCountedMeasure K.order K.len K.distance
             → IsSomeAnd result (IsNumberOfKeys K.order (IsBound K.order (C.items self.now))) }
     {

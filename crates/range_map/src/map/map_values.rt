@@ -2,7 +2,7 @@
 ghost use Rattle.std.specs.Prelude.{◌≡◌, IfOk, Ok, Err};
 ghost use Rattle.std.specs.Fn.{FnReturnsAt};
 ghost use Rattle.range_algebra.specs.Clones.{IsRangeClone};
-ghost use Rattle.range_algebra.specs.Range.{ClonesAreEqual, IsKnownRange};
+ghost use Rattle.range_algebra.specs.Range.{ClonesAreEqual, IsKeyRange};
 ghost use Rattle.range_map.specs.MappedValues.{AnswersItem, AreFirstAnswered, AreMapped, IsAnsweredEach, MayBeAskedOfValues};
 ghost use Rattle.range_merge.specs.Merged.{part_item};
 ghost use Rattle.range_runs.specs.Canonical.{IsCanonical};
@@ -27,7 +27,7 @@ fn answered<'a, K: PartialEnum + Clone, V, W: Drop, E: Drop, F: Fn(&V) -> Result
     requires { (shown : _) → shown.now ≡ (part_item part).value → F.pre f.now shown }
     ensures range { IfOk result
         (λ item. IsRangeClone K.is_clone (part_item part.entry).key item.key) }
-    ensures known { IfOk result (λ item. IsKnownRange K.order item.key) }
+    ensures known { IfOk result (λ item. IsKeyRange K.order item.key) }
     ensures value { IfOk result
         (λ item. FnReturnsAt F.Fn f.now (part_item part.entry).value (Ok item.value)) }
     ensures closure { (e : E) → result ≡ Err (ClosureError e)

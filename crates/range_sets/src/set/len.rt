@@ -2,7 +2,7 @@
 ghost use Rattle.std.specs.Prelude.{◌≡◌, ◌↔◌, Some, IsNone, IsSomeAnd};
 ghost use Rattle.range_keys.specs.Counted.{IsCountedMeasure};
 ghost use Rattle.range_algebra.specs.Intervals.{Any};
-ghost use Rattle.range_algebra.specs.Measures.{list_measure, HasUntoldEnd};
+ghost use Rattle.range_algebra.specs.Measures.{list_measure, HasUnknownEnd};
 ghost use Rattle.range_algebra.specs.Numbers.{IsNumberOfKeys};
 ghost use Rattle.range_reads.specs.FreeRanges.{item_ranges};
 ghost use Rattle.range_set_extend.specs.KeySets.{HoldsKey};
@@ -47,7 +47,8 @@ impl<T: Measure, C: Storage<Item<AnyRange<T>, ()>>> RangeSet<T, C> {
     pub fn bounded_len(&self) -> Option<u128>
         ensures measure { result
             ≡ list_measure T.order T.len T.distance (item_ranges (C.items self.now)) }
-        ensures untold { IsNone result ↔ Any (λ i. HasUntoldEnd T.order i.key) (C.items self.now) }
+        ensures unknown { IsNone result
+            ↔ Any (λ i. HasUnknownEnd T.order i.key) (C.items self.now) }
         ensures counted { IsCountedMeasure T.order T.len T.distance
             → IsSomeAnd result (IsNumberOfKeys T.order (HoldsKey T.order (C.items self.now))) }
     {

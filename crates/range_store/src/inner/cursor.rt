@@ -2,7 +2,7 @@
 //! is inserted or removed.
 ghost use Rattle.std.specs.Prelude.{◌≡◌, ◌+◌, ◌-◌, ◌≤◌, ◌∷◌, ◌++◌, length, take, drop};
 ghost use Rattle.std.specs.Option.{ForSome};
-ghost use Rattle.range_store.specs.ListPlaces.{place_before, IsAt};
+ghost use Rattle.range_store.specs.ListRanks.{rank_or_len, IsAt};
 
 use crate::storage::Storage;
 
@@ -26,18 +26,18 @@ pub fn put<T: Drop, C: Storage<T>>(
     item: T,
 ) -> Cursor<C::Position>
     requires good { ForSome cursor.at (C.is_good stored.old) }
-    requires in_range { place_before (C.rank stored.old) (length (C.items stored.old)) cursor.at
+    requires in_range { rank_or_len (C.rank stored.old) (length (C.items stored.old)) cursor.at
         + cursor.left ≤ length (C.items stored.old) }
     requires space { 1 ≤ cursor.left + C.room stored.old }
-    ensures list { let place = place_before (C.rank stored.old) (length (C.items stored.old))
+    ensures list { let index = rank_or_len (C.rank stored.old) (length (C.items stored.old))
         cursor.at in C.items stored.new
-        ≡ take place (C.items stored.old) ++ item
-        ∷ drop (place + (cursor.left - result.left)) (C.items stored.old) }
+        ≡ take index (C.items stored.old) ++ item
+        ∷ drop (index + (cursor.left - result.left)) (C.items stored.old) }
     ensures left { result.left ≡ cursor.left - 1 }
     ensures space { C.room stored.old + cursor.left ≤ C.room stored.new + result.left + 1 }
-    ensures position { let place = place_before (C.rank stored.old) (length (C.items stored.old))
+    ensures position { let index = rank_or_len (C.rank stored.old) (length (C.items stored.old))
         cursor.at in IsAt (C.is_good stored.new) (C.rank stored.new) (length (C.items stored.new))
-        result.at (place + 1) }
+        result.at (index + 1) }
 {
     if cursor.left == 0 {
         let inserted = stored.insert_at(cursor.at, item);
@@ -57,11 +57,11 @@ pub fn put<T: Drop, C: Storage<T>>(
 /// Removes the items that are left.
 pub fn remove_rest<T: Drop, C: Storage<T>>(stored: &mut C, cursor: Cursor<C::Position>)
     requires good { ForSome cursor.at (C.is_good stored.old) }
-    requires in_range { place_before (C.rank stored.old) (length (C.items stored.old)) cursor.at
+    requires in_range { rank_or_len (C.rank stored.old) (length (C.items stored.old)) cursor.at
         + cursor.left ≤ length (C.items stored.old) }
-    ensures list { let place = place_before (C.rank stored.old) (length (C.items stored.old))
+    ensures list { let index = rank_or_len (C.rank stored.old) (length (C.items stored.old))
         cursor.at in C.items stored.new
-        ≡ take place (C.items stored.old) ++ drop (place + cursor.left) (C.items stored.old) }
+        ≡ take index (C.items stored.old) ++ drop (index + cursor.left) (C.items stored.old) }
     ensures space { C.room stored.old + cursor.left ≤ C.room stored.new }
 {
     let mut at = cursor.at;
@@ -74,13 +74,13 @@ pub fn remove_rest<T: Drop, C: Storage<T>>(stored: &mut C, cursor: Cursor<C::Pos
 /// Lets one item stand for the whole run.
 pub fn replace_run<T: Drop, C: Storage<T>>(stored: &mut C, cursor: Cursor<C::Position>, item: T)
     requires good { ForSome cursor.at (C.is_good stored.old) }
-    requires in_range { place_before (C.rank stored.old) (length (C.items stored.old)) cursor.at
+    requires in_range { rank_or_len (C.rank stored.old) (length (C.items stored.old)) cursor.at
         + cursor.left ≤ length (C.items stored.old) }
     requires space { 1 ≤ cursor.left + C.room stored.old }
-    ensures list { let place = place_before (C.rank stored.old) (length (C.items stored.old))
+    ensures list { let index = rank_or_len (C.rank stored.old) (length (C.items stored.old))
         cursor.at in C.items stored.new
-        ≡ take place (C.items stored.old) ++ item
-        ∷ drop (place + cursor.left) (C.items stored.old) }
+        ≡ take index (C.items stored.old) ++ item
+        ∷ drop (index + cursor.left) (C.items stored.old) }
     ensures space { C.room stored.old + cursor.left ≤ C.room stored.new + 1 }
 {
     match cursor.left {

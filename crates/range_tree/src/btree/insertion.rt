@@ -2,7 +2,7 @@
 ghost use Rattle.std.specs.Prelude.{◌≡◌, ℕ, suc, ◌+◌, ◌-◌, ◌*◌, ◌<◌, ◌≤◌, ◌^◌, length, insert, None, Some};
 ghost use Rattle.range_nodes.specs.Heap.{FitsChild, HasNode, HasRoomFor, with_child, node_items, node_children};
 ghost use Rattle.range_tree.specs.Nodes.{items_below, tops, separators, ShapedBut, Replaces, Owned, HasTreeRoom};
-ghost use Rattle.range_tree.specs.Edges.{IsEdge, place, IsSeat, seat_place};
+ghost use Rattle.range_tree.specs.Edges.{IsEdge, offset, IsSeat, seat_offset};
 ghost use Rattle.range_tree.specs.Contents.{IsContent, Settles};
 
 use crate::btree::path::{Edge, MAX_LEVELS, edge_at, first_turn, seen_above, seen_inside};
@@ -47,9 +47,9 @@ pub fn put_or_cut<T: Drop>(
     ensures left_whole { length (node_items nodes.old number) < CAPACITY → result.split ≡ None }
     ensures edge { IsSeat nodes.new (suc below) (separators result.split) (tops number result.split)
         result.side result.edge }
-    ensures place { seat_place nodes.new (suc below) (separators result.split)
+    ensures offset { seat_offset nodes.new (suc below) (separators result.split)
         (tops number result.split) result.side result.edge
-        ≡ seat_place nodes.old below (insert (node_items nodes.old number) index item)
+        ≡ seat_offset nodes.old below (insert (node_items nodes.old number) index item)
         (with_child (node_children nodes.old number) (index + 1) child) seat inner }
 {
     if nodes.item_count(number) < CAPACITY {
@@ -90,13 +90,13 @@ pub fn insert_below<T: Drop>(
     requires deep { below < MAX_LEVELS }
     requires room { HasTreeRoom nodes.old (suc below) number 1 }
     ensures replaces { Replaces nodes.old nodes.new below number result.split
-        (insert (items_below nodes.old (suc below) number) (place nodes.old below number edge)
+        (insert (items_below nodes.old (suc below) number) (offset nodes.old below number edge)
         item) }
     ensures left_whole { length (node_items nodes.old number) < CAPACITY → result.split ≡ None }
     ensures edge { IsSeat nodes.new (suc below) (separators result.split) (tops number result.split)
         result.side result.edge }
-    ensures place { seat_place nodes.new (suc below) (separators result.split)
-        (tops number result.split) result.side result.edge ≡ place nodes.old below number edge + 1 }
+    ensures offset { seat_offset nodes.new (suc below) (separators result.split)
+        (tops number result.split) result.side result.edge ≡ offset nodes.old below number edge + 1 }
 {
     if below == 0 {
         let at = edge.index;

@@ -3,7 +3,7 @@
 ghost use Rattle.std.specs.Prelude.{◌≡◌, ℕ, suc, ◌+◌, ◌-◌, ◌*◌, ◌%◌, ◌/◌, ◌^◌, ◌<◌, ◌≤◌, length, MatchOption};
 ghost use Rattle.range_nodes.specs.Heap.{node_items};
 ghost use Rattle.range_tree.specs.Nodes.{items_below, ShapedBut};
-ghost use Rattle.range_tree.specs.Edges.{turn, inside, seat_of, is_start, IsEdge, place, home_of};
+ghost use Rattle.range_tree.specs.Edges.{turn, inside, seat_of, is_start, IsEdge, offset, home_of};
 ghost use Rattle.range_tree.specs.EndLeaves.{AreEndLeaves};
 
 use range_nodes::nodes::{CAPACITY, Nodes};
@@ -11,7 +11,7 @@ use range_nodes::nodes::{CAPACITY, Nodes};
 // A path has a digit for each level: the child through which it goes, from the lowest digit on.
 pub const PATH_BASE: u64 = 16;
 
-// As many digits has a path. No tree has more levels, since it has at most `MAX_LEN` items.
+// How many digits a path has. No tree has more levels, since it has at most `MAX_LEN` items.
 pub const MAX_LEVELS: usize = 16;
 
 /// A place between two items of a `BoxStorage`: an index in a leaf, and the path to that. It stands
@@ -111,7 +111,7 @@ pub fn first_edge<T: Drop>(nodes: &Nodes<T>, below: usize, number: usize) -> Edg
     requires shaped { ShapedBut 1 CAPACITY nodes.now below number }
     requires deep { below < MAX_LEVELS }
     ensures edge { IsEdge nodes.now below number result }
-    ensures place { place nodes.now below number result ≡ 0 }
+    ensures offset { offset nodes.now below number result ≡ 0 }
 {
     let mut leaf = number;
     let mut left = below;
@@ -131,7 +131,7 @@ pub fn end_edge<T: Drop>(nodes: &Nodes<T>, below: usize, number: usize) -> Edge
     requires shaped { ShapedBut 1 CAPACITY nodes.now below number }
     requires deep { below < MAX_LEVELS }
     ensures edge { IsEdge nodes.now below number result }
-    ensures place { place nodes.now below number result
+    ensures offset { offset nodes.now below number result
         ≡ length (items_below nodes.now (suc below) number) }
 {
     let mut leaf = number;
@@ -200,13 +200,13 @@ pub fn around_leaf<T: Drop>(
     requires shaped { ShapedBut 1 CAPACITY nodes.now below number }
     requires deep { below < MAX_LEVELS }
     requires edge { IsEdge nodes.now below number edge }
-    requires some { 0 < place nodes.now below number edge }
+    requires some { 0 < offset nodes.now below number edge }
     ensures home { result.0 ≡ home_of nodes.now below number edge }
     ensures behind { let end = record edge { index = length (node_items nodes.now edge.leaf) }
         in MatchOption result.1
-        (place nodes.now below number end ≡ length (items_below nodes.now (suc below) number))
+        (offset nodes.now below number end ≡ length (items_below nodes.now (suc below) number))
         (λ h. IsEdge nodes.now below number h
-        × (place nodes.now below number h ≡ place nodes.now below number end + 1)) }
+        × (offset nodes.now below number h ≡ offset nodes.now below number end + 1)) }
 {
     let mut at = number;
     let mut left = below;
@@ -255,9 +255,9 @@ pub fn preceding<T: Drop>(nodes: &Nodes<T>, below: usize, number: usize, edge: E
     requires shaped { ShapedBut 1 CAPACITY nodes.now below number }
     requires deep { below < MAX_LEVELS }
     requires edge { IsEdge nodes.now below number edge }
-    ensures { MatchOption result (place nodes.now below number edge ≡ 0)
+    ensures { MatchOption result (offset nodes.now below number edge ≡ 0)
         (λ h. IsEdge nodes.now below number h
-        × (place nodes.now below number h + 1 ≡ place nodes.now below number edge)) }
+        × (offset nodes.now below number h + 1 ≡ offset nodes.now below number edge)) }
 {
     if below == 0 {
         if edge.index == 0 {
@@ -285,7 +285,7 @@ pub fn preceding<T: Drop>(nodes: &Nodes<T>, below: usize, number: usize, edge: E
 pub fn find_home<T: Drop>(nodes: &Nodes<T>, below: usize, number: usize, edge: Edge) -> Home
     requires shaped { ShapedBut 1 CAPACITY nodes.now below number }
     requires edge { IsEdge nodes.now below number edge }
-    requires some { 0 < place nodes.now below number edge }
+    requires some { 0 < offset nodes.now below number edge }
     ensures { result ≡ home_of nodes.now below number edge }
 {
     let mut at = number;

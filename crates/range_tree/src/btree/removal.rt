@@ -2,7 +2,7 @@
 ghost use Rattle.std.specs.Prelude.{◌≡◌, ◌⊎◌, ℕ, suc, ◌+◌, ◌-◌, ◌*◌, ◌<◌, ◌≤◌, ◌^◌, length, slice_index_or, remove};
 ghost use Rattle.range_nodes.specs.Heap.{node_items, node_child};
 ghost use Rattle.range_tree.specs.Nodes.{items_below, ShapedBut, Owned, Shrinks, MayBeRebalanced, IsLevelled, KeepsList, IsTree, IsLooseTree, IsLender, child_size};
-ghost use Rattle.range_tree.specs.Edges.{IsEdge, place, seat_of, place_through};
+ghost use Rattle.range_tree.specs.Edges.{IsEdge, offset, seat_of, offset_through};
 
 use crate::btree::path::{Edge, MAX_LEVELS, edge_at, first_turn, seat, seen_above, seen_inside};
 use range_nodes::nodes::{CAPACITY, MIN_LEN, Nodes};
@@ -30,8 +30,8 @@ pub fn borrow_from_left<T: Drop>(
     ensures shrinks { KeepsList nodes.old nodes.new (suc low) number }
     ensures kept { length (node_items nodes.new number) ≡ length (node_items nodes.old number) }
     ensures edge { IsEdge nodes.new (suc low) number result }
-    ensures place { place nodes.new (suc low) number result
-        ≡ place_through nodes.old low number (index + 1) edge }
+    ensures offset { offset nodes.new (suc low) number result
+        ≡ offset_through nodes.old low number (index + 1) edge }
 {
     let right = nodes.child_at(number, index + 1);
     nodes.rotate_right(number, index);
@@ -55,8 +55,8 @@ pub fn borrow_from_right<T: Drop>(
     ensures shrinks { KeepsList nodes.old nodes.new (suc low) number }
     ensures kept { length (node_items nodes.new number) ≡ length (node_items nodes.old number) }
     ensures edge { IsEdge nodes.new (suc low) number result }
-    ensures place { place nodes.new (suc low) number result
-        ≡ place_through nodes.old low number index edge }
+    ensures offset { offset nodes.new (suc low) number result
+        ≡ offset_through nodes.old low number index edge }
 {
     nodes.rotate_left(number, index);
     seen_above(edge, index)
@@ -94,8 +94,8 @@ pub fn join<T: Drop>(
     requires edge { IsEdge nodes.old low (node_child nodes.old number turn) edge }
     ensures shrinks { KeepsList nodes.old nodes.new (suc low) number }
     ensures edge { IsEdge nodes.new (suc low) number result }
-    ensures place { place nodes.new (suc low) number result
-        ≡ place_through nodes.old low number turn edge }
+    ensures offset { offset nodes.new (suc low) number result
+        ≡ offset_through nodes.old low number turn edge }
 {
     let left = nodes.child_at(number, index);
     let many = nodes.item_count(left);
@@ -121,8 +121,8 @@ pub fn rebalance<T: Drop>(
     ensures lent { (k : ℕ) → IsLender nodes.old number index k
         → length (node_items nodes.new number) ≡ length (node_items nodes.old number) }
     ensures edge { IsEdge nodes.new (suc low) number result }
-    ensures place { place nodes.new (suc low) number result
-        ≡ place_through nodes.old low number index edge }
+    ensures offset { offset nodes.new (suc low) number result
+        ≡ offset_through nodes.old low number index edge }
 {
     let child = nodes.child_at(number, index);
     if nodes.item_count(child) >= MIN_LEN {
@@ -160,10 +160,10 @@ pub fn remove_below<T: Drop>(
         (edge.index - 1) result.item }
     ensures shrinks { Shrinks nodes.old nodes.new below number
         (remove (items_below nodes.old (suc below) number)
-        (place nodes.old below number edge - 1)) }
+        (offset nodes.old below number edge - 1)) }
     ensures edge { IsEdge nodes.new below number result.edge }
-    ensures place { place nodes.new below number result.edge + 1
-        ≡ place nodes.old below number edge }
+    ensures offset { offset nodes.new below number result.edge + 1
+        ≡ offset nodes.old below number edge }
 {
     if below == 0 {
         let (item, _) = nodes.take_beside(number, edge.index - 1, 0);
@@ -204,9 +204,9 @@ pub fn shrink_root<T: Drop>(nodes: &mut Nodes<T>, levels: usize, root: usize, ed
     ensures capacity { nodes.new.capacity ≡ nodes.old.capacity }
     ensures edge { 0 < result.levels
         → IsEdge nodes.new (result.levels - 1) result.root result.edge }
-    ensures place { 0 < result.levels
-        → place nodes.new (result.levels - 1) result.root result.edge
-        ≡ place nodes.old (levels - 1) root edge }
+    ensures offset { 0 < result.levels
+        → offset nodes.new (result.levels - 1) result.root result.edge
+        ≡ offset nodes.old (levels - 1) root edge }
 {
     if nodes.item_count(root) > 0 {
         return Shrunk { root, levels, edge };

@@ -4,7 +4,7 @@ ghost use Rattle.range_store.specs.Counting.{AddsSteps, one_step_after};
 ghost use Rattle.range_tree.specs.Falling.{Falls};
 ghost use Rattle.range_nodes.specs.Rows.{HoldsItems, items_in};
 ghost use Rattle.range_tree.specs.Nodes.{items_below, ShapedBut};
-ghost use Rattle.range_tree.specs.Edges.{IsEdge, place};
+ghost use Rattle.range_tree.specs.Edges.{IsEdge, offset};
 
 use crate::btree::path::{Edge, MAX_LEVELS, PATH_BASE};
 use range_nodes::nodes::{CAPACITY, MIN_LEN, Nodes};
@@ -102,7 +102,7 @@ pub fn search_below<T: Drop, P: Probe<T>>(
     requires deep { below < MAX_LEVELS }
     requires falls { Falls (P.test probe.old) (items_below nodes.now (suc below) number) }
     ensures edge { IsEdge nodes.now below number result }
-    ensures count { place nodes.now below number result
+    ensures count { offset nodes.now below number result
         ≡ count_by (P.test probe.old) (items_below nodes.now (suc below) number) }
     ensures kept { P.test probe.new ≡ P.test probe.old }
     ensures asked { AddsSteps (P.steps_taken probe.old) (P.steps_taken probe.new) (suc below)

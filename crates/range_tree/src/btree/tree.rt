@@ -3,7 +3,7 @@ ghost use Rattle.std.specs.Prelude.{◌≡◌, ℕ, ◌+◌, ◌-◌, ◌*◌, �
 ghost use Rattle.range_store.specs.Counting.{AddsSteps};
 ghost use Rattle.range_tree.specs.Edges.{home_of};
 ghost use Rattle.range_tree.specs.Falling.{Falls};
-ghost use Rattle.range_tree.specs.Holding.{box_items, box_room, IsBoxEdge, box_place, box_home, edge_or_end, IsNextEdge};
+ghost use Rattle.range_tree.specs.Holding.{box_items, box_room, IsBoxEdge, box_offset, box_home, edge_or_end, IsNextEdge};
 
 use crate::btree::BoxStorage;
 use crate::btree::building::{Layout, build, layout_of};
@@ -20,7 +20,7 @@ impl<T: Drop> BoxStorage<T> {
     // The edge after all items, if there are any.
     pub fn end(&self) -> Option<Edge>
         ensures { MatchOption result (box_items self.now ≡ [])
-            (λ g. IsBoxEdge self.now g × (box_place self.now g ≡ length (box_items self.now))) }
+            (λ g. IsBoxEdge self.now g × (box_offset self.now g ≡ length (box_items self.now))) }
     {
         if self.levels == 0 {
             return None;
@@ -35,7 +35,7 @@ impl<T: Drop> BoxStorage<T> {
     // The edge after the item after an edge.
     pub fn following(&self, edge: Edge) -> Option<Edge>
         requires { IsBoxEdge self.now edge }
-        ensures { IsNextEdge self.now result (box_place self.now edge) }
+        ensures { IsNextEdge self.now result (box_offset self.now edge) }
     {
         if edge.index < self.nodes.item_count(edge.leaf) {
             return Some(Edge {
@@ -49,8 +49,8 @@ impl<T: Drop> BoxStorage<T> {
     // The edge before the item before an edge.
     pub fn edge_before(&self, edge: Edge) -> Option<Edge>
         requires { IsBoxEdge self.now edge }
-        ensures { MatchOption result (box_place self.now edge ≡ 0)
-            (λ h. IsBoxEdge self.now h × (box_place self.now h + 1 ≡ box_place self.now edge)) }
+        ensures { MatchOption result (box_offset self.now edge ≡ 0)
+            (λ h. IsBoxEdge self.now h × (box_offset self.now h + 1 ≡ box_offset self.now edge)) }
     {
         if edge.index > 0 {
             return Some(Edge {
@@ -64,7 +64,7 @@ impl<T: Drop> BoxStorage<T> {
     // Where the item before an edge stands.
     pub fn home(&self, edge: Edge) -> Home
         requires edge { IsBoxEdge self.now edge }
-        requires some { 0 < box_place self.now edge }
+        requires some { 0 < box_offset self.now edge }
         ensures { result ≡ box_home self.now edge }
     {
         if edge.index > 0 {
@@ -82,8 +82,8 @@ impl<T: Drop> BoxStorage<T> {
     pub fn edge_after_passing<P: Probe<T>>(&self, probe: &mut P) -> Option<Edge>
         requires { Falls (P.test probe.old) (box_items self.now) }
         ensures found { MatchOption result (count_by (P.test probe.old) (box_items self.now) ≡ 0)
-            (λ g. IsBoxEdge self.now g × (0 < box_place self.now g)
-            × (box_place self.now g ≡ count_by (P.test probe.old) (box_items self.now))) }
+            (λ g. IsBoxEdge self.now g × (0 < box_offset self.now g)
+            × (box_offset self.now g ≡ count_by (P.test probe.old) (box_items self.now))) }
         ensures kept { P.test probe.new ≡ P.test probe.old }
         ensures asked { AddsSteps (P.steps_taken probe.old) (P.steps_taken probe.new)
             self.now.levels (MAX_ASKS * self.now.levels) }
@@ -106,7 +106,7 @@ impl<T: Drop> BoxStorage<T> {
             ≡ insert (box_items self.old) (edge_or_end self.old edge) item }
         ensures room { box_room self.new + 1 ≡ box_room self.old }
         ensures edge { IsBoxEdge self.new result }
-        ensures place { box_place self.new result ≡ edge_or_end self.old edge + 1 }
+        ensures offset { box_offset self.new result ≡ edge_or_end self.old edge + 1 }
     {
         match edge {
             Some(edge) => self.insert_between(edge, item),
@@ -129,10 +129,10 @@ impl<T: Drop> BoxStorage<T> {
         requires edge { IsBoxEdge self.old edge }
         requires room { 1 ≤ box_room self.old }
         ensures list { box_items self.new
-            ≡ insert (box_items self.old) (box_place self.old edge) item }
+            ≡ insert (box_items self.old) (box_offset self.old edge) item }
         ensures room { box_room self.new + 1 ≡ box_room self.old }
         ensures edge { IsBoxEdge self.new result }
-        ensures place { box_place self.new result ≡ box_place self.old edge + 1 }
+        ensures offset { box_offset self.new result ≡ box_offset self.old edge + 1 }
     {
         self.len += 1;
         if self.nodes.item_count(edge.leaf) < CAPACITY {
@@ -183,12 +183,12 @@ impl<T: Drop> BoxStorage<T> {
         requires edge { IsBoxEdge self.old edge }
         requires in_leaf { 0 < edge.index }
         ensures removed { result.0
-            ≡ slice_index_or (box_items self.old) (box_place self.old edge - 1) result.0 }
+            ≡ slice_index_or (box_items self.old) (box_offset self.old edge - 1) result.0 }
         ensures list { box_items self.new
-            ≡ remove (box_items self.old) (box_place self.old edge - 1) }
+            ≡ remove (box_items self.old) (box_offset self.old edge - 1) }
         ensures capacity { self.new.nodes.capacity ≡ self.old.nodes.capacity }
         ensures edge { MatchOption result.1 (box_items self.new ≡ [])
-            (λ g. IsBoxEdge self.new g × (box_place self.new g + 1 ≡ box_place self.old edge)) }
+            (λ g. IsBoxEdge self.new g × (box_offset self.new g + 1 ≡ box_offset self.old edge)) }
     {
         self.len -= 1;
         if self.nodes.item_count(edge.leaf) > MIN_LEN {
@@ -213,13 +213,13 @@ impl<T: Drop> BoxStorage<T> {
     // Takes the item before an edge out, and returns the edge after the one that followed it.
     pub fn take(&mut self, edge: Edge) -> (T, Option<Edge>)
         requires edge { IsBoxEdge self.old edge }
-        requires some { 0 < box_place self.old edge }
+        requires some { 0 < box_offset self.old edge }
         ensures removed { result.0
-            ≡ slice_index_or (box_items self.old) (box_place self.old edge - 1) result.0 }
+            ≡ slice_index_or (box_items self.old) (box_offset self.old edge - 1) result.0 }
         ensures list { box_items self.new
-            ≡ remove (box_items self.old) (box_place self.old edge - 1) }
+            ≡ remove (box_items self.old) (box_offset self.old edge - 1) }
         ensures space { box_room self.old + 1 ≤ box_room self.new }
-        ensures following { IsNextEdge self.new result.1 (box_place self.old edge - 1) }
+        ensures following { IsNextEdge self.new result.1 (box_offset self.old edge - 1) }
     {
         if edge.index > 0 {
             let (item, left) = self.take_in_leaf(edge);

@@ -59,9 +59,9 @@ impl Bounded for Port {
         Port(u16::MAX)
     }
 
-    ghost told_least = { refl };
+    ghost known_least = { refl };
 
-    ghost told_greatest = { refl };
+    ghost known_greatest = { refl };
 }
 
 impl Measure for Port {

@@ -1,7 +1,7 @@
 use Rattle.std.proofs.Common.{◌≡◌, ◌≤◌, ℕ, length, arith, take_all}
 use Rattle.std.proofs.lemmas.List.{take_more}
 use Rattle.lexing_patterns.specs.declared.draft.End.{End}
-use Rattle.character_leads.proofs.Any.{any-push}
+use Rattle.lexing_classes.proofs.Any.{any-push}
 use Rattle.lexing_patterns.proofs.draft.add_ends.Goals as goal
 
 pub loop-state-preserved : goal.loop-state-preserved

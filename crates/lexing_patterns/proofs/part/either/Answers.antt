@@ -1,8 +1,8 @@
 use Rattle.std.proofs.Common.{◌↔◌, ◌⊎◌, ℕ, IsTrue, arith}
-use Rattle.character_leads.specs.Leads.{Leads, LeadsBy}
+use Rattle.lexing_classes.specs.Leads.{Leads, LeadsBy}
 use Rattle.lexing_patterns.specs.declared.part.Part.{Part}
 use Rattle.lexing_patterns.specs.Parts.{HasEdge, IsAmong}
-use Rattle.character_leads.proofs.Any.{any-append}
+use Rattle.lexing_classes.proofs.Any.{any-append}
 use Rattle.lexing_patterns.proofs.Joining.{either_reads, either_within, has_edge-append, is_among-append}
 use Rattle.lexing_patterns.proofs.Sizing.{choice_sized}
 use Rattle.lexing_patterns.proofs.part.either.Goals as goal

@@ -1,5 +1,5 @@
 use Rattle.std.proofs.Common.{◌↔◌, ◌⊎◌, ℕ, ◌++◌, IsTrue, arith}
-use Rattle.character_leads.specs.Leads.{Leads}
+use Rattle.lexing_classes.specs.Leads.{Leads}
 use Rattle.lexing_patterns.specs.declared.part.Part.{Part}
 use Rattle.lexing_patterns.specs.Parts.{HasEdge, IsAmong}
 use Rattle.lexing_patterns.proofs.Joining.{turn_reads, turn_within, has_edge-append}

@@ -1,6 +1,6 @@
 use Rattle.std.proofs.Common.{arith}
-use Rattle.character_leads.specs.Leads.{LeadsBy}
-use Rattle.character_leads.proofs.Any.{any-append}
+use Rattle.lexing_classes.specs.Leads.{LeadsBy}
+use Rattle.lexing_classes.proofs.Any.{any-append}
 use Rattle.lexing_patterns.proofs.part.leads_with.Goals as goal
 
 pub returns-clause-members : goal.returns-clause-members

@@ -1,9 +1,9 @@
 use Rattle.std.proofs.Common.{◌≡◌, ◌≤◌, length, arith, take_all}
 use Rattle.std.proofs.lemmas.List.{take_more}
-use Rattle.character_leads.specs.declared.leads.Lead.{Lead}
-use Rattle.character_leads.specs.Leads.{LeadsBy}
+use Rattle.lexing_classes.specs.declared.leads.Lead.{Lead}
+use Rattle.lexing_classes.specs.Leads.{LeadsBy}
 use Rattle.lexing_patterns.specs.declared.part.Edge.{Edge}
-use Rattle.character_leads.proofs.Any.{any-push}
+use Rattle.lexing_classes.proofs.Any.{any-push}
 use Rattle.lexing_patterns.proofs.part.link.Goals as goal
 
 pub loop-lead-preserved : goal.loop-lead-preserved

@@ -1,6 +1,6 @@
 use Rattle.std.proofs.Common.{◌≡◌, ◌≤◌, ℕ, length, arith, take_all}
 use Rattle.std.proofs.lemmas.List.{take_more}
-use Rattle.character_leads.proofs.Any.{any-push}
+use Rattle.lexing_classes.proofs.Any.{any-push}
 use Rattle.lexing_patterns.proofs.part.link_all.Goals as goal
 
 pub loop-state-preserved : goal.loop-state-preserved

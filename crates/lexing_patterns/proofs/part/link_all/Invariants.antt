@@ -1,5 +1,5 @@
 use Rattle.std.proofs.Common.{ℕ, ◌↔◌, ◌⊎◌, take}
-use Rattle.character_leads.specs.Leads.{Leads}
+use Rattle.lexing_classes.specs.Leads.{Leads}
 use Rattle.lexing_patterns.specs.Parts.{HasEdge, IsAmong}
 use Rattle.lexing_patterns.proofs.part.link_all.Given as goal
 

@@ -1,5 +1,5 @@
 use Rattle.std.proofs.Common.{inl, inr, arith}
-use Rattle.character_leads.specs.Leads.{Leads}
+use Rattle.lexing_classes.specs.Leads.{Leads}
 use Rattle.lexing_patterns.proofs.CharacterRanges.{one_read}
 use Rattle.lexing_patterns.proofs.part.one_of.Goals as goal
 

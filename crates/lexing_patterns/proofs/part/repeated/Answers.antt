@@ -1,5 +1,5 @@
 use Rattle.std.proofs.Common.{◌↔◌, ◌⊎◌, ℕ, IsTrue, arith}
-use Rattle.character_leads.specs.Leads.{Leads}
+use Rattle.lexing_classes.specs.Leads.{Leads}
 use Rattle.lexing_patterns.specs.Parts.{HasEdge, IsAmong}
 use Rattle.lexing_patterns.proofs.Joining.{loop_reads}
 use Rattle.lexing_patterns.proofs.part.repeated.Goals as goal

@@ -1,8 +1,8 @@
 use Rattle.std.proofs.Common.{◌≡◌, arith}
 use Rattle.std.proofs.lemmas.List.{take_more}
 use Rattle.lexing_patterns.specs.declared.part.Edge.{Edge}
-use Rattle.character_leads.specs.Leads.{LeadsBy}
-use Rattle.character_leads.proofs.Any.{any-push}
+use Rattle.lexing_classes.specs.Leads.{LeadsBy}
+use Rattle.lexing_classes.proofs.Any.{any-push}
 use Rattle.lexing_patterns.proofs.Pouring.{not_above, same_both}
 use Rattle.lexing_patterns.proofs.pour.add_edges.Goals as goal
 

@@ -1,6 +1,6 @@
 use Rattle.std.proofs.Common.{◌≡◌, ℕ, arith}
 use Rattle.std.proofs.lemmas.List.{take_more}
-use Rattle.character_leads.proofs.Any.{any-push}
+use Rattle.lexing_classes.proofs.Any.{any-push}
 use Rattle.lexing_patterns.proofs.Pouring.{same_both}
 use Rattle.lexing_patterns.proofs.pour.add_starts.Goals as goal
 

@@ -3,7 +3,7 @@ use Rattle.std.specs.declared.ops.Bound.TheVariants.{Included, Excluded}
 use Rattle.std.specs.Range.Bound.{bound_map}
 use Rattle.std.specs.Ordering.{is_gt}
 use Rattle.range_keys.specs.Position.{key_value}
-use Rattle.range_algebra.specs.Range.{IsKnownBound}
+use Rattle.range_algebra.specs.Range.{IsBoundOfKey}
 use Rattle.range_algebra.proofs.Measuring.{included_excluded, excluded_included, excluded_excluded}
 use Rattle.range_algebra.proofs.length.measured.Goals as goal
 
@@ -32,8 +32,8 @@ overflow_sub-result g c =
     let b = c.get-b-in-Excluded-Included.result.now in
     let start : bound_map key_value c.args.start.now ≡ Excluded a = cc in
     let end : bound_map key_value c.args.end.now ≡ Included b = cc in
-    let low = subst (IsKnownBound order) start c.requires.known_start in
-    let high = subst (IsKnownBound order) end c.requires.known_end in
+    let low = subst (IsBoundOfKey order) start c.requires.known_start in
+    let high = subst (IsBoundOfKey order) end c.requires.known_end in
     let below =
     excluded_included order g.met.T.PartialEnum.lawful _ _ a b start end c.requires.nonempty
     in
@@ -46,8 +46,8 @@ overflow_add-result-in-Excluded-Included g c =
     let b = c.get-b-in-Excluded-Included.result.now in
     let start : bound_map key_value c.args.start.now ≡ Excluded a = cc in
     let end : bound_map key_value c.args.end.now ≡ Included b = cc in
-    let low = subst (IsKnownBound order) start c.requires.known_start in
-    let high = subst (IsKnownBound order) end c.requires.known_end in
+    let low = subst (IsBoundOfKey order) start c.requires.known_start in
+    let high = subst (IsBoundOfKey order) end c.requires.known_end in
     let below =
     excluded_included order g.met.T.PartialEnum.lawful _ _ a b start end c.requires.nonempty
     in
@@ -69,8 +69,8 @@ overflow_sub-result-in-Excluded-Excluded g c =
     let b = c.get-b-in-Excluded-Excluded.result.now in
     let start : bound_map key_value c.args.start.now ≡ Excluded a = cc in
     let end : bound_map key_value c.args.end.now ≡ Excluded b = cc in
-    let low = subst (IsKnownBound order) start c.requires.known_start in
-    let high = subst (IsKnownBound order) end c.requires.known_end in
+    let low = subst (IsBoundOfKey order) start c.requires.known_start in
+    let high = subst (IsBoundOfKey order) end c.requires.known_end in
     let below =
     excluded_excluded order g.met.T.PartialEnum.lawful _ _ a b start end c.requires.nonempty
     in

@@ -1,4 +1,4 @@
-use Rattle.range_bulk.proofs.Common.{◌≡◌, ◌∙◌, refl, ap, arith, ◌++◌, ◌∷◌, [], length, Included, insert_end, AnyRange, every_right, Item, place_before, held_between, lt_not_le, place_at}
+use Rattle.range_bulk.proofs.Common.{◌≡◌, ◌∙◌, refl, ap, arith, ◌++◌, ◌∷◌, [], length, Included, insert_end, AnyRange, every_right, Item, rank_or_len, held_between, lt_not_le, place_at}
 use Rattle.range_runs.specs.Edits.{with_start}
 use Rattle.range_bulk.proofs.SplitLists.{parted, last_parted, last_cut}
 use Rattle.range_bulk.proofs.split.cut_last.Goals as goal
@@ -40,7 +40,7 @@ returns-in-Ok-clause-divided g c =
     let whole : items c.insert_at-front.new.self ≡ front ++ lower ∷ [] =
     c.insert_at-front.ensures.list ∙ insert_end front c.parts-front.result.0
     ∙ ap (λ y. front ++ y ∷ []) c.parts-front.ensures.front in
-    let start : place_before (storage.rank others) (length (items others)) c.first-first.result
+    let start : rank_or_len (storage.rank others) (length (items others)) c.first-first.result
     ≡ 0 =
     place_at (storage.is_good others) (storage.rank others) (length (items others))
     c.first-first.result 0 c.first-first.ensures in

@@ -1,5 +1,5 @@
 use Rattle.std.proofs.lemmas.List.{same_from_push}
-use Rattle.range_bulk.proofs.Common.{common_steps, ◌≡◌, ◌∙◌, ℕ, ◌+◌, ◌≤◌, sym, ap, subst, List, length, ◌++◌, ◌∷◌, [], arith, insert, Included, append_assoc, append-nil, insert_end, start_position, Le, Every, every_left, every_right, place_before, item_lower, places, not_lt, place_at}
+use Rattle.range_bulk.proofs.Common.{common_steps, ◌≡◌, ◌∙◌, ℕ, ◌+◌, ◌≤◌, sym, ap, subst, List, length, ◌++◌, ◌∷◌, [], arith, insert, Included, append_assoc, append-nil, insert_end, start_position, Le, Every, every_left, every_right, rank_or_len, item_lower, places, not_lt, place_at}
 use Rattle.range_bulk.proofs.split.move_back.Goals as goal
 
 -- the last item is put back
@@ -59,7 +59,7 @@ loop-last-preserved g c =
     let last = c.in-Some.last in
     let key = start_position order (Included c.args.key.now) in
     let same : items others ≡ items c.loop-last.others = c.reserve.ensures.list in
-    let start : place_before (storage.rank others) (length (items others)) c.first-first.result
+    let start : rank_or_len (storage.rank others) (length (items others)) c.first-first.result
     ≡ 0 =
     place_at (storage.is_good others) (storage.rank others) (length (items others))
     c.first-first.result 0 c.first-first.ensures in

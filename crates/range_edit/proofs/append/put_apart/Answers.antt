@@ -1,4 +1,4 @@
-use Rattle.range_edit.proofs.Common.{arith, common_steps, length, place_before}
+use Rattle.range_edit.proofs.Common.{arith, common_steps, length, rank_or_len}
 use Rattle.range_edit.proofs.ApartRanges.{free_not}
 use Rattle.range_runs.proofs.CoveredPlaces.{on_ok}
 use Rattle.range_edit.proofs.OuterRange.{inserted_apart}
@@ -12,7 +12,7 @@ returns-clause-ok g c =
     let item = c.args.item in
     on_ok _ _ c.put.result (inserted_apart g.K.MaybeBounded.order g.met.K.PartialEnum.lawful
     g.V.PartialEq.eq g.met.V.Eq.laws items item.key c.requires.stored c.known.ensures
-    c.requires.nonempty (place_before (storage.rank stored) (length items) c.args.from)
+    c.requires.nonempty (rank_or_len (storage.rank stored) (length items) c.args.from)
     c.requires.apart (storage.items c.put.new.stored) item.value) c.put.ensures.put
 
 pub returns-clause-unconnected : goal.returns-clause-unconnected

@@ -1,4 +1,4 @@
-use Rattle.range_edit.proofs.Common.{◌≡◌, ◌+◌, ◌-◌, length, arith, place_before}
+use Rattle.range_edit.proofs.Common.{◌≡◌, ◌+◌, ◌-◌, length, arith, rank_or_len}
 use Rattle.range_runs.proofs.CoveredPlaces.{on_ok}
 use Rattle.range_edit.proofs.RangeSides.{put_between as stands_between}
 use Rattle.range_edit.proofs.Surrounded.{none_reach}
@@ -9,7 +9,7 @@ returns-clause-ok g c =
     let storage = g.C.Storage in
     let stored = c.args.stored.now in
     let w = c.args.reach.now.window in
-    let place = place_before (storage.rank stored) (length (storage.items stored)) w.from in
+    let place = rank_or_len (storage.rank stored) (length (storage.items stored)) w.from in
     let none = none_reach c.requires.reach c.requires.none in
     let plus : place + 0 ≡ place = omega arith in
     let end : place + w.count - 0 ≡ place + w.count = omega arith in

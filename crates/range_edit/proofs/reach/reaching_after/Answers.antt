@@ -1,4 +1,4 @@
-use Rattle.range_edit.proofs.Common.{not_lt, PLe, ◌≡◌, ◌+◌, ◌-◌, ◌<◌, length, get_or, ap, sym, ◌∙◌, arith, subst, get_or_read, upper, place_before, item_upper}
+use Rattle.range_edit.proofs.Common.{not_lt, PLe, ◌≡◌, ◌+◌, ◌-◌, ◌<◌, length, get_or, ap, sym, ◌∙◌, arith, subst, get_or_read, upper, rank_or_len, item_upper}
 use Rattle.range_runs.proofs.Tests.{not_both}
 use Rattle.range_edit.proofs.reach.reaching_after.Goals as goal
 
@@ -9,7 +9,7 @@ returns-else-ends_after-clause-reaching g c = λ x some read.
     let stored = c.args.stored.now in
     let items = storage.items stored in
     let w = c.args.window.now in
-    let place = place_before (storage.rank stored) (length items) w.from in
+    let place = rank_or_len (storage.rank stored) (length items) w.from in
     let last = rw c.in-Some.is at c.requires.window.last_is in
     let index : storage.rank stored c.in-Some.last ≡ place + w.count - 1 = omega (arith, last.1) in
     let within : place + w.count - 1 < length items =

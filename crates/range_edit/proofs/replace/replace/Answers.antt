@@ -1,4 +1,4 @@
-use Rattle.range_edit.proofs.Common.{common_steps, ◌-◌, length, refl, ap, ◌∙◌, arith, slice_get, place_before, seam_border, flipped_bound, ℕ, ◌≡◌}
+use Rattle.range_edit.proofs.Common.{common_steps, ◌-◌, length, refl, ap, ◌∙◌, arith, slice_get, rank_or_len, seam_border, flipped_bound, ℕ, ◌≡◌}
 use Rattle.range_edit.specs.Borders.{run_length}
 use Rattle.range_edit.proofs.Planned.{planned_fits}
 use Rattle.range_edit.proofs.RangeSides.{replaced}
@@ -14,7 +14,7 @@ plan_is_replacement : (g : Over) (c : After-run_start g) {size : ℕ}
     → size ≡ run_length c.args.reach.now (record { before = c.joined_left-before.result; after = c.joined_right-after.result })
     → IsPlan g.K.MaybeBounded.order g.V.PartialEq.eq g.met.K.PartialEnum.lawful g.met.V.Eq.laws
     (g.C.Storage.is_good c.args.stored.now) (g.C.Storage.rank c.args.stored.now)
-    (g.C.Storage.items c.args.stored.now) c.args.range (place_before
+    (g.C.Storage.items c.args.stored.now) c.args.range (rank_or_len
     (g.C.Storage.rank c.args.stored.now) (length (g.C.Storage.items c.args.stored.now))
     c.args.reach.now.window.from) c.args.reach.now.window.count c.args.middle.items
     c.args.reach.now.first c.args.reach.now.last (seam_border c.joined_left-before.result

@@ -1,4 +1,4 @@
-use Rattle.range_edit.proofs.Common.{common_steps, ◌≡◌, ◌+◌, ◌∷◌, ◌++◌, length, take, drop, ap, ◌∙◌, arith, unwrap_or, AnyRange, Item, place_before, option_items}
+use Rattle.range_edit.proofs.Common.{common_steps, ◌≡◌, ◌+◌, ◌∷◌, ◌++◌, length, take, drop, ap, ◌∙◌, arith, unwrap_or, AnyRange, Item, rank_or_len, option_items}
 use Rattle.range_edit.proofs.BoundEdits.{kept_place, opening_regroups, regrouped_out}
 use Rattle.range_edit.proofs.splice.change.Goals as goal
 
@@ -9,7 +9,7 @@ returns-in-Some-clause-list g c = λ at end before behind start finish left_shap
     let items = storage.items stored in
     let ready = c.open_sides-start.new.stored in
     let kept = c.open_sides-start.ensures in
-    let from = place_before (storage.rank stored) (length items) c.args.sides.run.at in
+    let from = rank_or_len (storage.rank stored) (length items) c.args.sides.run.at in
     let upto = from + c.args.sides.run.left in
     let here = kept_place kept.positions kept.size c.args.sides.run.at c.requires.good in
     let opened = kept.opened at from upto end before behind start finish left_shape right_shape
@@ -37,7 +37,7 @@ returns-in-None-clause-list g c = λ at end before behind start finish left_shap
     let items = storage.items stored in
     let ready = c.open_sides-start.new.stored in
     let kept = c.open_sides-start.ensures in
-    let from = place_before (storage.rank stored) (length items) c.args.sides.run.at in
+    let from = rank_or_len (storage.rank stored) (length items) c.args.sides.run.at in
     let upto = from + c.args.sides.run.left in
     let here = kept_place kept.positions kept.size c.args.sides.run.at c.requires.good in
     let opened = kept.opened at from upto end before behind start finish left_shape right_shape

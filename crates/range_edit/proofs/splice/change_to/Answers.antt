@@ -1,4 +1,4 @@
-use Rattle.range_edit.proofs.Common.{common_steps, ◌≡◌, ◌+◌, ◌++◌, length, take, drop, ap, sym, ◌∙◌, arith, append_assoc, place_before, with_first_start, with_last_end, option_items}
+use Rattle.range_edit.proofs.Common.{common_steps, ◌≡◌, ◌+◌, ◌++◌, length, take, drop, ap, sym, ◌∙◌, arith, append_assoc, rank_or_len, with_first_start, with_last_end, option_items}
 use Rattle.range_edit.proofs.OuterBounds.{length_started, length_ended}
 use Rattle.range_edit.proofs.BoundEdits.{kept_place}
 use Rattle.range_edit.proofs.splice.change_to.Goals as goal
@@ -13,7 +13,7 @@ returns g c = λ at end before behind start finish left_shape right_shape le.
     let items = storage.items stored in
     let ready = c.open_sides-start.new.stored in
     let kept = c.open_sides-start.ensures in
-    let from = place_before (storage.rank stored) (length items) c.args.sides.run.at in
+    let from = rank_or_len (storage.rank stored) (length items) c.args.sides.run.at in
     let upto = from + c.args.sides.run.left in
     let here = kept_place kept.positions kept.size c.args.sides.run.at c.requires.good in
     let opened = kept.opened at from upto end before behind start finish left_shape right_shape

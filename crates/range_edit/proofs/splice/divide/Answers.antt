@@ -1,4 +1,4 @@
-use Rattle.range_edit.proofs.Common.{common_steps, ◌≡◌, ◌+◌, length, get_or, ap, ◌∙◌, arith, AnyRange, Item, place_before, place_at, kept_at, with_end}
+use Rattle.range_edit.proofs.Common.{common_steps, ◌≡◌, ◌+◌, length, get_or, ap, ◌∙◌, arith, AnyRange, Item, rank_or_len, place_at, kept_at, with_end}
 use Rattle.range_edit.proofs.DividedItems.{parted_alone}
 use Rattle.range_edit.proofs.splice.divide.Goals as goal
 
@@ -23,8 +23,8 @@ returns-in-None-clause-list g c = λ d.
     let after = kept_at (storage.is_good old) (storage.is_good ready) (storage.rank old)
     (storage.rank ready) (length items) c.args.after (place + 1) edit.positions c.requires.after in
     let
-    here : place_before (storage.rank ready) (length (storage.items ready)) c.args.after ≡ place + 1
-    = ap (λ n. place_before (storage.rank ready) n c.args.after) edit.size ∙ place_at
+    here : rank_or_len (storage.rank ready) (length (storage.items ready)) c.args.after ≡ place + 1
+    = ap (λ n. rank_or_len (storage.rank ready) n c.args.after) edit.size ∙ place_at
     (storage.is_good ready) (storage.rank ready) (length items) c.args.after (place + 1) after in
     let behind : Item (AnyRange g.row.K.Denot) g.row.V.Denot = record {
       key = record { start = parts.start; end = c.replace_end-old_end.result };

@@ -1,4 +1,4 @@
-use Rattle.range_edit.proofs.Common.{common_steps, ◌≡◌, ◌+◌, ◌-◌, ◌∷◌, ◌++◌, [], length, take, ap, sym, ◌∙◌, arith, length-append, append_assoc, append-nil, list_is_take_and_drop, place_before, place_at, at_place}
+use Rattle.range_edit.proofs.Common.{common_steps, ◌≡◌, ◌+◌, ◌-◌, ◌∷◌, ◌++◌, [], length, take, ap, sym, ◌∙◌, arith, length-append, append_assoc, append-nil, list_is_take_and_drop, rank_or_len, place_at, at_place}
 use Rattle.range_store.proofs.Moved.{moved_all}
 use Rattle.range_edit.proofs.OuterBounds.{put_next, put_all}
 use Rattle.range_edit.proofs.splice.replace_run_by.Goals as goal
@@ -8,7 +8,7 @@ loop-item-init g c =
     let storage = g.C.Storage in
     let stored = c.args.stored.now in
     let before = storage.items stored in
-    let place = place_before (storage.rank stored) (length before) c.args.run.at in
+    let place = rank_or_len (storage.rank stored) (length before) c.args.run.at in
     let none : place + (c.args.run.left - c.args.run.left) ≡ place = omega arith in
     let plus : place + 0 ≡ place = omega arith in
     record {
@@ -26,9 +26,9 @@ loop-item-preserved g c =
     let was = c.loop-item.invariant in
     let now = c.loop-item.stored in
     let before = storage.items c.args.stored.now in
-    let place = place_before (storage.rank c.args.stored.now) (length before) c.args.run.at in
+    let place = rank_or_len (storage.rank c.args.stored.now) (length before) c.args.run.at in
     let done = c.loop-item.yielded in
-    let here : place_before (storage.rank now) (length (storage.items now)) c.loop-item.cursor.at
+    let here : rank_or_len (storage.rank now) (length (storage.items now)) c.loop-item.cursor.at
     ≡ place + length done = place_at (storage.is_good now) (storage.rank now)
     (length (storage.items now)) c.loop-item.cursor.at (place + length done) was.position in
     let more = ap length c.in-Some.ensures.steps.0 in
@@ -53,9 +53,9 @@ returns g c =
     let was = c.loop-item.invariant in
     let now = c.loop-item.stored in
     let before = storage.items c.args.stored.now in
-    let place = place_before (storage.rank c.args.stored.now) (length before) c.args.run.at in
+    let place = rank_or_len (storage.rank c.args.stored.now) (length before) c.args.run.at in
     let done = c.loop-item.yielded in
-    let here : place_before (storage.rank now) (length (storage.items now)) c.loop-item.cursor.at
+    let here : rank_or_len (storage.rank now) (length (storage.items now)) c.loop-item.cursor.at
     ≡ place + length done = place_at (storage.is_good now) (storage.rank now)
     (length (storage.items now)) c.loop-item.cursor.at (place + length done) was.position in
     let rest = c.loop-item.item-iterator.rest in

@@ -1,11 +1,11 @@
-use Rattle.range_edit.proofs.Common.{◌≡◌, ◌+◌, ◌-◌, ◌≤◌, ◌++◌, length, take, drop, place_before, IsAt}
+use Rattle.range_edit.proofs.Common.{◌≡◌, ◌+◌, ◌-◌, ◌≤◌, ◌++◌, length, take, drop, rank_or_len, IsAt}
 use Rattle.range_edit.proofs.splice.replace_run_by.Given as goal
 
 abbrev pub invariant-loop-item : goal.invariant-loop-item
 invariant-loop-item g l =
     let storage = g.C.Storage in
     let before = storage.items l.fn.stored in
-    let place = place_before (storage.rank l.fn.stored) (length before) l.fn.run.at in
+    let place = rank_or_len (storage.rank l.fn.stored) (length before) l.fn.run.at in
     record {
       parted : l.yielded ++ l.item-iterator.rest.items ≡ l.fn.items.items;
       position : IsAt (storage.is_good l.stored) (storage.rank l.stored)

@@ -1,4 +1,4 @@
-use Rattle.range_edit.proofs.Common.{common_steps, refl, ◌≡◌, [], ◌+◌, ◌++◌, length, take, drop, arith, IsStored, append-nil, place_before}
+use Rattle.range_edit.proofs.Common.{common_steps, refl, ◌≡◌, [], ◌+◌, ◌++◌, length, take, drop, arith, IsStored, append-nil, rank_or_len}
 use Rattle.range_edit.proofs.RangeSides.{removed}
 use Rattle.range_edit.proofs.SewnSides.{left_side_whole, right_side_whole}
 use Rattle.range_edit.proofs.unbind.unbind_whole.Goals as goal
@@ -11,7 +11,7 @@ returns-clause-removed g c =
     let items = storage.items c.args.stored.now in
     let new = storage.items c.remove_rest.new.stored in
     let window = c.requires.reach.window in
-    let place = place_before (storage.rank c.args.stored.now) (length items)
+    let place = rank_or_len (storage.rank c.args.stored.now) (length items)
     c.args.reach.now.window.from in
     let end = place + c.args.reach.now.window.count in
     let done : new ≡ take place items ++ [] ++ [] ++ [] ++ drop end items = rw (

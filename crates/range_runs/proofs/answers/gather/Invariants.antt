@@ -1,4 +1,4 @@
-use Rattle.range_runs.proofs.Common.{drop, length, take, IsEquivalence, IsLawful, place_before, pieces_of, KeepsSpelling}
+use Rattle.range_runs.proofs.Common.{drop, length, take, IsEquivalence, IsLawful, rank_or_len, pieces_of, KeepsSpelling}
 use Rattle.range_runs.proofs.PieceAnswers.{IsUnderway}
 use Rattle.range_runs.proofs.answers.gather.Given as goal
 
@@ -7,7 +7,7 @@ invariant-loop-part g l =
     let order = g.K.MaybeBounded.order in
     let same = g.V.PartialEq.eq in
     let items = g.C.Storage.items l.stored in
-    let place = place_before (g.C.Storage.rank l.stored) (length items) l.window.from in
+    let place = rank_or_len (g.C.Storage.rank l.stored) (length items) l.window.from in
     record {
       spelled : KeepsSpelling order items l.middle.items;
       underway : (lawful : IsLawful order) (equal : IsEquivalence same) → IsUnderway order lawful

@@ -1,4 +1,4 @@
-use Rattle.range_runs.proofs.Common.{common_steps, not_le, true≢false, ◌≡◌, ◌+◌, ◌-◌, ◌<◌, length, arith, sym, ◌∙◌, get_or_read, reference_position, start_position, place_before}
+use Rattle.range_runs.proofs.Common.{common_steps, not_le, true≢false, ◌≡◌, ◌+◌, ◌-◌, ◌<◌, length, arith, sym, ◌∙◌, get_or_read, reference_position, start_position, rank_or_len}
 use Rattle.range_runs.proofs.window.walk.Goals as goal
 
 pub loop-at-preserved : goal.loop-at-preserved
@@ -6,7 +6,7 @@ loop-at-preserved g c =
     let storage = g.C.Storage in
     let stored = c.args.stored.now in
     let items = storage.items stored in
-    let place = place_before (storage.rank stored) (length items) c.args.from in
+    let place = rank_or_len (storage.rank stored) (length items) c.args.from in
     let here = rw c.in-Some.is at c.loop-at.invariant.position in
     let within : storage.rank stored c.in-Some.p < length items =
     g.met.C.Storage.good_is_in_range stored c.in-Some.p here.0 in
@@ -31,7 +31,7 @@ returns-then-starts_past g c =
     let storage = g.C.Storage in
     let stored = c.args.stored.now in
     let items = storage.items stored in
-    let place = place_before (storage.rank stored) (length items) c.args.from in
+    let place = rank_or_len (storage.rank stored) (length items) c.args.from in
     let was = c.loop-at.invariant in
     let here = rw c.in-Some.is at was.position in
     let within : storage.rank stored c.in-Some.p < length items =

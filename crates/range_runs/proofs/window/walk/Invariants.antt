@@ -1,4 +1,4 @@
-use Rattle.range_runs.proofs.Common.{◌+◌, ◌-◌, ◌<◌, ◌≤◌, length, get_or, reference_position, start_position, position_cmp, AnyRange, Item, place_before, IsAt, Le, IsLastOf}
+use Rattle.range_runs.proofs.Common.{◌+◌, ◌-◌, ◌<◌, ◌≤◌, length, get_or, reference_position, start_position, position_cmp, AnyRange, Item, rank_or_len, IsAt, Le, IsLastOf}
 use Rattle.range_store.specs.Counting.{AddsSteps}
 use Rattle.range_runs.proofs.window.walk.Given as goal
 
@@ -6,7 +6,7 @@ abbrev pub invariant-loop-at : goal.invariant-loop-at
 invariant-loop-at g l =
     let storage = g.C.Storage in
     let items = storage.items l.stored in
-    let place = place_before (storage.rank l.stored) (length items) l.fn.from in
+    let place = rank_or_len (storage.rank l.stored) (length items) l.fn.from in
     record {
       position : IsAt (storage.is_good l.stored) (storage.rank l.stored) (length items) l.at
           (place + l.count);
@@ -23,4 +23,4 @@ abbrev pub decreases-loop-at : goal.decreases-loop-at
 decreases-loop-at g l =
     let storage = g.C.Storage in
     let items = storage.items l.stored in
-    length items - (place_before (storage.rank l.stored) (length items) l.fn.from + l.count)
+    length items - (rank_or_len (storage.rank l.stored) (length items) l.fn.from + l.count)

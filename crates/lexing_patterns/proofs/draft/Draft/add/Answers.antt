@@ -2,9 +2,9 @@ use Rattle.std.proofs.Common.{◌≡◌, ◌↔◌, ◌⊎◌, ℕ, ◌+◌, ◌
 use Rattle.regex_hir.specs.Meaning.{meaning}
 use Rattle.lexing_patterns.specs.Built.{IsBuilt}
 use Rattle.lexing_patterns.specs.Drafts.{HasEnd}
-use Rattle.character_leads.specs.Leads.{Leads}
+use Rattle.lexing_classes.specs.Leads.{Leads}
 use Rattle.lexing_patterns.specs.Parts.{HasEdge, IsAmong}
-use Rattle.character_leads.proofs.Any.{any-push}
+use Rattle.lexing_classes.proofs.Any.{any-push}
 use Rattle.std.proofs.lemmas.Result.{err_from_is_err_and}
 use Rattle.lexing_patterns.proofs.Drafting.{one_more_drafted}
 use Rattle.lexing_patterns.proofs.Totals.{all_pushed, fault_behind, start_behind, total_pushed}

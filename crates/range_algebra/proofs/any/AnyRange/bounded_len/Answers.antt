@@ -2,7 +2,7 @@ use Rattle.std.proofs.Common.{rules, ◌≡◌, subst, sym}
 use Rattle.std.specs.Option.{IsSomeAnd}
 use Rattle.std.specs.Range.Bound.{bound_map}
 use Rattle.range_keys.specs.Position.{key_value}
-use Rattle.range_algebra.specs.Measures.{told_bound}
+use Rattle.range_algebra.specs.Measures.{closed_by}
 use Rattle.range_algebra.specs.Numbers.{IsNumberOfKeys}
 use Rattle.range_algebra.specs.Range.{Holds, IsEmptyRange}
 use Rattle.range_algebra.proofs.Measuring.{told_reach, told_known, full_measure, measure_is_number}
@@ -13,7 +13,7 @@ measured-requires-clause-known_start g c =
     let order = g.T.MaybeBounded.order in
     let lawful = g.met.T.PartialEnum.lawful in
     let bound = c.args.self.now.start in
-    let start : bound_map key_value c.with_told-start.result ≡ told_bound order.least bound =
+    let start : bound_map key_value c.with_told-start.result ≡ closed_by order.least bound =
     cc (c.start_bound.ensures tt) in
     rw start (told_known order lawful order.least bound lawful.least_key c.known.ensures.0)
 
@@ -22,7 +22,7 @@ measured-requires-clause-known_end g c =
     let order = g.T.MaybeBounded.order in
     let lawful = g.met.T.PartialEnum.lawful in
     let bound = c.args.self.now.end in
-    let end : bound_map key_value c.with_told-end.result ≡ told_bound order.greatest bound =
+    let end : bound_map key_value c.with_told-end.result ≡ closed_by order.greatest bound =
     cc (c.end_bound.ensures tt) in
     rw end (told_known order lawful order.greatest bound lawful.greatest_key c.known.ensures.1)
 
@@ -31,9 +31,9 @@ measured-requires-clause-nonempty g c =
     let order = g.T.MaybeBounded.order in
     let r = c.args.self.now in
     let full : ¬ IsEmptyRange order r = search rules in
-    let start : bound_map key_value c.with_told-start.result ≡ told_bound order.least r.start =
+    let start : bound_map key_value c.with_told-start.result ≡ closed_by order.least r.start =
     cc (c.start_bound.ensures tt) in
-    let end : bound_map key_value c.with_told-end.result ≡ told_bound order.greatest r.end =
+    let end : bound_map key_value c.with_told-end.result ≡ closed_by order.greatest r.end =
     cc (c.end_bound.ensures tt) in
     rw (start, end) (told_reach order g.met.T.PartialEnum.lawful r full)
 
@@ -42,9 +42,9 @@ returns-clause-measure g c =
     let order = g.T.MaybeBounded.order in
     let r = c.args.self.now in
     let full : ¬ IsEmptyRange order r = search rules in
-    let start : bound_map key_value c.with_told-start.result ≡ told_bound order.least r.start =
+    let start : bound_map key_value c.with_told-start.result ≡ closed_by order.least r.start =
     cc (c.start_bound.ensures tt) in
-    let end : bound_map key_value c.with_told-end.result ≡ told_bound order.greatest r.end =
+    let end : bound_map key_value c.with_told-end.result ≡ closed_by order.greatest r.end =
     cc (c.end_bound.ensures tt) in
     let whole =
     full_measure order g.met.T.PartialEnum.lawful g.T.Measure.len g.T.Measure.distance r
@@ -59,8 +59,8 @@ returns-clause-counted g c = λ counts.
     (sym (returns-clause-measure g c))
     (measure_is_number order g.T.Measure.len g.T.Measure.distance counts r c.known.ensures)
 
-pub returns-then-is_empty-clause-untold : goal.returns-then-is_empty-clause-untold
-returns-then-is_empty-clause-untold g c = search rules
+pub returns-then-is_empty-clause-unknown : goal.returns-then-is_empty-clause-unknown
+returns-then-is_empty-clause-unknown g c = search rules
 
-pub returns-clause-untold : goal.returns-clause-untold
-returns-clause-untold g c = search rules
+pub returns-clause-unknown : goal.returns-clause-unknown
+returns-clause-unknown g c = search rules

@@ -1,5 +1,5 @@
 use Rattle.std.proofs.Common.{rules}
-use Rattle.range_algebra.specs.Range.{IsKnownRange, with_bounds}
+use Rattle.range_algebra.specs.Range.{IsKeyRange, with_bounds}
 use Rattle.range_algebra.proofs.Meeting.{meets_by, shares_by}
 use Rattle.range_algebra.proofs.any.AnyRange.intersects.Goals as goal
 
@@ -21,7 +21,7 @@ returns-then-not-starts_past_end-clause-complete g c = λ bounds complete full f
     let s =
     with_bounds (g.S.RangeBounds.start_bound c.args.other.now)
     (g.S.RangeBounds.end_bound c.args.other.now) in
-    let known : IsKnownRange g.T.MaybeBounded.order s = search rules in
+    let known : IsKeyRange g.T.MaybeBounded.order s = search rules in
     shares_by g.T.MaybeBounded.order g.met.T.PartialEnum.lawful c.args.self.now s full full'
     complete c.known.ensures known _
     (returns-then-not-starts_past_end-clause-by_position g c bounds)
@@ -44,7 +44,7 @@ returns-else-not-starts_past_end-clause-complete g c = λ bounds complete full f
     let s =
     with_bounds (g.S.RangeBounds.start_bound c.args.other.now)
     (g.S.RangeBounds.end_bound c.args.other.now) in
-    let known : IsKnownRange g.T.MaybeBounded.order s = search rules in
+    let known : IsKeyRange g.T.MaybeBounded.order s = search rules in
     shares_by g.T.MaybeBounded.order g.met.T.PartialEnum.lawful c.args.self.now s full full'
     complete c.known.ensures known _
     (returns-else-not-starts_past_end-clause-by_position g c bounds)

@@ -15,6 +15,6 @@ returns g c =
     let measure = rw c.iter.ensures.items at c.measure.ensures in
     record {
       measure = measure;
-      untold = rw measure (untold_list lawful _ _ items ordered);
+      unknown = rw measure (untold_list lawful _ _ items ordered);
       counted = λ counts. rw measure (counted_bound lawful _ _ items counts ordered);
     }

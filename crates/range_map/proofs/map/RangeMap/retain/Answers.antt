@@ -1,4 +1,4 @@
-use Rattle.range_map.proofs.Common.{common_steps, ◌≡◌, ◌∙◌, ◌+◌, ◌<◌, ap, arith, length, rules, length-remove, place_before, IsStored, place_at, CalledAtItem}
+use Rattle.range_map.proofs.Common.{common_steps, ◌≡◌, ◌∙◌, ◌+◌, ◌<◌, ap, arith, length, rules, length-remove, rank_or_len, IsStored, place_at, CalledAtItem}
 use Rattle.range_map.proofs.KeptItems.{retaining_starts, kept_next, removed_next, retained, kept_stored, kept_as_before, fewer_kept}
 use Rattle.range_map.proofs.StoredLists.{stored_canonical}
 use Rattle.range_map.proofs.map.RangeMap.retain.Goals as goal
@@ -16,7 +16,7 @@ loop-at-preserved-then-keeps g c =
     let was = rw c.in-Some.is at c.loop-at.invariant.told in
     let within : storage.rank stored p < length items =
     g.met.C.Storage.good_is_in_range stored p here.0 in
-    let next : place_before (storage.rank stored) (length items) c.next-at.result
+    let next : rank_or_len (storage.rank stored) (length items) c.next-at.result
     ≡ storage.rank stored p + 1 =
     place_at (storage.is_good stored) (storage.rank stored) (length items) c.next-at.result
     (storage.rank stored p + 1) c.next-at.ensures in
@@ -39,7 +39,7 @@ loop-at-preserved g c =
     let within : storage.rank stored p < length items =
     g.met.C.Storage.good_is_in_range stored p here.0 in
     let removed = c.remove_at-removed.ensures in
-    let next : place_before (storage.rank after) (length (storage.items after))
+    let next : rank_or_len (storage.rank after) (length (storage.items after))
     c.remove_at-removed.result.1 ≡ storage.rank stored p =
     place_at (storage.is_good after) (storage.rank after) (length (storage.items after))
     c.remove_at-removed.result.1 _ removed.following in
@@ -64,13 +64,13 @@ loop-at-smaller g c =
     let within : storage.rank stored p < length items =
     g.met.C.Storage.good_is_in_range stored p here.0 in
     let removed = c.remove_at-removed.ensures in
-    let next : place_before (storage.rank after) (length (storage.items after))
+    let next : rank_or_len (storage.rank after) (length (storage.items after))
     c.remove_at-removed.result.1 ≡ storage.rank stored p =
     place_at (storage.is_good after) (storage.rank after) (length (storage.items after))
     c.remove_at-removed.result.1 _ removed.following in
-    let now : place_before (storage.rank stored) (length items) c.loop-at.at
+    let now : rank_or_len (storage.rank stored) (length items) c.loop-at.at
     ≡ storage.rank stored p =
-    ap (place_before (storage.rank stored) (length items)) c.in-Some.is in
+    ap (rank_or_len (storage.rank stored) (length items)) c.in-Some.is in
     let fewer : length (storage.items after) + 1 ≡ length items =
     ap (λ xs. length xs + 1) removed.list ∙ length-remove items (storage.rank stored p) within in
     rw (now, next) (omega (arith, fewer, within))
@@ -88,7 +88,7 @@ returns g c =
     let items = g.C.Storage.items c.loop-at.self-inside.stored in
     let done =
     retained (CalledAtItem g.F.FnMut) _ _ c.loop-at.invariant.told
-    (ap (place_before (g.C.Storage.rank c.loop-at.self-inside.stored) (length items))
+    (ap (rank_or_len (g.C.Storage.rank c.loop-at.self-inside.stored) (length items))
     c.in_default.is) in
     let form : IsStored order same items =
     rw done.4 (kept_stored lawful equal done.0 _ c.self.invariant) in

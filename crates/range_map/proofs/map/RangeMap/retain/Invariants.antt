@@ -1,4 +1,4 @@
-use Rattle.range_map.proofs.Common.{◌-◌, ◌+◌, ◌≤◌, length, place_before, IsAt, CalledAtItem}
+use Rattle.range_map.proofs.Common.{◌-◌, ◌+◌, ◌≤◌, length, rank_or_len, IsAt, CalledAtItem}
 use Rattle.range_map.proofs.KeptItems.{IsRetaining}
 use Rattle.range_map.proofs.map.RangeMap.retain.Given as goal
 
@@ -7,7 +7,7 @@ invariant-loop-at g l =
     let storage = g.C.Storage in
     let stored = l.self-inside.stored in
     let items = storage.items stored in
-    let place = place_before (storage.rank stored) (length items) l.at in
+    let place = rank_or_len (storage.rank stored) (length items) l.at in
     record {
       position : IsAt (storage.is_good stored) (storage.rank stored) (length items) l.at place;
       callable : goal.F-IsAlwaysCallable g l.f;
@@ -23,4 +23,4 @@ decreases-loop-at g l =
     let storage = g.C.Storage in
     let stored = l.self-inside.stored in
     length (storage.items stored)
-    - place_before (storage.rank stored) (length (storage.items stored)) l.at
+    - rank_or_len (storage.rank stored) (length (storage.items stored)) l.at

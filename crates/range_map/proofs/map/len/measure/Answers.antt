@@ -4,11 +4,11 @@ use Rattle.range_map.proofs.map.len.measure.Goals as goal
 
 pub returns-in_err-total : goal.returns-in_err-total
 returns-in_err-total g c =
-    let untold =
+    let unknown =
     measured_untold (ap item_ranges c.in-Some.ensures.steps) c.loop-range.invariant
     (sym c.bounded_len.ensures.measure ∙ c.in_err-total.was) in
     let result : c.from_residual.result ≡ None = search rules in
-    result ∙ sym untold
+    result ∙ sym unknown
 
 pub overflow_add-total : goal.overflow_add-total
 overflow_add-total g c =

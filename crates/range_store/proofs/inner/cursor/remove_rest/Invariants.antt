@@ -1,12 +1,12 @@
 use Rattle.std.proofs.Common.{◌≡◌, ◌+◌, ◌≤◌, ◌++◌, length, take, drop}
-use Rattle.range_store.specs.ListPlaces.{place_before, IsAt}
+use Rattle.range_store.specs.ListRanks.{rank_or_len, IsAt}
 use Rattle.range_store.proofs.inner.cursor.remove_rest.Given as goal
 
 abbrev pub invariant-loop-removed : goal.invariant-loop-removed
 invariant-loop-removed g l =
     let storage = g.C.Storage in
     let before = storage.items l.fn.stored in
-    let place = place_before (storage.rank l.fn.stored) (length before) l.fn.cursor.at in
+    let place = rank_or_len (storage.rank l.fn.stored) (length before) l.fn.cursor.at in
     record {
       position : IsAt (storage.is_good l.stored) (storage.rank l.stored)
           (length (storage.items l.stored)) l.at place;

@@ -1,5 +1,5 @@
 use Rattle.std.proofs.Common.{arith}
-use Rattle.range_store.proofs.ListPlaces.{place_at}
+use Rattle.range_store.proofs.ListRanks.{place_at}
 use Rattle.range_store.proofs.Edits.{replaced_run, set_parts}
 use Rattle.range_store.proofs.inner.cursor.replace_run.Goals as goal
 

@@ -2,7 +2,7 @@ use Rattle.std.proofs.Common.{◌≡◌, suc, ◌+◌, ◌-◌, length, refl, �
 use Rattle.std.specs.List.{insert}
 use Rattle.std.proofs.lemmas.List.Edits.{length-insert}
 use Rattle.range_tree.specs.Depth.{HasLevels}
-use Rattle.range_tree.specs.Holding.{box_items, box_place}
+use Rattle.range_tree.specs.Holding.{box_items, box_offset}
 use Rattle.range_tree.specs.Nodes.{items_below, IsRoomy}
 use Rattle.range_tree.specs.Written.{root_shaped}
 use Rattle.range_tree.proofs.Edges.{path_small}
@@ -17,7 +17,7 @@ use Rattle.range_tree.proofs.btree.BoxStorage.insert_between.Given.{Over}
 use Rattle.range_tree.proofs.btree.BoxStorage.insert_between.Goals.{Start, After-put, After-store_branch-self, After-seen_above, In-None}
 
 longer : (g : Over) (c : Start g)
-    → length (insert (box_items c.args.self.now) (box_place c.args.self.now c.args.edge)
+    → length (insert (box_items c.args.self.now) (box_offset c.args.self.now c.args.edge)
     c.args.item) ≡ length (box_items c.args.self.now) + 1
 longer g c = grind (arith, length-insert, edge_within)
 
@@ -31,7 +31,7 @@ put-requires g c =
 
 put_here : (g : Over) (c : After-put g)
     → IsLeafChange c.put.new.self c.requires.edge
-    (insert (box_items c.args.self.now) (box_place c.args.self.now c.args.edge) c.args.item)
+    (insert (box_items c.args.self.now) (box_offset c.args.self.now c.args.edge) c.args.item)
     (record { leaf = c.args.edge.leaf; path = c.args.edge.path; index = c.args.edge.index + 1 })
     (c.args.edge.index + 1)
 put_here g c = put_in_leaf c.put.new.self c.requires.edge c.args.item _ (omega arith) c.put.ensures
@@ -68,7 +68,7 @@ insert_below-inserted-requires-clause-deep g c =
 -- with no cut of the root
 kept : (g : Over) (c : In-None g)
     → IsGrown c.insert_below-inserted.new.nodes c.args.self.now.levels c.args.self.now.root
-    (insert (box_items c.args.self.now) (box_place c.args.self.now c.args.edge) c.args.item)
+    (insert (box_items c.args.self.now) (box_offset c.args.self.now c.args.edge) c.args.item)
 kept g c =
     let level : suc (c.args.self.now.levels - 1) ≡ c.args.self.now.levels =
     omega (arith, c.requires.edge.some) in
@@ -113,7 +113,7 @@ overflow_add-self-in-Some g c = omega (arith, levels_le)
 
 taller : (g : Over) (c : After-store_branch-self g)
     → IsGrown c.store_branch-self.new.self (c.args.self.now.levels + 1) c.store_branch-self.result
-    (insert (box_items c.args.self.now) (box_place c.args.self.now c.args.edge) c.args.item)
+    (insert (box_items c.args.self.now) (box_offset c.args.self.now c.args.edge) c.args.item)
 taller g c =
     let level : suc (c.args.self.now.levels - 1) ≡ c.args.self.now.levels =
     omega (arith, c.requires.edge.some) in
@@ -122,7 +122,7 @@ taller g c =
     c.store_branch-self.ensures)
 
 grown : (g : Over) (c : After-store_branch-self g)
-    → length (insert (box_items c.args.self.now) (box_place c.args.self.now c.args.edge)
+    → length (insert (box_items c.args.self.now) (box_offset c.args.self.now c.args.edge)
     c.args.item) ≡ length (box_items c.args.self.now) + 1
     → IsRoomy c.store_branch-self.new.self (c.args.self.now.levels + 1) c.store_branch-self.result
     × (c.args.self.now.len + 1

@@ -1,5 +1,5 @@
 use Rattle.std.proofs.Common.{◌≤◌, length, arith}
-use Rattle.range_tree.specs.Holding.{box_items, box_place, IsGood, good_home}
+use Rattle.range_tree.specs.Holding.{box_items, box_offset, IsGood, good_home}
 use Rattle.range_tree.proofs.Taking.{one_fewer, room_grows, space_grows, IsReplaced, replaced, replaced_item}
 use Rattle.range_tree.proofs.Whole.{edge_within, tree_behind}
 use Rattle.range_tree.proofs.btree.BoxStorage.take.Goals as goal
@@ -7,13 +7,13 @@ use Rattle.range_tree.proofs.btree.BoxStorage.take.Given.{Over}
 use Rattle.range_tree.proofs.btree.BoxStorage.take.Goals.{Start, After-replace_item-item}
 
 within : (g : Over) (c : Start g)
-    → box_place c.args.self.now c.args.edge ≤ length (box_items c.args.self.now)
+    → box_offset c.args.self.now c.args.edge ≤ length (box_items c.args.self.now)
 within g c = edge_within c.requires.edge
 
 pub returns-in-Some-clause-space : goal.returns-in-Some-clause-space
 returns-in-Some-clause-space g c =
     let s = c.args.self.now in
-    room_grows s c.take_in_leaf-item.new.self (box_place s c.args.edge) c.requires.some
+    room_grows s c.take_in_leaf-item.new.self (box_offset s c.args.edge) c.requires.some
     (within g (goal.at.returns-in-Some-clause-space g c).Start) c.take_in_leaf-item.ensures.list
     c.take_in_leaf-item.ensures.capacity
 
@@ -71,7 +71,7 @@ returns g c =
     record {
       removed = grind (arith, replaced_item, edge_within);
       list = so.items_are;
-      space = space_grows s (box_place s c.args.edge) c.replace_item-item.new.self t.levels t.root
+      space = space_grows s (box_offset s c.args.edge) c.replace_item-item.new.self t.levels t.root
           c.requires.some (within g at.Start) so.items_are so.capacity;
       following = (record { some = left.0.some; edge = so.edge }, so.place_is);
     }

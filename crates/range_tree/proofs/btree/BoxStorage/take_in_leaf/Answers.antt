@@ -1,7 +1,7 @@
 use Rattle.std.proofs.Common.{◌≡◌, ◌-◌, ◌+◌, length, refl, arith}
 use Rattle.std.specs.List.{remove}
 use Rattle.std.proofs.lemmas.List.Edits.{length-remove}
-use Rattle.range_tree.specs.Holding.{box_items, box_place}
+use Rattle.range_tree.specs.Holding.{box_items, box_offset}
 use Rattle.range_tree.specs.Nodes.{IsRoomy}
 use Rattle.range_nodes.specs.Heap.{Writes, node_children, node_items}
 use Rattle.range_tree.proofs.EndLeaves.{leaf_keeps_ends}
@@ -16,7 +16,7 @@ use Rattle.range_tree.proofs.btree.BoxStorage.take_in_leaf.Goals.{Start, After-t
 
 -- how many items are left
 fewer : (g : Over) (c : Start g)
-    → length (remove (box_items c.args.self.now) (box_place c.args.self.now c.args.edge - 1)) + 1
+    → length (remove (box_items c.args.self.now) (box_offset c.args.self.now c.args.edge - 1)) + 1
     ≡ length (box_items c.args.self.now)
 fewer g c = grind (arith, edge_within, length-remove, place_index)
 
@@ -36,7 +36,7 @@ written g c = grind (arith, no_child_gone, tree_leaf)
 
 taken : (g : Over) (c : After-take_beside-item g)
     → IsLeafChange c.take_beside-item.new.self c.requires.edge
-    (remove (box_items c.args.self.now) (box_place c.args.self.now c.args.edge - 1))
+    (remove (box_items c.args.self.now) (box_offset c.args.self.now c.args.edge - 1))
     (record { leaf = c.args.edge.leaf; path = c.args.edge.path; index = c.args.edge.index - 1 })
     (c.args.edge.index - 1)
 taken g c = take_from_leaf c.take_beside-item.new.self c.requires.edge _ (omega arith)

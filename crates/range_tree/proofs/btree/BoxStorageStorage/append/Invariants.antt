@@ -1,6 +1,6 @@
 use Rattle.std.proofs.Common.{◌≡◌, ◌+◌, ◌≤◌, ◌++◌, [], length}
 use Rattle.std.specs.Prelude.{MatchOption}
-use Rattle.range_tree.specs.Holding.{box_items, box_place, box_room, IsBoxEdge}
+use Rattle.range_tree.specs.Holding.{box_items, box_offset, box_room, IsBoxEdge}
 use Rattle.range_tree.proofs.btree.BoxStorageStorage.append.Given as goal
 
 abbrev pub invariant-loop-item : goal.invariant-loop-item
@@ -11,5 +11,5 @@ invariant-loop-item g l =
       room : box_room l.fn.self ≡ box_room l.self + length l.yielded;
       space : length l.item-iterator.rest.items ≤ box_room l.self;
       at_end : MatchOption l.end (box_items l.self ≡ [])
-          (λ g. IsBoxEdge l.self g × (box_place l.self g ≡ length (box_items l.self)));
+          (λ g. IsBoxEdge l.self g × (box_offset l.self g ≡ length (box_items l.self)));
     }

@@ -1,7 +1,7 @@
 use Rattle.std.proofs.Common.{◌≡◌, ◌+◌, ◌-◌, length, ap, arith, ◌∙◌, drop}
 use Rattle.std.proofs.lemmas.List.{length-drop}
 use Rattle.range_nodes.specs.Heap.{items_of, node_of}
-use Rattle.range_tree.specs.Holding.{box_place, box_rank, good_home, rank_is}
+use Rattle.range_tree.specs.Holding.{box_offset, box_rank, good_home, rank_is}
 use Rattle.range_nodes.proofs.Cells.{row_length}
 use Rattle.range_tree.proofs.LeafItems.{at_index, leaf_rest, rest_full, rest_items}
 use Rattle.range_tree.proofs.Lent.{item_home}
@@ -51,7 +51,7 @@ returns g c =
     ∙ rest_items c.cells-cells.ensures p.index low in
     let many : length c.of_cells.result ≡ length items - p.index =
     ap length run ∙ length-drop p.index items in
-    let behind : box_place s p ≡ box_rank s p + 1 =
+    let behind : box_offset s p ≡ box_rank s p + 1 =
     omega (arith, rank_is c.requires, c.requires.some) in
     let end = at_index c.requires.is (length items) (omega arith) in
     grind (arith, item_home, leaf_rest, next_at, next_from)

@@ -1,7 +1,7 @@
 use Rattle.std.proofs.Common.{◌≡◌, ◌-◌, ◌≤◌, true, length, take, vec_capacity}
 use Rattle.std.specs.List.{AllZip}
 use Rattle.range_tree.specs.Holding.{box_items, box_rank, IsGood}
-use Rattle.range_store.specs.ListPlaces.{IsAt}
+use Rattle.range_store.specs.ListRanks.{IsAt}
 use Rattle.range_tree.proofs.btree.BoxStorageStorage.clone.Given as goal
 
 abbrev pub invariant-loop-at : goal.invariant-loop-at

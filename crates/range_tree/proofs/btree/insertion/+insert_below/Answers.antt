@@ -42,8 +42,8 @@ pub returns-then-below-eq0-clause-replaces : goal.returns-then-below-eq0-clause-
 returns-then-below-eq0-clause-replaces g t c =
     grind (arith, leaf_index, length-insert, leaf_place, settled_replaces, leaf_moved, leaf_listed)
 
-pub returns-then-below-eq0-clause-place : goal.returns-then-below-eq0-clause-place
-returns-then-below-eq0-clause-place g t c =
+pub returns-then-below-eq0-clause-offset : goal.returns-then-below-eq0-clause-offset
+returns-then-below-eq0-clause-offset g t c =
     grind (arith, leaf_place, leaf_seat_place)
 
 pub child_at-child-requires-clause-within : goal.child_at-child-requires-clause-within
@@ -70,7 +70,7 @@ returns-in-None g t c =
     let seat = rw (c.child_at-child.ensures, c.first_turn-index.ensures, c.in-None.is) at
     c.insert_below-inserted.ensures.edge in
     let at = rw (c.child_at-child.ensures, c.first_turn-index.ensures, c.seen_inside.ensures) at
-    (rw c.in-None.is at c.insert_below-inserted.ensures.place) in
+    (rw c.in-None.is at c.insert_below-inserted.ensures.offset) in
     let here = below_here c.if-below-eq0.false c.requires.shaped c.args.edge in
     let edge = none_edge grows c.insert_below-inserted.result.side
     c.insert_below-inserted.result.edge c.seen_above.result
@@ -132,16 +132,16 @@ returns-in-Some g t c =
     let seat = rw (c.child_at-child.ensures, c.first_turn-index.ensures, c.in-Some.is) at
     c.insert_below-inserted.ensures.edge in
     let at = rw (c.child_at-child.ensures, c.first_turn-index.ensures, c.seen_inside.ensures) at
-    (rw c.in-Some.is at c.insert_below-inserted.ensures.place) in
+    (rw c.in-Some.is at c.insert_below-inserted.ensures.offset) in
     let up = grown_seat grows c.insert_below-inserted.result.side
     c.insert_below-inserted.result.edge seat in
     let here = rw (c.first_turn-index.ensures, ← some_items grows, ← some_children grows) at
-    c.put_or_cut-in-Some.ensures.place in
+    c.put_or_cut-in-Some.ensures.offset in
     let below = below_here c.if-below-eq0.false c.requires.shaped c.args.edge in
     record {
       replaces = rw below (settled_replaces _ (grown_moved grows) (grown_listed grows)
           (omega (arith, long)) settles);
       left_whole = λ few. c.put_or_cut-in-Some.ensures.left_whole (rw (grown_kept grows) few);
       edge = c.put_or_cut-in-Some.ensures.edge;
-      place = here ∙ omega (arith, up.1, at, below);
+      offset = here ∙ omega (arith, up.1, at, below);
     }

@@ -50,7 +50,7 @@ returns-then-item_count-lt-CAPACITY g c =
           (omega (arith, long, c.item_count.ensures, c.if-item_count-lt-CAPACITY.true));
       left_whole = λ few. refl;
       edge = alone.0;
-      place = alone.1 ∙ edge.1;
+      offset = alone.1 ∙ edge.1;
     }
 
 pub edge_at-requires-then-seat-le-HALF-clause-path :

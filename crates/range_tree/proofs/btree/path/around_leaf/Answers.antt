@@ -2,7 +2,7 @@ use Rattle.std.proofs.Common.{◌≡◌, ◌≢◌, ◌+◌, ◌*◌, ◌^◌, �
 use Rattle.std.proofs.Math.Nat.{mul-le-mul_left}
 use Rattle.range_nodes.specs.Heap.{node_items}
 use Rattle.range_tree.proofs.Behind.{ComesAfter, leaf_end, sets_out, turn_low, goes_by_another, goes_by_the_last, comes_to_the_end, home_sets_out, home_goes_on, home_is_found}
-use Rattle.range_tree.specs.Edges.{place, home_of}
+use Rattle.range_tree.specs.Edges.{offset, home_of}
 use Rattle.range_tree.proofs.InLeaf.{leaf_beside}
 use Rattle.range_tree.proofs.Paths.{child_within}
 use Rattle.range_tree.proofs.PathsBelow.{weight_fits}
@@ -85,7 +85,7 @@ home_found g c = home_is_found c.args.nodes.now c.down.left c.down.at c.down.inn
 
 comes : (g : Over) (c : After-home_before-found g)
     → ComesAfter c.args.nodes.now c.args.below c.args.number c.down.behind
-    (place c.args.nodes.now c.args.below c.args.number (leaf_end c.args.nodes.now c.args.edge))
+    (offset c.args.nodes.now c.args.below c.args.number (leaf_end c.args.nodes.now c.args.edge))
 comes g c = comes_to_the_end c.args.nodes.now c.down.left c.down.at c.down.path c.down.weight
     (leaf_end c.args.nodes.now c.down.inner) c.down.behind (omega (arith, c.down-test.false))
     c.down.invariant.way (omega arith)

@@ -9,6 +9,6 @@ returns g c =
     let first = c.first_edge-first.ensures in
     let end = c.end_edge-end.ensures in
     let start = start_of_place c.args.nodes.now 1 CAPACITY c.args.below c.args.number
-    c.first_edge-first.result c.requires.shaped first.edge first.place in
+    c.first_edge-first.result c.requires.shaped first.edge first.offset in
     are_end_leaves c.args.below c.first_edge-first.result c.end_edge-end.result _
-    c.requires.shaped start.0 start.1 first.edge end.edge end.place refl refl
+    c.requires.shaped start.0 start.1 first.edge end.edge end.offset refl refl

@@ -27,5 +27,5 @@ returns g c =
     (sym (count_none (node_items c.args.nodes.now c.down.leaf))) in
     record {
       edge = ends.edge;
-      place = ends.count ∙ count_none (items_below c.args.nodes.now _ c.args.number);
+      offset = ends.count ∙ count_none (items_below c.args.nodes.now _ c.args.number);
     }

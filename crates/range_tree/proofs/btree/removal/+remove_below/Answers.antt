@@ -3,7 +3,7 @@ use Rattle.std.proofs.lemmas.List.Edits.{length-remove}
 use Rattle.range_nodes.specs.Heap.{node_items, node_child}
 use Rattle.range_nodes.specs.declared.nodes.TheConstants.{MIN_LEN}
 use Rattle.range_tree.specs.Nodes.{before_child}
-use Rattle.range_tree.specs.Edges.{turn, inside, place}
+use Rattle.range_tree.specs.Edges.{turn, inside, offset}
 use Rattle.range_tree.proofs.Edges.{leaf_is, leaf_edge, leaf_index, leaf_place}
 use Rattle.range_tree.proofs.Growing.{kid_owned}
 use Rattle.range_tree.proofs.InLeaf.{no_child_gone}
@@ -32,7 +32,7 @@ returns-then-below-eq0 g t c =
           (leaf_shrinks (c.args.edge.index - 1) shaped owned within
           (rw (no_child_gone _ shaped.node.branches) at c.take_beside-item.ensures.rest));
       edge = grind (arith, leaf_edge, length-remove);
-      place = rw c.if-below-eq0.true (omega (arith, leaf_place));
+      offset = rw c.if-below-eq0.true (omega (arith, leaf_place));
     }
 
 pub child_at-child-requires-clause-within : goal.child_at-child-requires-clause-within
@@ -67,11 +67,11 @@ returns g t c =
     c.remove_below-taken.ensures.shrinks in
     let anew = lists_shorter c.if-below-eq0.false c.requires.shaped c.requires.owned low child in
     let at = rw (c.child_at-child.ensures, c.first_turn-index.ensures, c.seen_inside.ensures) at
-    c.remove_below-taken.ensures.place in
+    c.remove_below-taken.ensures.offset in
     let within = below_most c.if-below-eq0.false c.requires.shaped i (inside c.args.edge) low
     (below_inside c.if-below-eq0.false c.requires.shaped c.args.edge c.requires.edge) in
     let here = below_here c.if-below-eq0.false c.requires.shaped c.args.edge in
-    let place' = rw c.first_turn-index.ensures at c.rebalance-edge.ensures.place in
+    let place' = rw c.first_turn-index.ensures at c.rebalance-edge.ensures.offset in
     let seat =
     rw back at (place'
     ∙ seat_place_inner c.remove_below-taken.new.nodes
@@ -79,8 +79,8 @@ returns g t c =
     let kid = rw (kid_kept anew) at seat in
     let front = rw (kid_kept anew) at (kid_front anew) in
     let q =
-    place c.args.nodes.now (c.args.below - 1)
+    offset c.args.nodes.now (c.args.below - 1)
     (node_child c.args.nodes.now c.args.number (turn c.args.edge)) (inside c.args.edge) in
     let same : length (before_child c.args.nodes.now c.args.below c.args.number i) + (q - 1)
-    ≡ place c.args.nodes.now c.args.below c.args.number c.args.edge - 1 = omega (arith, here, at) in
+    ≡ offset c.args.nodes.now c.args.below c.args.number c.args.edge - 1 = omega (arith, here, at) in
     grind (arith, shorter_child_shrinks_node)

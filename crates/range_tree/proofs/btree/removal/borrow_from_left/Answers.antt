@@ -32,5 +32,5 @@ returns g c =
       shrinks = next_shrinks c.requires.levelled c.rotate_right.ensures c.requires.spare;
       kept = next_kept c.requires.levelled c.rotate_right.ensures c.requires.spare;
       edge = edge.0;
-      place = edge.1;
+      offset = edge.1;
     }

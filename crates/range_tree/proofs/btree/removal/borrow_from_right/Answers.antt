@@ -19,5 +19,5 @@ returns g c =
       shrinks = previous_shrinks c.requires.levelled c.rotate_left.ensures c.requires.spare;
       kept = previous_kept c.requires.levelled c.rotate_left.ensures c.requires.spare;
       edge = edge.0;
-      place = edge.1;
+      offset = edge.1;
     }

@@ -40,5 +40,5 @@ returns g c =
     record {
       shrinks = joined_shrinks c.requires.levelled c.merge.ensures c.requires.few;
       edge = edge.0;
-      place = edge.1;
+      offset = edge.1;
     }

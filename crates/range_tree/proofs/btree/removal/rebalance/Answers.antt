@@ -31,9 +31,9 @@ returns-then-item_count-ge-MIN_LEN-clause-edge g c =
     (omega (arith, c.requires.short.within, c.requires.short.node.branches))
     c.requires.edge
 
-pub returns-then-item_count-ge-MIN_LEN-clause-place :
-    goal.returns-then-item_count-ge-MIN_LEN-clause-place
-returns-then-item_count-ge-MIN_LEN-clause-place g c =
+pub returns-then-item_count-ge-MIN_LEN-clause-offset :
+    goal.returns-then-item_count-ge-MIN_LEN-clause-offset
+returns-then-item_count-ge-MIN_LEN-clause-offset g c =
     place_above c.args.nodes.now c.args.low c.args.number c.args.index c.args.edge
     c.seen_above.result c.seen_above.ensures.turn c.seen_above.ensures.inside
     ∙ sym (seat_place_inner c.args.nodes.now c.args.low _ _ c.args.index c.args.edge)

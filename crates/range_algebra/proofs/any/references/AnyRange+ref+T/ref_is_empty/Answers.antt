@@ -1,5 +1,5 @@
 use Rattle.std.proofs.Common.{rules, IsTrue}
-use Rattle.range_algebra.specs.Range.{IsEmptyRange, IsKnownRange}
+use Rattle.range_algebra.specs.Range.{IsEmptyRange, IsKeyRange}
 use Rattle.range_algebra.specs.References.{range_of}
 use Rattle.range_algebra.proofs.Holding.{empty_is_keyless}
 use Rattle.range_algebra.proofs.Completeness.{keyless_is_empty}
@@ -17,7 +17,7 @@ returns-clause-complete g c = λ complete none.
     let order = g.T.MaybeBounded.order in
     let empty : IsEmptyRange order (range_of c.args.self.now) → IsTrue c.starts_past_end.result =
     search rules in
-    let known : IsKnownRange order (range_of c.args.self.now) =
+    let known : IsKeyRange order (range_of c.args.self.now) =
     (c.known_bound.ensures, c.known_bound-2.ensures) in
     empty (keyless_is_empty order g.met.T.PartialEnum.lawful complete
     (range_of c.args.self.now) known none)
