@@ -27,7 +27,11 @@ CRATE = "refusals"
 # What the calls answer with enough memory, after their names.
 STDOUT = TOP / "tests" / CRATE / "stdout"
 # The calls that allocate nothing, each with the reason. Every other call has to meet a refusal.
-FREE = {"map: split_off after all ranges": "no range moves", "set: range_from_json": "keys are numbers"}
+FREE = {
+    "map: split_off after all ranges": "no range moves",
+    "map: retain_all of the middle range": "whole ranges go",
+    "set: range_from_json": "keys are numbers",
+}
 
 
 def built(crate, folder):
