@@ -153,8 +153,12 @@ def fresh_mutants():
 
 
 def looked_over():
-    """Does what reads the repository alone: the tools' own rows, and files that are named and do not exist."""
-    looks = {"which changes make records of mutants stale": "test_records", "files that heads and pages name": "heads"}
+    """Does what reads the repository alone: the tools' own rows, files that are named and do not exist, and idle lemmas."""
+    looks = {
+        "which changes make records of mutants stale": "test_records",
+        "files that heads and pages name": "heads",
+        "lemmas that something needs": "lemmas",
+    }
     return [counting(what, [sys.executable, "-m", f"tools.{module}"]) for what, module in looks.items()]
 
 

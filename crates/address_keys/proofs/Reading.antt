@@ -1,10 +1,10 @@
 -- A JSON value is read as an address just where its text is one.
-use Rattle.std.proofs.Common.{◌≡◌, ℕ, Bool, false, List, [], ◌∷◌, ◌++◌, Option, None, Some, refl, sym, ap, subst, ◌∙◌, append-nil, arith, length, lit≤, ne_eqb}
-use Rattle.std.specs.Prelude.{IsTrue, is_some, option_and_then}
+use Rattle.std.proofs.Common.{◌≡◌, ℕ, false, List, [], ◌∷◌, ◌++◌, None, Some, refl, sym, ap, subst, ◌∙◌, append-nil, arith, length, lit≤, ne_eqb}
+use Rattle.std.specs.Prelude.{IsTrue, is_some}
 use Rattle.std.specs.Net.Grammar.{IsColonHex, IsDotted}
 use Rattle.std.specs.Net.Reader.{Read, read_ipv4, read_ipv6, whole_value}
-use Rattle.std.proofs.NetLemmas.Ipv4.{read_ipv4_complete, read_ipv4_sound}
-use Rattle.std.proofs.NetLemmas.Ipv6.{read_ipv6_complete, read_ipv6_sound, EndsGroups-nil}
+use Rattle.std.proofs.NetLemmas.Ipv4.{read_ipv4_complete}
+use Rattle.std.proofs.NetLemmas.Ipv6.{read_ipv6_complete, EndsGroups-nil}
 use Rattle.serde_json.specs.Data.{Data}
 use Rattle.serde_json.specs.Find.{as_str}
 use Rattle.address_keys.specs.Json.{reads_whole}
@@ -36,10 +36,6 @@ module _ (read : List ℕ → Read (List ℕ)) (Spells : List ℕ → List ℕ �
   pub reads_none : (d : Data) (text : List ℕ) → as_str d ≡ Some text → IsNone text
       → reads_whole read d ≡ false
   reads_none d text is none = rw is (not_whole text (read text) refl none)
-
-pub reads_no_text : (read : List ℕ → Read (List ℕ)) (d : Data) → as_str d ≡ None
-    → reads_whole read d ≡ false
-reads_no_text read d is = rw is refl
 
 pub ipv4_complete : (text numbers rest : List ℕ) → rest ≡ [] → IsDotted text numbers
     → read_ipv4 (text ++ rest) ≡ Some (numbers, rest)

@@ -6,7 +6,7 @@ use Rattle.std.specs.Prelude.{IsTrue, if◌then◌else◌}
 use Rattle.std.specs.Int.{from_bool}
 use Rattle.std.specs.Io.BufRead.{drop_through, take_through}
 use Rattle.std.specs.Io.KnownBytes.{Appends}
-use Rattle.line_program.proofs.Listing.{appends_none, appends_then}
+use Rattle.line_program.proofs.Listing.{appends_then}
 use Rattle.address_lines.specs.Found.{AreFound, line_text, lines_text}
 use Rattle.address_lines.specs.Found.AreFound.{Ended, Found, Other}
 use Rattle.address_lines.specs.declared.grep.Showing.{Showing}
@@ -37,18 +37,6 @@ module _ (IsSuch : List ℕ → Type 0) (showing : Showing) (start : List ℕ) w
         → AreFound IsSuch number remaining more rest
         → AreFound IsSuch 1 input (found ++ more) rest
     pub appended : Appends before now (lines_text showing start found)
-
-  pub searched_none : (input known : Option (List ℕ))
-      → IfSome input (λ bytes. IsSearchedTo bytes input known known 1 0)
-  searched_none None known = tt
-  searched_none (Some bytes) known = record {
-    remaining = bytes;
-    left_is = refl;
-    found = [];
-    count_is = refl;
-    goes_on = λ more rest all. all;
-    appended = appends_none known;
-  }
 
   -- a line is read of what is left
   abbrev pub IsLineRead : Option (List ℕ) → Option (List ℕ) → List ℕ → Type 0

@@ -1,5 +1,5 @@
 -- How far lines are told of.
-use Rattle.std.proofs.Common.{◌≡◌, ◌≢◌, ℕ, ◌+◌, ◌⊎◌, ◌↔◌, Bool, true, false, List, [], ◌∷◌, ◌++◌, Option, None, Some, IfSome, append_assoc, ap, refl, subst, sym, ◌∙◌, inl, inr, arith}
+use Rattle.std.proofs.Common.{◌≡◌, ◌≢◌, ℕ, ◌+◌, ◌↔◌, Bool, true, false, List, [], ◌∷◌, ◌++◌, Option, None, Some, IfSome, append_assoc, ap, refl, subst, sym, ◌∙◌, inl, inr}
 use Rattle.std.proofs.lemmas.Bool.{false≢true}
 use Rattle.std.proofs.lemmas.List.{append-nil}
 use Rattle.std.specs.Prelude.{◌&&◌, IsTrue}
@@ -8,7 +8,7 @@ use Rattle.std.specs.Io.KnownBytes.{Appends}
 use Rattle.std.specs.List.{AllByRecursion}
 use Rattle.std.specs.declared.net.ip_addr.IpAddr.{IpAddr}
 use Rattle.line_program.specs.Listing.{SpellsEach, Writes}
-use Rattle.line_program.proofs.Listing.{appends_none, appends_then}
+use Rattle.line_program.proofs.Listing.{appends_then}
 use Rattle.address_lists.specs.Lookups.{HasIp, IsTold}
 use Rattle.address_lists.specs.declared.addresses.Addresses.{Addresses}
 use Rattle.address_lists.specs.declared.read.ListError.{ListError}
@@ -73,20 +73,6 @@ module _ (list : Addresses) where
       → IsTrue (has_all && true) ↔ AllByRecursion (HasIp list) addresses
   and_true addresses true told = told
   and_true addresses false told = told
-
-  pub told_none : (input known : Option (List ℕ))
-      → IfSome input (λ bytes. IsToldTo bytes input known known 1 true)
-  told_none None known = tt
-  told_none (Some bytes) known = record {
-    remaining = bytes;
-    left_is = refl;
-    addresses = [];
-    goes_on = λ more last rest all. all;
-    all = (λ yes. tt, λ none. refl);
-    text = [];
-    spelled = refl;
-    appended = appends_none known;
-  }
 
   -- a line is read of what is left
   abbrev pub IsLineRead : Option (List ℕ) → Option (List ℕ) → List ℕ → Type 0

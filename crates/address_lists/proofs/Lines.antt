@@ -1,6 +1,5 @@
 -- What lists of lines say, and lines that are put together.
-use Rattle.std.proofs.Common.{◌≡◌, ℕ, zero, suc, ◌+◌, ◌≤◌, ◌<◌, ◌^◌, ◌↔◌, ◌⊎◌, List, [], ◌∷◌, ◌++◌, length, get_or, map, inl, inr, refl, sym, subst, arith}
-use Rattle.std.proofs.lemmas.Bool.{cases_lt}
+use Rattle.std.proofs.Common.{◌≡◌, ℕ, zero, suc, ◌+◌, ◌<◌, ◌^◌, ◌↔◌, ◌⊎◌, List, [], ◌∷◌, ◌++◌, length, get_or, map, inl, inr, refl, sym, subst, arith}
 use Rattle.std.proofs.lemmas.List.{map_push}
 use Rattle.std.proofs.lemmas.List.Sorted.{Contains-permutation, IsPermutation-sym}
 use Rattle.std.specs.List.{Contains}
@@ -11,7 +10,7 @@ use Rattle.address_text.specs.Texts.{width}
 use Rattle.address_text.specs.declared.family.Family.{Family}
 use Rattle.address_text.specs.declared.family.Family.TheVariants.{V4, V6}
 use Rattle.address_text.specs.declared.line.Line.{Line}
-use Rattle.address_text.specs.declared.line.Line.TheVariants.{Addresses, Nothing}
+use Rattle.address_text.specs.declared.line.Line.TheVariants.{Addresses}
 use Rattle.address_lists.specs.Lists.{Has, HasJust}
 use Rattle.address_lists.specs.Waiting.{HasOrSays, IsTogether, Spans}
 use Rattle.address_lists.specs.declared.addresses.Addresses.{Addresses as Held}
@@ -44,19 +43,6 @@ any_moved P xs ys moved some =
     let place = Contains-permutation xs ys found.0 moved found.1 in
     any_of P ys place.0 found.0 place.1 place.2 found.2
 
--- a second span that starts in the first, or just after it
-pub spans_within : (start end from to : ℕ) → start ≤ from → to ≤ end
-    → Spans start end from to start end
-spans_within start end from to starts within = grind arith
-
-spans_after_numbers : (start end from to n : ℕ) → from ≤ end + 1 → (start ≤ n) × (n ≤ to)
-    → ((start ≤ n) × (n ≤ end)) ⊎ ((from ≤ n) × (n ≤ to))
-spans_after_numbers start end from to n near (above, below) = grind (arith, cases_lt)
-
-pub spans_after : (start end from to : ℕ) → start ≤ from → from ≤ end + 1 → end < to
-    → Spans start end from to start to
-spans_after start end from to starts near after = grind (arith, spans_after_numbers)
-
 neither : ⊥ ↔ (⊥ ⊎ ⊥)
 neither = (λ never. absurd never, λ e. elim e [ inl never ↦ never | inr never ↦ never ])
 
@@ -69,16 +55,6 @@ spans_together V4 start end from to first last spans V4 n = spans.numbers n
 spans_together V4 start end from to first last spans V6 n = neither
 spans_together V6 start end from to first last spans V4 n = neither
 spans_together V6 start end from to first last spans V6 n = spans.numbers n
-
-pub nothing_first : (line : Line) → IsTogether Nothing line line
-nothing_first line family n = grind arith
-
-pub nothing_second : (line : Line) → IsTogether line Nothing line
-nothing_second line family n = grind arith
-
--- lines that are added one after the other
-pub added_none : (list : Held) → HasJust list (HasOrSays list [])
-added_none list family n h = (λ has. inl has, λ e. elim e [ inl has ↦ has | inr never ↦ absurd never ])
 
 pub added_more : (old now next : Held) (lines : List Line) (line : Line)
     → HasJust now (HasOrSays old lines)

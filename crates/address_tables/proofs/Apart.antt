@@ -1,5 +1,5 @@
 -- Lists of prefixes of which no two overlap: each address goes to the one that holds it.
-use Rattle.std.proofs.Common.{◌≡◌, ℕ, ◌+◌, ◌≤◌, ◌<◌, ◌⊎◌, Bool, true, false, ◌&&◌, if◌then◌else◌, nat_le, List, [], ◌∷◌, ◌++◌, map, Option, Some, None, inl, inr, refl, ap, sym, subst, ◌∙◌, arith}
+use Rattle.std.proofs.Common.{◌≡◌, ℕ, ◌+◌, ◌≤◌, ◌<◌, ◌⊎◌, Bool, true, false, ◌&&◌, if◌then◌else◌, nat_le, List, [], ◌∷◌, ◌++◌, map, Some, None, inl, inr, refl, ap, sym, subst, ◌∙◌, arith}
 use Rattle.std.specs.List.{AllByRecursion}
 use Rattle.std.proofs.lemmas.Bool.{cases_lt}
 use Rattle.std.proofs.lemmas.Bool.Decides.{nat_tests}
@@ -19,11 +19,6 @@ module _ {X : Type 0} where
   one_of_all P x [] all none = absurd none
   one_of_all P x (y ∷ xs) all (inl same) = subst P same all.0
   one_of_all P x (y ∷ xs) all (inr later) = one_of_all P x xs all.1 later
-
-  pub all_of : (P : X → Type 0) (xs : List X) → ((x : X) → IsOneOf x xs → P x)
-      → AllByRecursion P xs
-  all_of P [] each = tt
-  all_of P (x ∷ xs) each = (each x (inl refl), all_of P xs (λ y is. each y (inr is)))
 
   pub one_later : (x : X) (xs ys : List X) → IsOneOf x ys → IsOneOf x (xs ++ ys)
   one_later x [] ys is = is

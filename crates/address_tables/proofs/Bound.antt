@@ -1,6 +1,5 @@
 -- Entries of one length bound in a table, one after the other.
-use Rattle.std.proofs.Common.{◌≡◌, ℕ, ◌+◌, ◌-◌, ◌≤◌, ◌<◌, Bool, true, false, IsTrue, ◌&&◌, ◌==◌, if◌then◌else◌, nat_le, List, [], ◌∷◌, ◌++◌, Option, Some, None, inl, inr, refl, ap, sym, subst, ◌∙◌, arith}
-use Rattle.std.specs.Cmp.{IsEquivalence}
+use Rattle.std.proofs.Common.{◌≡◌, ℕ, ◌+◌, ◌-◌, ◌<◌, Bool, true, false, ◌==◌, if◌then◌else◌, List, [], ◌∷◌, ◌++◌, Option, Some, None, inl, inr, refl, ap, sym, subst, ◌∙◌, arith}
 use Rattle.std.specs.List.{AllByRecursion}
 use Rattle.std.specs.Option.{option_map}
 use Rattle.std.proofs.lemmas.Bool.Decides.{nat_tests}
@@ -38,11 +37,6 @@ module _ {A V : Type 0} {order : KeyOrder A} {number : A → ℕ} {at : ℕ → 
   pub none_over : (length : ℕ) (items : List (Item (AnyRange A) V)) → IsOver length [] items items
   none_over length items = λ a key x binds. binds
 
-  own_other : (length : ℕ) (e : Entry A V) (a : A) → (e.prefix.length ≡ length → ⊥)
-      → own number length e a ≡ None
-  own_other length e a other =
-      let not : (e.prefix.length == length) ≡ false = grind (arith, nat_tests) in rw not refl
-
   own_is : (length : ℕ) (e : Entry A V) (a : A) → e.prefix.length ≡ length
       → own number length e a ≡ (if holds number e.prefix a then Some e.value else None)
   own_is length e a is =
@@ -54,13 +48,6 @@ module _ {A V : Type 0} {order : KeyOrder A} {number : A → ℕ} {at : ℕ → 
   over_next length t e a x =
       ap (λ y. over x y) (of_append number length t (e ∷ []) a)
       ∙ sym (over_assoc x (last_of number length t a) (own number length e a))
-
-  -- an entry of another length changes nothing
-  pub other_over : (length : ℕ) (t : List (Entry A V)) (e : Entry A V)
-      (before after : List (Item (AnyRange A) V)) → (e.prefix.length ≡ length → ⊥)
-      → IsOver length t before after → IsOver length (t ++ e ∷ []) before after
-  other_over length t e before after other is =
-      λ a key x binds. rw (over_next length t e a x, own_other length e a other) (is a key x binds)
 
   next_by : (w : V) (e : Entry A V) (a : A) (mid after : List (Item (AnyRange A) V)) → order.is_key a
       → IsBoundAfter order same_value mid after (range_inclusive e.prefix.network e.prefix.last) w
@@ -132,11 +119,3 @@ module _ {A V : Type 0} {order : KeyOrder A} {number : A → ℕ} {at : ℕ → 
       let binds : Binds order same_value items a (route number t a) =
       subst (λ x. Binds order same_value items a (option_map (λ e. e.value) x)) is (below a key) in
       record { bound = λ some. binds; free = free_by items a (route number t a) binds }
-
--- prefixes that are at most so long are shorter than what is longer
-pub all_shorter : {A V : Type 0} (greatest past : ℕ) (t : List (Entry A V)) → greatest < past
-    → AllByRecursion (λ e. e.prefix.length ≤ greatest) t
-    → AllByRecursion (λ e. e.prefix.length < past) t
-all_shorter greatest past [] more all = tt
-all_shorter greatest past (e ∷ t) more all =
-    (let h = all.0 in omega arith, all_shorter greatest past t more all.1)

@@ -1,7 +1,7 @@
 -- Blocks of numbers that begin with the same bits.
 use Rattle.std.proofs.Common.{◌≡◌, ℕ, ◌+◌, ◌-◌, ◌*◌, ◌/◌, ◌%◌, ◌^◌, ◌≤◌, ◌<◌, arith}
 use Rattle.std.proofs.Math.Nat.{div-add-mod', mul-le-mul_right}
-use Rattle.std.proofs.Math.Pow.{pow-add, pow_pos}
+use Rattle.std.proofs.Math.Pow.{pow-add}
 use Rattle.std.proofs.lemmas.Bool.{cases_lt}
 use Rattle.std.proofs.lemmas.Nat.{pow_below}
 use Rattle.std.proofs.Common.{rules}
@@ -26,10 +26,3 @@ block_fits width free n le small =
 pub size_is : (size told free : ℕ) → told ≡ free → told < 128 → size ≡ (1 * 2 ^ told) % 2 ^ 128
     → size ≡ 2 ^ free
 size_is size told free same less is = grind (arith, pow_below)
-
--- the block lies within the addresses, as its number does
-pub block_within : (first last free n : ℕ) → first ≡ n - n % 2 ^ free → last + 1 ≡ first + 2 ^ free
-    → (width : ℕ) → free ≤ width → n < 2 ^ width → (first < 2 ^ width) × (last < 2 ^ width)
-block_within first last free n first_is last_is width le small =
-    let fits = block_fits width free n le small in
-    let some = pow_pos free in (omega (arith, fits, some), omega (arith, fits))

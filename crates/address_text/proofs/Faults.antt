@@ -1,13 +1,12 @@
 -- What is wrong with a text.
-use Rattle.std.proofs.Common.{◌≡◌, ℕ, suc, ◌+◌, Bool, true, false, List, [], ◌∷◌, ap, drop, inr, refl, arith}
+use Rattle.std.proofs.Common.{◌≡◌, ℕ, suc, ◌+◌, Bool, true, false, List, [], ◌∷◌, ap, drop, refl, arith}
 use Rattle.std.proofs.lemmas.Bool.{eqb-true}
 use Rattle.std.specs.Char.{is_ascii_whitespace}
 use Rattle.std.specs.List.{before_first}
-use Rattle.address_text.specs.Faults.{IsAddress, IsWrong}
-use Rattle.address_text.specs.Lines.{HasByte, content, from_word, is_dash, is_hash, is_slash, trimmed}
+use Rattle.address_text.specs.Faults.{IsAddress}
+use Rattle.address_text.specs.Lines.{content, from_word, is_hash, trimmed}
 use Rattle.address_text.specs.Texts.{IsAddressText}
 use Rattle.address_text.specs.declared.family.Family.TheVariants.{V4, V6}
-use Rattle.address_text.specs.declared.fault.Expected.TheVariants.{Address}
 
 drop_one_more : (x n : ℕ) (xs : List ℕ) → drop (1 + n) (x ∷ xs) ≡ drop n xs
 drop_one_more x n xs = let more : 1 + n ≡ suc n = omega arith in ap (λ k. drop k (x ∷ xs)) more
@@ -36,10 +35,6 @@ from_first x xs false word later = grind arith
 pub content_from_word : (line : List ℕ) → content (from_word line) ≡ content line
 content_from_word [] = refl
 content_from_word (x ∷ xs) = grind (arith, from_first, content_from_word xs)
-
-pub address_wrong : (text : List ℕ) → ¬ HasByte is_slash text → ¬ HasByte is_dash text
-    → IsWrong text Address 0
-address_wrong text lacks none = inr (inr (lacks, none, refl, refl))
 
 pub no_address : (text : List ℕ) → ((n : ℕ) → ¬ IsAddressText V4 text n)
     → ((n : ℕ) → ¬ IsAddressText V6 text n) → ¬ IsAddress text

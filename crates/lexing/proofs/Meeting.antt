@@ -57,9 +57,6 @@ search_to : (P : ℕ → Type 0) → ((k : ℕ) → P k ⊎ (¬ P k)) → (n : �
 search_to P test zero = grind arith
 search_to P test (suc n) = grind (arith, search_to P test n, test n)
 
-character_or_not : (c : ℕ) → IsCharacter c ⊎ (¬ IsCharacter c)
-character_or_not c = grind arith
-
 -- a range holds a character, or it does not
 pub held_or_not : (r : AnyRange ℕ) (c : ℕ) → Holds character_order r c
     ⊎ (¬ Holds character_order r c)

@@ -10,7 +10,7 @@ use Rattle.std.proofs.lemmas.Option.{slice_get_read}
 use Rattle.lexing.specs.declared.lexer.Lexer.{Lexer}
 use Rattle.lexing.specs.Lexers.{IsSkipped}
 use Rattle.lexing_modes.specs.declared.change.ModeChange.{ModeChange}
-use Rattle.lexing_modes.specs.declared.change.ModeChange.TheVariants.{Stay, Enter, Push, Pop}
+use Rattle.lexing_modes.specs.declared.change.ModeChange.TheVariants.{Stay}
 use Rattle.lexing_modes.specs.declared.modes.Mode.{Mode}
 use Rattle.lexing_modes.specs.declared.modes.Modes.{Modes}
 use Rattle.lexing_modes.specs.declared.token.ModeToken.{ModeToken}
@@ -18,14 +18,6 @@ use Rattle.lexing_modes.specs.Changes.{Names, change_in, change_of}
 use Rattle.lexing_modes.specs.Given.{IsLeftOut}
 use Rattle.lexing_modes.specs.Modes.{IsScannerOf}
 use Rattle.lexing_modes.proofs.StateSteps.{slice_get-push}
-
--- a change leads to one mode at most
-pub names_one : (change : ModeChange) (one other : ℕ) → Names change one → Names change other
-    → one ≡ other
-names_one Stay one other h k = absurd h
-names_one (Enter mode) one other h k = sym h ∙ k
-names_one (Push mode) one other h k = sym h ∙ k
-names_one Pop one other h k = absurd h
 
 get_set_same : {X : Type 0} (xs : List X) (i : ℕ) (y z : X) → slice_get xs i ≡ Some z
     → slice_get (slice_set xs i y) i ≡ Some y

@@ -1,5 +1,5 @@
 -- Tokens of a text by modes, one after the other.
-use Rattle.std.proofs.Common.{refl, ℕ, ◌<◌, ◌≤◌, List, [], ◌∷◌, ◌++◌, length, arith}
+use Rattle.std.proofs.Common.{refl, ℕ, ◌≤◌, List, [], ◌∷◌, ◌++◌, length}
 use Rattle.std.specs.List.{AllByRecursion}
 use Rattle.std.specs.Str.{IsCharBoundary}
 use Rattle.std.proofs.lemmas.Str.{IsCharBoundary-from_rest}
@@ -29,9 +29,6 @@ module _ {S : Type 0} (lexer : S → Lexer) (modes : Modes S) (text : List ℕ) 
   all_more (t ∷ ts) found all is = (all.0, all_more ts found all.1 is)
 
   module _ (may_refuse : S → Type 0) where
-    pub left_out_none : (start : State) → AreLeftOut lexer modes text may_refuse start start
-    left_out_none start = ([], refl, tt)
-
     pub left_out_more : (start at : State) (found : ModeToken) (next : State)
         → AreLeftOut lexer modes text may_refuse start at → Takes lexer modes text at found next
         → IsLeftOut lexer modes found → AreLeftOut lexer modes text may_refuse start next
@@ -55,8 +52,3 @@ module _ {S : Type 0} (lexer : S → Lexer) (modes : Modes S) (text : List ℕ) 
       → IsTokenOf lexer modes text mode at token → IsCharBoundary text token.end
   token_boundary mode at token within (scanner, of, (n, is, start, end)) =
       rw end (IsCharBoundary-from_rest text at n within is.accepted.0)
-
-  pub token_further : (mode at : ℕ) (token : Token) → IsTokenOf lexer modes text mode at token
-      → at < token.end
-  token_further mode at token (scanner, of, (n, is, start, end)) =
-      omega (arith, is.nonempty, end)

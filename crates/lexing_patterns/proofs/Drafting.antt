@@ -33,9 +33,6 @@ module _ (edges more_edges : List Edge) (starts more_starts : List ℕ) (ends mo
   abbrev Old : ℕ → ℕ → ℕ → Type 0
   Old = HasEdge edges
 
-  abbrev Both : ℕ → ℕ → ℕ → Type 0
-  Both = λ a d b. Old a d b ⊎ New a d b
-
   abbrev Last : ℕ → Type 0
   Last q = IsAmong q part.ends.items ⊎ (IsTrue part.empty × (q ≡ start))
 

@@ -116,13 +116,3 @@ module _ {V : Type 0} (eq : V → V → Bool) where
     table_clones is_clone equal s t h =
         table_same_equal s t (pointwise_same eq laws s.keys t.keys
         (clones_pointwise eq is_clone equal s.keys t.keys h))
-
-    module _ (is_clone : V → V → Type 0) (equal : ClonesAreEqual is_clone eq)
-        (s t new : HashSet V H) where
-      pub table_either : table.HoldsClonesOf eq is_clone s t (table.IsUnion eq s t) new
-          → HasEither (table.contains eq) s t new
-      table_either (ks, ys, is, among, zip, from, kept) = kept equal
-
-      pub table_first_alone : table.HoldsClonesOf eq is_clone s t (table.IsDifference eq s t) new
-          → HasFirstAlone (table.contains eq) s t new
-      table_first_alone (ks, ys, is, among, zip, from, kept) = kept equal

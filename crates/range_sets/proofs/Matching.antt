@@ -4,8 +4,6 @@ use Rattle.std.proofs.Common.{◌≡◌, List, [], ◌∷◌, inl, inr, arith}
 use Rattle.std.specs.List.{AllZip, AllByRecursion as Every}
 use Rattle.std.specs.declared.cmp.Ordering.TheVariants.{Equal}
 use Rattle.range_keys.specs.Order.{KeyOrder, IsLawful}
-use Rattle.range_keys.specs.Position.{start_position, end_position}
-use Rattle.range_keys.specs.declared.inner.position.Position.{Position}
 use Rattle.range_keys.proofs.Orderings.{both_equal}
 use Rattle.range_algebra.specs.declared.any.AnyRange.{AnyRange}
 use Rattle.range_algebra.proofs.Lists.{every_weaker}
@@ -20,12 +18,6 @@ use Rattle.range_map.proofs.FreePieces.{Pairs}
 use Rattle.range_sets.proofs.FullRanges.{IsFull, same_range}
 
 module _ {K : Type 0} (order : KeyOrder K) (lawful : IsLawful order) where
-  abbrev Start : AnyRange K → Position K
-  Start r = start_position order r.start
-
-  abbrev End : AnyRange K → Position K
-  End r = end_position order r.end
-
   pub equal_within : (r s : AnyRange K) → range_cmp order r s ≡ Equal
       → LiesIn order r s × LiesIn order s r
   equal_within r s e = grind (arith, both_equal, eq_le, eq_ge)

@@ -1,12 +1,11 @@
 -- The blocks of entries: each starts at a multiple of its size.
-use Rattle.std.proofs.Common.{◌≡◌, ℕ, zero, suc, ◌+◌, ◌-◌, ◌*◌, ◌≤◌, ◌^◌, Bool, true, false, if◌then◌else◌, List, [], ◌∷◌, length, ap, sym, ◌∙◌, arith}
+use Rattle.std.proofs.Common.{◌≡◌, ℕ, zero, suc, ◌+◌, ◌-◌, ◌*◌, ◌≤◌, ◌^◌, true, false, [], ◌∷◌, length, ap, ◌∙◌, arith}
 use Rattle.std.specs.List.{AllByRecursion}
 use Rattle.std.proofs.Math.Nat.{add-mul}
 use Rattle.std.proofs.lemmas.Nat.{pow-add}
 use Rattle.shortest_tables.specs.Tables.{Bits, Table}
 use Rattle.shortest_tables.specs.Numbers.{number}
 use Rattle.shortest_tables.specs.Entries.{IsBlock, placed}
-use Rattle.shortest_tables.specs.declared.entries.Entry.{Entry}
 use Rattle.shortest_tables.proofs.Numbered.{AreShort}
 
 -- the number of a prefix's first address, among the 2^free from another number on

@@ -3,7 +3,7 @@ use Rattle.std.proofs.Common.{◌≡◌, ℕ, zero, suc, ◌+◌, ◌-◌, ◌�
 use Rattle.shortest_tables.specs.Tables.{Bits, Table}
 use Rattle.shortest_tables.specs.Labels.{Labels, Among, behind, choose, entry, half, has, join, labels, leaf, table_below}
 use Rattle.shortest_tables.specs.Numbers.{number}
-use Rattle.shortest_tables.specs.Entries.{own, placed}
+use Rattle.shortest_tables.specs.Entries.{placed}
 use Rattle.shortest_tables.specs.declared.entries.Entry.{Entry}
 use Rattle.shortest_tables.proofs.Made.{has_first}
 
@@ -19,10 +19,6 @@ number_high (suc free) from [] = let h = pow_pos (suc free) in omega (arith, h)
 number_high (suc free) from (true ∷ a) = let h = number_high free (from + 2 ^ free) a in omega arith
 number_high (suc free) from (false ∷ a) = let h = number_high free from a in omega arith
 
-number_nil : (free from : ℕ) → number free from [] ≡ from
-number_nil zero from = refl
-number_nil (suc free) from = refl
-
 module _ {V : Type 0} where
   pub same_entry : (network other length' more : ℕ) (value : V) → network ≡ other → length' ≡ more
       → let first : Entry V = record { network = network; length = length'; value = value } in
@@ -36,12 +32,6 @@ module _ {V : Type 0} where
   placed_append width free from (e ∷ t) s =
       let first : Entry V = record { network = number free from e.0; length = (width - free) + length e.0; value = e.1 } in
       ap (λ x. first ∷ x) (placed_append width free from t s)
-
-  pub placed_own : (width free from : ℕ) (v : V)
-      → placed width free from (own (Some v)) ≡ record { network = from; length = width - free; value = v } ∷ []
-  placed_own width free from v =
-      ap (λ x. x ∷ []) (same_entry (number free from []) from ((width - free) + 0) (width - free) v
-      (number_nil free from) (omega arith))
 
   placed_behind : (b : Bool) (width free from : ℕ) → suc free ≤ width → (t : Table V)
       → placed width (suc free) from (behind b t)

@@ -4,7 +4,6 @@ pub mod Blocks
 pub mod Costs
 pub mod Descends
 pub mod Gathers
-pub mod Joins
 pub mod Least
 pub mod Made
 pub mod Numbered

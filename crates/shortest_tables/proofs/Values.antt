@@ -1,11 +1,10 @@
 -- The values of entries are below the bound.
-use Rattle.std.proofs.Common.{◌≡◌, ℕ, zero, suc, ◌+◌, ◌-◌, ◌<◌, Bool, true, false, if◌then◌else◌, nat_eq, List, [], ◌∷◌, ◌++◌, length, Option, Some, None}
+use Rattle.std.proofs.Common.{ℕ, zero, suc, ◌<◌, Bool, true, false, if◌then◌else◌, nat_eq, [], ◌∷◌, ◌++◌, Option, Some, None}
 use Rattle.std.specs.List.{AllByRecursion}
 use Rattle.shortest_tables.specs.Tables.{Bits, Table}
 use Rattle.shortest_tables.specs.Labels.{Labels, Unbound, Among, behind, choose, entry, half, has, labels, leaf, table_below}
-use Rattle.shortest_tables.specs.Numbers.{IsNumbered, number}
+use Rattle.shortest_tables.specs.Numbers.{IsNumbered}
 use Rattle.shortest_tables.specs.Entries.{placed}
-use Rattle.shortest_tables.specs.declared.entries.Entry.{Entry}
 use Rattle.shortest_tables.proofs.Gathers.{AreNumbered, labels_numbered, leaf_numbered}
 
 module _ (count : ℕ) where

@@ -1,5 +1,5 @@
 -- Spans in ascending order, of which those before a block are left out.
-use Rattle.std.proofs.Common.{◌≡◌, ℕ, ◌+◌, ◌≤◌, ◌<◌, ◌^◌, true, false, ◌&&◌, if◌then◌else◌, nat_le, get_or, List, [], ◌∷◌, Option, Some, refl, ◌∙◌, arith}
+use Rattle.std.proofs.Common.{◌≡◌, ℕ, ◌+◌, ◌<◌, ◌^◌, true, false, ◌&&◌, if◌then◌else◌, nat_le, get_or, List, [], ◌∷◌, Option, Some, refl, ◌∙◌, arith}
 use Rattle.std.proofs.lemmas.Bool.Decides.{nat_tests}
 use Rattle.shortest_tables.specs.Numbers.{AreAscending, AreLeft, IsNumbered, IsUniform, value_at}
 use Rattle.shortest_tables.specs.declared.spans.Span.{Span}
@@ -7,48 +7,11 @@ use Rattle.shortest_tables.specs.declared.spans.Span.{Span}
 before : (first last n : ℕ) → n < first → (nat_le first n && nat_le n last) ≡ false
 before first last n h = grind (arith, nat_tests)
 
-after : (first last n : ℕ) → last < n → (nat_le first n && nat_le n last) ≡ false
-after first last n h = grind (arith, nat_tests)
-
-inside : (first last n : ℕ) → first ≤ n → n ≤ last → (nat_le first n && nat_le n last) ≡ true
-inside first last n h k = grind (arith, nat_tests)
-
 module _ {V : Type 0} (otherwise : Option V) where
   -- a span says nothing of the numbers before it and after it
   pub skipped : (s : Span V) (rest : List (Span V)) (n : ℕ) → n < s.first
       → value_at otherwise (s ∷ rest) n ≡ value_at otherwise rest n
   skipped s rest n h = let t = before s.first s.last n h in rw t refl
-
-  pub passed : (s : Span V) (rest : List (Span V)) (n : ℕ) → s.last < n
-      → value_at otherwise (s ∷ rest) n ≡ value_at otherwise rest n
-  passed s rest n h = let t = after s.first s.last n h in rw t refl
-
-  pub met : (s : Span V) (rest : List (Span V)) (n : ℕ) → s.first ≤ n → n ≤ s.last
-      → value_at otherwise (s ∷ rest) n ≡ Some s.value
-  met s rest n h k = let t = inside s.first s.last n h k in rw t refl
-
-  pub uniform_met : (s : Span V) (rest : List (Span V)) (free from last : ℕ)
-      → last + 1 ≡ from + 2 ^ free → s.first ≤ from → last ≤ s.last
-      → IsUniform otherwise (s ∷ rest) free from (Some s.value)
-  uniform_met s rest free from last e h k n is_in =
-      met s rest n (omega (arith, is_in)) (omega (arith, is_in))
-
-pub left_of : (count from : ℕ) (spans : List (Span ℕ)) → AreAscending count from spans
-    → AreLeft count from spans
-left_of count from [] h = tt
-left_of count from (s ∷ rest) h =
-    let first = h.0 in
-    let order = h.1 in
-    (omega (arith, first, order), h.1, h.2, h.3)
-
--- no span is left out that has a number from the later one on
-pub later : (count from past : ℕ) (s : Span ℕ) (rest : List (Span ℕ)) → past ≤ s.last
-    → AreLeft count from (s ∷ rest) → AreLeft count past (s ∷ rest)
-later count from past s rest h left = (h, left.1, left.2, left.3)
-
-pub past_first : (count from past : ℕ) (s : Span ℕ) (rest : List (Span ℕ)) → past ≡ s.last + 1
-    → AreLeft count from (s ∷ rest) → AreLeft count past rest
-past_first count from past s rest e left = rw e (left_of count (s.last + 1) rest left.3)
 
 pub none_before : (otherwise : Option ℕ) (count from : ℕ) (spans : List (Span ℕ))
     → AreAscending count from spans → (n : ℕ) → n < from → value_at otherwise spans n ≡ otherwise
@@ -74,10 +37,6 @@ pub uniform_unmet_first : (otherwise : Option ℕ) (count free from last : ℕ) 
 uniform_unmet_first otherwise count free from last d [] e h left = λ n is_in. refl
 uniform_unmet_first otherwise count free from last d (s ∷ rest) e h left =
     uniform_unmet otherwise count free from last s rest e h left
-
-pub uniform_none : (otherwise : Option ℕ) (free from : ℕ)
-    → IsUniform otherwise [] free from otherwise
-uniform_none otherwise free from n is_in = refl
 
 -- the values of numbers are below the bound
 pub value_numbered : (otherwise : Option ℕ) (count from : ℕ) (spans : List (Span ℕ))

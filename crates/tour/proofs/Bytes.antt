@@ -448,14 +448,6 @@ module _ (bytes : Bytes) where
                 (omega (arith, more)) (omega (arith, more));
           }
 
-      -- the first byte of a gap is one of the file
-      pub first_fits : (part : AnyRange ℕ) (rest : List (AnyRange ℕ))
-          → AreGapsWithin u64_order bytes.come file (part ∷ rest)
-          → first_of part.start ≤ 18446744073709551615
-      first_fits part rest gaps = let missing = is_missing part rest gaps in
-          let some = missing.some in
-          omega (arith, some, fits)
-
 -- the bytes from the first to the last are added
 pub are_added : (before after : List (Item (AnyRange ℕ) (Unit {0}))) (first last : ℕ)
     → HoldsAlso u64_order before after (range_inclusive first last) → (byte : ℕ)
