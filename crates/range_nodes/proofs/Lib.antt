@@ -1,4 +1,4 @@
-pub mod Cells
+pub mod RowCells
 pub mod Halves
 pub mod Heaps
 pub mod RowItems
@@ -6,3 +6,4 @@ pub mod RowMoves
 pub mod Siblings
 pub mod Slots
 pub mod Spares
+pub mod Segments

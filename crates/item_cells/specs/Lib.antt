@@ -1,0 +1,4 @@
+pub mod Blocks
+pub mod Lends
+pub mod Ownership
+pub mod Places
