@@ -1,3 +1,2 @@
-pub mod Crosses
-pub mod Memory
-pub mod Sharing
+pub mod Opens
+pub mod Walks

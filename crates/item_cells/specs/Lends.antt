@@ -1,12 +1,6 @@
--- What the places end as, once a `&mut` into them has ended.
-use Rattle.std.specs.Prelude.{ℕ, List, slice_set, Option, Some}
-use Rattle.std.specs.Borrow.{Fml, RattleType, MutBor, Lends}
-use Rattle.item_cells.specs.declared.cells.Cells.{Cells}
-use Rattle.item_cells.specs.contracts.cells.Cells.{the_row}
+-- What a block has, once a `&mut` to one of its items has ended.
+use Rattle.std.specs.Prelude.{ℕ, slice_set, Some}
+use Rattle.item_cells.specs.declared.memory.Memory.{Memory}
 
-module _ {X : Type 0} where
-  abbrev pub with_slots : Cells X → List (Option X) → Cells X
-  with_slots c cs = record { mark = c.mark; at = c.at; slots = cs }
-
-abbrev pub lends_slot : (R : RattleType) → MutBor (Cells R.Denot) → ℕ → MutBor R.Denot → Fml
-lends_slot R c i r = Lends (the_row R) R c r (λ w. with_slots c.now (slice_set c.now.slots i (Some w)))
+abbrev pub with_cell : {X : Type 0} → Memory X → ℕ → X → Memory X
+with_cell memory index item = record { start = memory.start; cells = slice_set memory.cells index (Some item) }

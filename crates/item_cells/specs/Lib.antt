@@ -1,4 +1,4 @@
 pub mod Blocks
+pub mod Cells
 pub mod Lends
-pub mod Ownership
-pub mod Places
+pub mod Permits

@@ -1,21 +1,20 @@
 //! A block of cells as its callers see it.
 ghost use Rattle.std.specs.Prelude.{◌≡◌, ℕ, suc, ◌<◌, ◌≤◌, length, map, take, drop, replicate, slice_set, Some, None, IfOk};
 ghost use Rattle.std.specs.Borrow.{Lends, sem};
-ghost use Rattle.item_cells.specs.Places.{cell, IsFilled, IsRun, AreFilled, AreEmpty, SameOutside};
+ghost use Rattle.item_cells.specs.Cells.{cell, IsFilled, IsRun, AreFilled, AreEmpty, SameOutside};
 
-use crate::cells::{Base, Cells, Deed, allocate, deallocate};
+use crate::memory::{CELLS, Memory, Permit};
 use std::alloc::{AllocError, Global};
 use std::marker::Model;
-use std_alloc::room::may_hold;
+use std_alloc::room::{Vacant, may_hold};
 
-/// A row of cells in one block of memory. A contract sees the list of what each has.
+/// A row of `CELLS` cells in one block of memory. A contract sees the list of what each has.
 ///
 /// It does not know which of its cells have an item: who owns it empties them all before it is
 /// released.
 pub struct Block<T> {
-    base: Base<T>,
-    cells: Cells<T>,
-    deed: Deed<T, Global>,
+    memory: Memory<T>,
+    permit: Permit<T, Global>,
 }
 
 impl<T> Model for Block<T> {
@@ -28,31 +27,34 @@ impl<T> Model for Block<T> {
 
     ghost use Rattle.item_cells.specs.Blocks.{IsBlock};
 
-    ghost view = { λ b. b.cells.slots };
+    ghost view = { λ b. b.memory.cells };
 
-    ghost invariant = { λ b. IsBlock b.base b.cells b.deed };
+    ghost invariant = { λ b. IsBlock b.memory b.permit };
 }
 
 impl<T> Block<T> {
     ghost use Rattle.item_cells.specs.contracts.block.Block.{the_row};
 
-    /// So many empty cells. Fails where there is no memory for them.
-    pub fn new(alloc: Global, len: usize) -> Result<Self, AllocError>
-        ensures { IfOk result (λ block. block ≡ replicate len None) }
+    /// Empty cells. Fails where there is no memory for them.
+    pub fn new(alloc: Global) -> Result<Self, AllocError>
+        ensures { IfOk result (λ block. block ≡ replicate CELLS None) }
     {
-        if !may_hold::<T>(len) {
+        if !may_hold::<T>(CELLS) {
             return Err(AllocError);
         }
-        let (base, cells, deed) = allocate(&alloc, len)?;
-        Ok(Block { base, cells, deed })
+        let Ok(room) = Vacant::take(alloc) else {
+            return Err(AllocError);
+        };
+        let (memory, permit) = Memory::open(room);
+        Ok(Block { memory, permit })
     }
 
-    /// Frees a block of so many cells, of which each is empty.
-    pub fn release(self, alloc: Global, len: usize)
-        requires { self ≡ replicate len None }
+    /// Frees a block of which each cell is empty.
+    pub fn release(self)
+        requires { self ≡ replicate CELLS None }
     {
-        let Block { base, cells, deed } = self;
-        deallocate(&alloc, base, len, cells, deed);
+        let Block { memory, permit } = self;
+        memory.close(permit).free();
     }
 
     /// The item in a cell.
@@ -61,7 +63,7 @@ impl<T> Block<T> {
         requires { IsFilled self.now index }
         ensures { cell self.now index ≡ Some result.now }
     {
-        self.cells.get(self.base, index)
+        &self.memory.items(index, 1)[0]
     }
 
     /// The item in a cell, to be changed where it lies.
@@ -71,7 +73,7 @@ impl<T> Block<T> {
             (λ item. slice_set self.old index (Some item))) }
         ensures value { cell self.old index ≡ Some result.now }
     {
-        self.cells.get_mut(self.base, index)
+        self.memory.item_mut(index)
     }
 
     /// The items of so many cells from one on.
@@ -80,7 +82,7 @@ impl<T> Block<T> {
         requires { IsRun self.now start len }
         ensures { take len (drop start self.now) ≡ map Some result.now }
     {
-        self.cells.slice(self.base, start, len)
+        self.memory.items(start, len)
     }
 
     /// Puts an item into an empty cell.
@@ -90,7 +92,7 @@ impl<T> Block<T> {
         requires empty { cell self.old index ≡ None }
         ensures { self.new ≡ slice_set self.old index (Some item) }
     {
-        self.cells.write(self.base, index, item);
+        self.memory.put(index, item);
     }
 
     /// Takes the item out of a cell.
@@ -100,7 +102,7 @@ impl<T> Block<T> {
         ensures item { cell self.old index ≡ Some result }
         ensures after { self.new ≡ slice_set self.old index None }
     {
-        self.cells.read(self.base, index)
+        self.memory.take(index)
     }
 
     /// Moves the items of the cells from `start` up to `end` one cell on. That at `end` is empty.

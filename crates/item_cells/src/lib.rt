@@ -3,15 +3,16 @@
 //! Where to find what:
 //!
 //! - a block of cells as its callers see it, a list of what each has: `src/block.rt`,
-//!   `specs/Blocks.antt`
-//! - the memory of a block, its owner and the right to free it, with all that goes through a pointer:
-//!   `src/cells.rt`, `specs/{Lends,Ownership,Places}.antt`, `proofs/{Crosses,Memory,Sharing}.antt`
+//!   `specs/{Blocks,Cells}.antt`
+//! - the memory of a block and the right to free it, with all that goes through a pointer:
+//!   `src/memory.rt`, `specs/{Lends,Permits}.antt`, `proofs/{Opens,Walks}.antt`
 #![tactic(auto)]
 
 mod block;
-mod cells;
+mod memory;
 
 pub use block::Block;
+pub use memory::CELLS;
 // A crate can name a block in a contract only if the types of its fields are exported.
 #[doc(hidden)]
-pub use cells::{Base, Cells, Deed};
+pub use memory::{Memory, Permit};

@@ -1,4 +1,4 @@
-use Rattle.item_cells.specs.Places.{AreEmpty, SameOutside}
+use Rattle.item_cells.specs.Cells.{AreEmpty, SameOutside}
 use Rattle.item_cells.proofs.block.Block.drop_items.Given as goal
 
 abbrev pub invariant-loop-index : goal.invariant-loop-index

@@ -1,5 +1,5 @@
 use Rattle.std.proofs.Common.{◌≡◌, ℕ, suc, ◌<◌, ◌≤◌, length, None}
-use Rattle.item_cells.specs.Places.{cell}
+use Rattle.item_cells.specs.Cells.{cell}
 use Rattle.item_cells.proofs.block.Block.shift_down.Given as goal
 
 abbrev pub invariant-loop-at : goal.invariant-loop-at

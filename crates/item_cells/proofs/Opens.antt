@@ -1,0 +1,64 @@
+-- The memory of a block by value, and behind a `&mut`. Assumes `Logic`.
+use mathlib.Core.Path.{◌≡◌, refl, sym, ap, ◌∙◌}
+use Prim.Native.Nat.{ℕ, ◌*◌, ◌<◌, ◌^◌}
+use mathlib.Core.List.{List, [], ◌∷◌}
+use lib.ListN.{length}
+use seplogic.Ra.Ura.{Ura}
+use base.Fraction.{full_share}
+use base.Fml.{GName, Lft, Share, fauth, fbor, flft, fobor, fobs, fsep}
+use base.Logic.{id⊢, never}
+use base.Stored.{Gv}
+use mir.Val.{Val}
+use types.Logic.{Logic}
+use types.Kit.{Goal, Item, Seq, Soaks, Step, step, ‵, ◌$◌, fjoin, flt_i, flt_l, fsplit, move, rewrite}
+use types.SemTy.{Body}
+use denote.Memory.{cell_at, mem}
+use denote.RattleType.{RattleType}
+use denote.RawPtr.{Ptr, block_ptr, in_a_block}
+use denote.Steps.{closes, opens}
+use Rattle.core.proofs.mem.Param.{El, R}
+use Rattle.std_alloc.proofs.RcSteps.{word}
+use Rattle.circular_buffer.specs.Ownership.{cells_own, slots}
+use Rattle.circular_buffer.proofs.Memory.{Word, sz, word_had, word_made}
+use Rattle.item_cells.specs.contracts.memory.Memory as memory
+
+module _ (E : El) where
+  abbrev pub Memory : RattleType
+  Memory = memory.the_row (R E)
+
+  -- its machine value
+  abbrev pub start_at : ℕ → ℕ → Val
+  start_at b o = word (block_ptr b o)
+
+module _ (E : El) {M : Type 1} {𝓤 : Ura M} {𝓛 : Logic 𝓤} {K : Type 0} {Γ : List (Item 𝓤)} {G : Goal 𝓤 𝓛.H} where
+  pub memory_had : K → (m : (Memory E).Denot) (vs : List Val)
+      → ((b o : ℕ) → m.start ≡ block_ptr b o → vs ≡ start_at E b o ∷ [] → length m.cells * sz E < 2 ^ 63 → Seq K 𝓛 (‵ (slots (R E) b o m.cells) ∷ Γ) G)
+      → Seq K 𝓛 (‵ ((Memory E).own_val m vs) ∷ Γ) G
+  memory_had t m vs rest =
+      fsplit t $ word_had t m.start vs (λ spelled.
+      in_a_block t m.start (λ p. cells_own (R E) p m.cells) (id⊢ 𝓤 (never 𝓤)) (λ b o there.
+      fsplit t $ flt_l t (λ fit. rest b o there (spelled ∙ ap (λ (p : Ptr). word p ∷ []) there) fit)))
+
+  pub memory_made : K → (m : (Memory E).Denot) (b o : ℕ) → m.start ≡ block_ptr b o → length m.cells * sz E < 2 ^ 63
+      → Step K 𝓛 (‵ ((Memory E).own_val m (start_at E b o ∷ [])) ∷ Γ) G (‵ (slots (R E) b o m.cells) ∷ Γ) G
+  memory_made t m b o there fit = step (λ rest.
+      flt_i t (length m.cells * sz E) (2 ^ 63) fit $ fjoin t $
+      word_made t (block_ptr b o) $ fjoin t $
+      rewrite t 0 (λ (p : Ptr). ‵ (fsep (Word.own_val (p, tt) (start_at E b o ∷ [])) (cells_own (R E) p m.cells))) (sym there) refl $
+      rest)
+
+module _ (E : El) {M : Type 1} {𝓤 : Ura M} {𝓛 : Logic 𝓤} {K : Type 0} {Γ : List (Item 𝓤)} {G : Goal 𝓤 𝓛.H} where
+  -- [the cells; the pointer; the open borrow; the observed value; the authority over it]
+  pub memory_opens : K → Soaks G → {κ : Lft} {q : Share} {γ : GName} (m : (Memory E).Denot) (rb ro : ℕ)
+      → ((b o : ℕ) → m.start ≡ block_ptr b o → length m.cells * sz E < 2 ^ 63
+      → Seq K 𝓛 (‵ (slots (R E) b o m.cells) ∷ ‵ (cell_at full_share (Memory E).mir (start_at E b o ∷ []) rb ro) ∷ ‵ (fobor κ q (Body (mem (Memory E)) rb ro γ)) ∷ ‵ (fobs γ ((Memory E).coded.code m)) ∷ ‵ (fauth γ ((Memory E).coded.code m)) ∷ Γ) G)
+      → Seq K 𝓛 (‵ (fobs γ ((Memory E).coded.code m)) ∷ ‵ (fbor κ (Body (mem (Memory E)) rb ro γ)) ∷ ‵ (flft κ q) ∷ Γ) G
+  memory_opens t soaks m rb ro rest =
+      opens t soaks (Memory E) {h = m} rb ro (λ vs. move t (1 ∷ []) $ memory_had E t m vs (λ b o there spelled fit.
+      rewrite t 1 (λ (us : List Val). ‵ (cell_at full_share (Memory E).mir us rb ro)) spelled refl $ rest b o there fit))
+
+  pub memory_closes : K → Soaks G → {κ : Lft} {q : Share} {u v : Gv} {γ : GName} (m : (Memory E).Denot) (b o rb ro : ℕ) → m.start ≡ block_ptr b o → length m.cells * sz E < 2 ^ 63
+      → Step K 𝓛 (‵ (fobs γ ((Memory E).coded.code m)) ∷ ‵ (fbor κ (Body (mem (Memory E)) rb ro γ)) ∷ ‵ (flft κ q) ∷ Γ) G
+      (‵ (slots (R E) b o m.cells) ∷ ‵ (cell_at full_share (Memory E).mir (start_at E b o ∷ []) rb ro) ∷ ‵ (fobor κ q (Body (mem (Memory E)) rb ro γ)) ∷ ‵ (fobs γ u) ∷ ‵ (fauth γ v) ∷ Γ) G
+  memory_closes t soaks m b o rb ro there fit = step (λ rest.
+      memory_made E t m b o there fit $ move t (1 ∷ 0 ∷ []) $ closes t soaks (Memory E) m (start_at E b o ∷ []) rb ro $ rest)

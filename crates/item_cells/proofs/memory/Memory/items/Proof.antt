@@ -1,0 +1,99 @@
+-- `items` lends a run of cells as a slice. Assumes `Logic`.
+use mathlib.Core.Path.{◌≡◌, refl, sym, subst}
+use Prim.Native.Nat.{ℕ, ◌+◌, ◌*◌, ◌<◌, ◌^◌}
+use native.Mathlib.Omega.{arith}
+use mathlib.Core.List.{List, [], ◌∷◌}
+use lib.ListN.{get_or, length, set, length-set}
+use seplogic.Ra.Ura.{Ura}
+use base.Logic.{SProp}
+use base.Fml.{flft, ftrue}
+use contract.BorrowLft.{◌⊑◌}
+use contract.Monad.{fact}
+use mir.MapTy.{inst_fn}
+use mir.Syntax.{Fn, w64}
+use mir.Val.{Val, vint, vptr, vunit}
+use prog.Model.{Model}
+use prog.Wp.{Env}
+use contract.Running.{Running, tables}
+use types.Logic.{Logic}
+use types.ByLocal.{alloc_all, env, free_all, get, look_at, pass_all, sets, through}
+use types.Kit.{‵, raw, ◌⊛◌, at_ret, ◌$◌, ◌∵◌, !, qed, done, drop, feq_i, fjoin, fjoin3, fsplit, fsplit3, join, keep, move, rewrite, split, suffices, use1, use2}
+use types.Part.{look_in, sub, whole}
+use types.Run.{assigns_last, bin, blocks, enter, exec, first, fld, init, load, of_opd, returns, size_lit, stop, unit_lit}
+use denote.Builtin.{usize}
+use denote.Exit.{no, yes}
+use denote.RattleType.{owns}
+use denote.Signature.{plain, types_at}
+use denote.Steps.{heard, nothing}
+use denote.Triple.Clauses.{Clauses, Ended}
+use denote.Triple.Entry.{Vals}
+use denote.Triple.Walked.{Goes-dropped, Goes-ref, Stays, ends_at, stay_dropped, stay_ref, walk_of}
+use Rattle.std.specs.Prelude.{Option, Some, None}
+use Rattle.core.proofs.mem.Param.{El, R, args, elτ, el_x, Good, lawful, one}
+use Rattle.core.proofs.ptr.Rows.{one_below, times_below}
+use Rattle.core.proofs.slots.Bodies.{after}
+use Rattle.std_alloc.proofs.RawLayout.{as_written}
+use Rattle.circular_buffer.specs.Ownership.{slot, slots}
+use Rattle.circular_buffer.proofs.Memory.{Besides, Place, says_both, slot_in, slot_out, sz, value_in}
+use Rattle.item_cells.specs.contracts.memory.Memory.items as items
+use Rattle.item_cells.specs.contracts.memory.Memory.items.Key.{name}
+use Rattle.item_cells.proofs.Opens.{Memory, memory_opens, memory_closes}
+use Rattle.item_cells.proofs.Walks.{Runs, met}
+use Rattle.item_cells.proofs.memory.Memory.items.Statement.{statement}
+use Rattle.item_cells.proofs.memory.Memory.items.Code as code
+use base.Fml.{flt}
+use base.Fraction.{full_share}
+use base.Logic.{id⊢, never}
+use lib.ListN.{length-drop, length-take, take, drop as drop_l}
+use mathlib.Core.List.{map}
+use mathlib.Core.Path.{ap}
+use mir.Syntax.{named}
+use types.ByLocal.{sets_last, is}
+use types.Kit.{flt_i, flt_l}
+use types.Run.{agg, and_then, look, no_more, size_word}
+use denote.Builtin.{RefOf}
+use denote.Opens.{hide, unhide}
+use denote.Plain.{uint_vals}
+use denote.RawPtr.{Ptr, in_a_block}
+use denote.Ref.{shr_vals}
+use denote.Slice.{ShrSlice, elements_shared, slice_val}
+use denote.Triple.Walked.{says as says_fact}
+use Rattle.std.proofs.lemmas.List.{length-map}
+use Rattle.core.proofs.slots.Leases.{uncapped}
+use Rattle.core.proofs.slots.Lent.{pointer_in, pointer_out}
+use Rattle.circular_buffer.specs.Ownership.{cells_lent}
+use Rattle.circular_buffer.proofs.Memory.{run_seen}
+use Rattle.item_cells.specs.Cells.{IsRun}
+
+module _ (E : El) {M : Type 1} {𝓤 : Ura M} (𝓛 : Logic 𝓤) (𝓜 : Model 𝓤 𝓛.H) (𝓡 : Running 𝓤 𝓛.H 𝓜) where
+  abbrev ended : Ended
+  ended = items.ended E.row
+
+  abbrev stays : Stays ended.signature.params ended.kept
+  stays = (stay_dropped (RefOf (0 ∷ []) tt (plain (λ _. Memory E)) (λ _. tt)) yes, (stay_dropped (plain (λ _. usize)) yes, (stay_dropped (plain (λ _. usize)) yes, tt)))
+
+  abbrev says : Clauses 𝓤 ended
+  says = items.clauses E.row 𝓛 𝓜.mem 𝓡.returns
+
+  abbrev body : Fn
+  body = inst_fn (args E) code.function
+
+  abbrev Passed : Type 0
+  Passed = (walk_of 𝓛 ended stays says).Ghost
+
+  abbrev spelled : Passed → Passed
+  spelled y = ((y.0.0, y.0.1, y.0.2, y.0.3, (shr_vals y.0.3.0, (uint_vals w64 y.0.3.1.0, (uint_vals w64 y.0.3.1.1.0, tt)))), y.1)
+
+  walk : (y : Passed) → y.0.3.1.0 < 2 ^ 64 → y.0.3.1.1.0 < 2 ^ 64 → Runs 𝓛 𝓜 𝓡 ended stays says body (spelled y)
+  walk y word word_len =
+      let κ = y.0.0.0 in let κT = y.0.0.1.0 in let q = y.0.1.0 in let qT = y.0.1.1.0 in
+      let self = y.0.3.0 in let m = self.now in let rb : ℕ = self.ref_ptr.0 in let ro : ℕ = self.ref_ptr.1 in let i : ℕ = y.0.3.1.0 in let n : ℕ = y.0.3.1.1.0 in
+      let 𝓣 = tables 𝓤 𝓛.H 𝓜 𝓡 𝓡.env in let Post : Val → SProp 𝓤 = (walk_of 𝓛 ended stays says).post (spelled y) in
+      qed 𝓛 (((‵ (flft κ q) ⊛ ‵ (flft κT qT) ⊛ ‵ ftrue) ⊛ ‵ (owns (types_at ended.signature.params y.0.0) y.0.3 (spelled y).0.4)) ∷ (raw (fact 𝓤 (κT ⊑ E.row.lives)) ⊛ raw (fact 𝓤 (IsRun m.cells i n))) ∷ []) ∵
+      move ! (1 ∷ []) $ split ! $ drop ! $ heard ! (IsRun m.cells i n) (λ run. let within = run.0 in let xs = run.1.0 in
+      let long : length xs ≡ n = omega (arith, ap length run.1.1, length-map xs Some, length-take n (drop_l i m.cells), length-drop i m.cells) in
+      split ! $ split ! $ move ! (2 ∷ []) $ fsplit ! $ fsplit ! $ drop ! $
+      unhide ! $ ?)
+
+pub items_spec : {M : Type 1} → statement M
+items_spec 𝓤 𝓛 𝓜 𝓡 wired T laws = ?
