@@ -1,26 +1,35 @@
 -- The memory of a block by value, and behind a `&mut`. Assumes `Logic`.
 use mathlib.Core.Path.{◌≡◌, refl, sym, ap, ◌∙◌}
 use Prim.Native.Nat.{ℕ, ◌*◌, ◌<◌, ◌^◌}
-use mathlib.Core.List.{List, [], ◌∷◌}
+use mathlib.Core.List.{List, [], ◌∷◌, ◌++◌}
 use lib.ListN.{length}
 use seplogic.Ra.Ura.{Ura}
 use base.Fraction.{full_share}
-use base.Fml.{GName, Lft, Share, fauth, fbor, flft, fobor, fobs, fsep}
+use base.Fml.{Fml, GName, Lft, Share, fauth, fbor, flft, fobor, fobs, fsep}
 use base.Logic.{id⊢, never}
 use base.Stored.{Gv}
-use mir.Val.{Val}
+use mir.Val.{Val, of_list, vcons, vnil, vptr, vstruct}
 use types.Logic.{Logic}
-use types.Kit.{Goal, Item, Seq, Soaks, Step, step, ‵, ◌$◌, fjoin, flt_i, flt_l, fsplit, move, rewrite}
+use types.Kit.{Goal, Item, Seq, Soaks, Step, step, ‵, ◌$◌, drop as skip, feq_i, feq_l, fjoin, fpack, fpick, flt_i, flt_l, fsplit, move, rewrite}
 use types.SemTy.{Body}
 use denote.Memory.{cell_at, mem}
-use denote.RattleType.{RattleType}
-use denote.RawPtr.{Ptr, block_ptr, in_a_block}
-use denote.Steps.{closes, opens}
+use denote.Param.{param}
+use denote.RattleType.{RattleType, Valss}
+use denote.RawPtr.{Ptr, RawPtr, block_ptr, in_a_block, ptr_val}
+use denote.Steps.{closes, nothing, opens}
+use denote.Struct.Owning.{shape}
+use denote.Struct.Struct.{within}
+use Rattle.core.proofs.alloc.Calls.{Fits, handle_tells, token}
 use Rattle.core.proofs.mem.Param.{El, R}
+use Rattle.std_alloc.proofs.BoxSteps.Form.{Bx}
+use Rattle.std_alloc.proofs.OfVacant.{vacant_val}
 use Rattle.std_alloc.proofs.RcSteps.{word}
 use Rattle.circular_buffer.specs.Ownership.{cells_own, slots}
 use Rattle.circular_buffer.proofs.Memory.{Word, sz, word_had, word_made}
+use Rattle.item_cells.specs.Permits.{may_free}
 use Rattle.item_cells.specs.contracts.memory.Memory as memory
+use Rattle.item_cells.specs.contracts.memory.Permit as permit
+use Rattle.item_cells.specs.declared.memory.TheConstants.{CELLS}
 
 module _ (E : El) where
   abbrev pub Memory : RattleType
@@ -62,3 +71,27 @@ module _ (E : El) {M : Type 1} {𝓤 : Ura M} {𝓛 : Logic 𝓤} {K : Type 0} {
       (‵ (slots (R E) b o m.cells) ∷ ‵ (cell_at full_share (Memory E).mir (start_at E b o ∷ []) rb ro) ∷ ‵ (fobor κ q (Body (mem (Memory E)) rb ro γ)) ∷ ‵ (fobs γ u) ∷ ‵ (fauth γ v) ∷ Γ) G
   memory_closes t soaks m b o rb ro there fit = step (λ rest.
       memory_made E t m b o there fit $ move t (1 ∷ 0 ∷ []) $ closes t soaks (Memory E) m (start_at E b o ∷ []) rb ro $ rest)
+
+module _ (E : Bx) where
+  abbrev pub Permit : RattleType
+  Permit = permit.the_row (param 0 E.row) (param 1 E.al.row) E.al.g
+
+  abbrev pub permitted : E.al.row.Denot → Ptr → Fml
+  permitted handle start = may_free (param 0 E.row) CELLS (token E.al handle) start
+
+module _ (E : Bx) {M : Type 1} {𝓤 : Ura M} {𝓛 : Logic 𝓤} {K : Type 0} {Γ : List (Item 𝓤)} {G : Goal 𝓤 𝓛.H} where
+  pub permit_had : K → (p : (Permit E).Denot) (vs : List Val)
+      → ((hv : Val) → vs ≡ vstruct (vcons (ptr_val p.start) (vcons hv vnil)) ∷ [] → Fits E.al hv → Seq K 𝓛 (‵ (E.al.row.own_val p.alloc (hv ∷ [])) ∷ ‵ (permitted E p.alloc p.start) ∷ Γ) G)
+      → Seq K 𝓛 (‵ ((Permit E).own_val p vs) ∷ Γ) G
+  permit_had t p vs rest =
+      fsplit t $ fpick t (λ words. fsplit t $ feq_l t (λ whole. fsplit t $ feq_l t (λ start.
+      fsplit t $ handle_tells E.al t p.alloc words.1.0 (λ hv handle good. move t (1 ∷ []) $ skip t $
+      rest hv (whole ∙ (λ j. vstruct (of_list (start j ++ (handle j ++ []))) ∷ [])) good))))
+
+  pub permit_made : K → {hv : Val} (handle : E.al.row.Denot) (b o : ℕ)
+      → Step K 𝓛 (‵ ((Permit E).own_val (record { start = block_ptr b o; alloc = handle }) (vacant_val hv b o ∷ [])) ∷ Γ) G (‵ (E.al.row.own_val handle (hv ∷ [])) ∷ ‵ (permitted E handle (block_ptr b o)) ∷ Γ) G
+  permit_made t {hv} handle b o = step (λ rest.
+      nothing t $ move t (1 ∷ 0 ∷ []) $ fjoin t $
+      feq_i t (List Val) (vptr b o ∷ []) (vptr b o ∷ []) refl $ fjoin t $ feq_i t (List Val) (vacant_val hv b o ∷ []) (vacant_val hv b o ∷ []) refl $ fjoin t $
+      fpack t (Valss (RawPtr ∷ param 1 E.al.row ∷ [])) (within (shape (permit.the_type (param 0 E.row) (param 1 E.al.row) E.al.g)) (block_ptr b o, (handle, tt)) (vacant_val hv b o ∷ [])) (vptr b o ∷ [], (hv ∷ [], tt)) $ fjoin t $
+      rest)

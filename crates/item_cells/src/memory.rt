@@ -1,7 +1,6 @@
 //! The memory of a block, and the right to free it. All that goes through a pointer is here.
 ghost use Rattle.std.specs.Prelude.{◌≡◌, ◌+◌, ◌<◌, ◌≤◌, List, Option, Some, None, map, length, take, drop, replicate, slice_set};
 ghost use Rattle.std.specs.Borrow.{Lends, sem};
-ghost use Rattle.std.specs.Vec.Ownership.{FitsInBlock};
 ghost use Rattle.circular_buffer.specs.Ownership.{cells_own, cells_lent};
 ghost use Rattle.item_cells.specs.Cells.{cell, IsFilled, IsRun};
 
@@ -52,7 +51,6 @@ impl<T> Memory<T> {
 
     /// Empty cells, where there is room for them.
     pub(crate) fn open<A: Allocator>(room: Vacant<[T; CELLS], A>) -> (Memory<T>, Permit<T, A>)
-        requires { FitsInBlock T.row CELLS }
         ensures empty { result.0.cells ≡ replicate CELLS None }
         ensures there { result.1.start ≡ result.0.start }
     {

@@ -50,7 +50,8 @@ use mathlib.Core.Path.{ap}
 use mir.Syntax.{named}
 use types.ByLocal.{sets_last, is}
 use types.Kit.{flt_i, flt_l}
-use types.Run.{agg, and_then, look, no_more, size_word}
+use types.Part.{agg}
+use types.Run.{and_then, look, no_more, size_word}
 use denote.Builtin.{RefOf}
 use denote.Opens.{hide, unhide}
 use denote.Plain.{uint_vals}
@@ -93,7 +94,33 @@ module _ (E : El) {M : Type 1} {𝓤 : Ura M} (𝓛 : Logic 𝓤) (𝓜 : Model 
       move ! (1 ∷ []) $ split ! $ drop ! $ heard ! (IsRun m.cells i n) (λ run. let within = run.0 in let xs = run.1.0 in
       let long : length xs ≡ n = omega (arith, ap length run.1.1, length-map xs Some, length-take n (drop_l i m.cells), length-drop i m.cells) in
       split ! $ split ! $ move ! (2 ∷ []) $ fsplit ! $ fsplit ! $ drop ! $
-      unhide ! $ ?)
+      -- [the pointer; nothing more of the struct; its padding; the cells; the two words; the token; the token of T]
+      unhide ! $ fsplit ! $ fsplit ! $ fsplit ! $ hide ! $ keep ! (3 ∷ 0 ∷ 5 ∷ 6 ∷ []) $
+      in_a_block ! m.start (λ p. cells_lent (R E) p m.cells κ) (id⊢ 𝓤 (never 𝓤)) (λ b o there. fsplit ! $ flt_l ! (λ fit.
+      let s = sz E in let at = i * s + o in
+      let far : i * s < 2 ^ 64 = omega (arith, times_below i (length m.cells) s (2 ^ 63) (omega arith) fit) in
+      let whole_size = uncapped i s far in
+      use1 𝓛 (‵ (elements_shared (R E) xs b at κ)) (run_seen E 𝓛 b κ o m.cells i n xs (omega arith) run.1.1) $ hide ! $ move ! (1 ∷ 2 ∷ 3 ∷ []) $
+      enter ! 𝓣.C 𝓣.Λ body (vptr rb ro ∷ vint w64 i ∷ vint w64 n ∷ []) _ $
+      alloc_all ! (λ l. pass_all ! refl ((tt, tt), ((tt, record { fits = word }), ((tt, record { fits = word_len }), tt))) $ let En : Env 𝓤 𝓛.H = env body.locals l in
+      first ! $ blocks ! $ pointer_in ! tt m.start b o there rb (ro + 0) (λ q'.
+      sets ! (of_opd ! (load ! (through ! refl (fld ! refl (stop !))) (look ! 0 refl))) refl (tt, tt) $ pointer_out ! tt m.start b o there rb (ro + 0) $
+      sets ! (is ! (bin ! (get ! refl) (size_word !) (record { fits = subst (λ (k : ℕ). k < 2 ^ 64) (sym whole_size) far })) (ap (vint w64) whole_size)) refl (tt, record { fits = far }) $
+      sets ! (bin ! (get ! refl) (get ! refl) tt) refl (tt, tt) $
+      sets_last ! (agg ! (and_then ! (get ! refl) (and_then ! (get ! refl) (no_more !)))) refl (tt, (tt, (record { fits = word_len }, tt))) $
+      exec ! 𝓣.C 𝓣.Λ En (after 1 body.body) (at_ret En Post) $ sets ! (of_opd ! (get ! refl)) refl (tt, (tt, (record { fits = word_len }, tt))) $
+      -- [the token; the token of T; the items]
+      join ! $ move ! (1 ∷ []) $
+      flt_i ! (length xs * s) (2 ^ 63) (times_below (length xs) (length m.cells) s (2 ^ 63) (omega arith) fit) $ flt_i ! (length xs) (2 ^ 64) (omega arith) $ fjoin ! $
+      feq_i ! (List Val) (slice_val (b, at) n ∷ []) (slice_val (b, at) (length xs) ∷ []) (ap (λ k. slice_val (b, at) k ∷ []) (sym long)) $ fjoin ! $ fjoin ! $
+      returns ! (look_at ! 0 refl) $ free_all ! refl $
+      suffices ! _ (ends_at 𝓛 ended stays says (spelled y) (slice_val (b, at) n) (record { ref_ptr = (b, at); now = xs }) (tt, (tt, (tt, tt))) (tt, (tt, (tt, tt)))) $ says_fact ! run.1.1 $
+      nothing ! $ nothing ! $ fjoin ! $ nothing ! $ fjoin ! $ nothing ! $ fjoin ! $ keep ! (2 ∷ 0 ∷ 1 ∷ []) $ done !)))))
 
 pub items_spec : {M : Type 1} → statement M
-items_spec 𝓤 𝓛 𝓜 𝓡 wired T laws = ?
+items_spec 𝓤 𝓛 𝓜 𝓡 wired T laws =
+    let E : El = record { row = T; laws = laws } in
+    met 𝓛 𝓜 𝓡 (ended E 𝓛 𝓜 𝓡) (stays E 𝓛 𝓜 𝓡) (says E 𝓛 𝓜 𝓡) (body E 𝓛 𝓜 𝓡) (name (args E)) (code.unfolded 𝓤 𝓛.H 𝓜 𝓡 wired (T, tt))
+    (Goes-dropped 𝓛 2 (RefOf (0 ∷ []) tt (plain (λ _. Memory E)) (λ _. tt)) yes (λ κs x f. refl), (Goes-dropped 𝓛 2 (plain (λ _. usize)) yes (λ κs x f. refl), (Goes-dropped 𝓛 2 (plain (λ _. usize)) yes (λ κs x f. refl), tt)))
+    (λ y are. subst (λ (vss : Vals (ended E 𝓛 𝓜 𝓡).signature y.0.0). Runs 𝓛 𝓜 𝓡 (ended E 𝓛 𝓜 𝓡) (stays E 𝓛 𝓜 𝓡) (says E 𝓛 𝓜 𝓡) (body E 𝓛 𝓜 𝓡) ((y.0.0, y.0.1, y.0.2, y.0.3, vss), y.1))
+    (sym (λ j. (are.0.0 j, (are.1.0.0 j, (are.1.1.0.0 j, tt))))) (walk E 𝓛 𝓜 𝓡 y are.1.0.1 are.1.1.0.1))
