@@ -6,7 +6,7 @@ ghost use Rattle.item_cells.specs.Cells.{cell, IsFilled, IsRun, AreFilled, AreEm
 use crate::memory::{CELLS, Memory, Permit};
 use std::alloc::{AllocError, Global};
 use std::marker::Model;
-use std_alloc::room::Vacant;
+use std_alloc::room::{Vacant, may_hold};
 
 /// A row of `CELLS` cells in one block of memory. A contract sees the list of what each has.
 ///
@@ -39,6 +39,9 @@ impl<T> Block<T> {
     pub fn new(alloc: Global) -> Result<Self, AllocError>
         ensures { IfOk result (λ block. block ≡ replicate CELLS None) }
     {
+        if !may_hold::<T>(CELLS) {
+            return Err(AllocError);
+        }
         let Ok(room) = Vacant::take(alloc) else {
             return Err(AllocError);
         };

@@ -1,3 +1,4 @@
+use mathlib.Core.List.{[]}
 use denote.RattleType.{RattleType}
 use denote.Param.Send.{IsSend, AllSend, owning_send, struct_send, sendable}
 use denote.Struct.Owning.{shape, fields, to}

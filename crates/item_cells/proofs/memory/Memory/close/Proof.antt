@@ -92,7 +92,7 @@ module _ (E : Bx) {M : Type 1} {𝓤 : Ura M} (𝓛 : Logic 𝓤) (𝓜 : Model 
       sets ! (of_opd ! (get ! refl)) refl (tt, tt) $ sets ! (of_opd ! (get ! refl)) refl good $ sets ! (agg ! (and_then ! (get ! refl) (and_then ! (get ! refl) (no_more !)))) refl typed $
       returns ! (look_at ! 0 refl) $ free_all ! refl $
       suffices ! _ (ends_at 𝓛 ended stays says y (vacant_val hv b o) (record { ptr = block_ptr b o; alloc = p.alloc }) (tt, ((tt, (tt, tt)), tt)) (tt, (tt, tt))) $
-      move ! (1 ∷ 2 ∷ []) $ join ! $ nothing ! $ nothing ! $ fjoin ! $ nothing ! $ fjoin ! $ nothing ! $ keep ! (2 ∷ 1 ∷ 3 ∷ 0 ∷ []) $ done !)))))
+      move ! (1 ∷ 2 ∷ []) $ join ! $ nothing ! $ nothing ! $ fjoin ! $ nothing ! $ fjoin ! $ move ! (0 ∷ 2 ∷ []) $ join ! $ move ! (1 ∷ 0 ∷ []) $ join ! $ nothing ! $ move ! (1 ∷ 0 ∷ []) $ done !)))))
 
 pub close_spec : {M : Type 1} → statement M
 close_spec 𝓤 𝓛 𝓜 𝓡 wired T A laws lawsA g d dd met_A met_D =
