@@ -1,39 +1,34 @@
 -- `close` puts the room together again. Assumes `Logic`.
 use mathlib.Core.Path.{◌≡◌, refl, sym, subst, ap}
-use Prim.Native.Nat.{ℕ, ◌+◌, ◌*◌, ◌<◌, ◌^◌}
+use Prim.Native.Nat.{◌*◌, ◌<◌, ◌^◌}
 use mathlib.Core.List.{List, [], ◌∷◌, ◌++◌}
 use seplogic.Ra.Ura.{Ura}
 use base.Fml.{flft, ftrue}
-use base.Logic.{SProp, emp, ent, id⊢}
+use base.Logic.{SProp, ent, id⊢}
 use contract.BorrowLft.{◌⊑◌}
 use contract.Monad.{fact}
 use mir.Syntax.{ty_array}
 use mir.Val.{Val, vcons, vnil, vstruct}
-use prog.Wp.{Env, WpFn}
-use types.ByLocal.{alloc_all, env, free_all, get, get_in, look_at, pass_all, sets}
-use types.Kit.{‵, raw, ◌⊛◌, at_ret, ◌$◌, ◌∵◌, !, qed, done, drop, feq_i, fjoin, fjoin3, fpack, fsplit, fsplit3, join, keep, move, rewrite, split, split3, suffices, use1, use2}
+use prog.Wp.{WpFn}
+use types.ByLocal.{alloc_all, free_all, get, get_in, look_at, pass_all, sets}
+use types.Kit.{‵, raw, ◌⊛◌, ◌$◌, ◌∵◌, !, qed, done, drop, fjoin, fsplit, join, keep, move, rewrite, split, split3, suffices, use1}
 use types.Part.{agg, sub, whole}
-use types.Run.{and_then, blocks, enter, exec, first, fld, no_more, of_opd, returns, stop}
-use denote.RattleType.{Valss, owns}
+use types.Run.{and_then, enter, fld, no_more, of_opd, returns, stop}
+use denote.RattleType.{owns}
 use denote.RawPtr.{block_ptr}
 use denote.Signature.{types_at}
-use denote.Struct.Declared as Declared
-use denote.Struct.Struct.{within}
-use denote.Struct.Tuple.{tuple_type}
 use denote.Steps.{heard, nothing}
 use denote.Triple.Walked.{ends_at}
 use base.Fml.{froom}
 use denote.Triple.Walked.{Goes-dropped}
 use denote.RawPtr.{Ptr, ptr_val}
-use Rattle.std.specs.Prelude.{Option}
 use Rattle.circular_buffer.proofs.Memory.{Place}
 use mathlib.Core.Path.{◌∙◌}
 use Rattle.core.proofs.alloc.Calls.{Goes-blank}
 use Rattle.core.proofs.mem.Param.{El, elτ}
 use Rattle.std.specs.Prelude.{None}
-use lib.ListN.{replicate, length-replicate}
+use lib.ListN.{replicate}
 use Rattle.std_alloc.proofs.RawLayout.{as_raw}
-use Rattle.std_alloc.proofs.ResultValues.{and_tt}
 use Rattle.circular_buffer.specs.Ownership.{slots}
 use Rattle.circular_buffer.proofs.Memory.{to_room, sz}
 use contract.Running.{Running, tables}
@@ -47,7 +42,7 @@ use denote.Signature.{plain}
 use denote.Triple.Clauses.{Clauses, Ended}
 use denote.Triple.Walked.{Stays, stay_dropped, walk_of}
 use Rattle.std_alloc.proofs.BoxSteps.Form.{Bx, R, args}
-use Rattle.std_alloc.proofs.OfVacant.{Vacant, Vacant-made, vacant_typed, vacant_val}
+use Rattle.std_alloc.proofs.OfVacant.{Vacant-made, vacant_typed, vacant_val}
 use Rattle.item_cells.specs.contracts.memory.Memory.close as close
 use Rattle.item_cells.specs.contracts.memory.Memory.close.Key.{name}
 use Rattle.item_cells.proofs.Opens.{Memory, Permit, memory_had, permit_had, permitted, start_at}

@@ -3,7 +3,7 @@ use mathlib.Core.Path.{◌≡◌, refl, sym, subst}
 use Prim.Native.Nat.{ℕ, ◌+◌, ◌*◌, ◌<◌, ◌^◌}
 use native.Mathlib.Omega.{arith}
 use mathlib.Core.List.{List, [], ◌∷◌}
-use lib.ListN.{get_or, length, set, length-set}
+use lib.ListN.{get_or, length, length-set}
 use seplogic.Ra.Ura.{Ura}
 use base.Logic.{SProp}
 use base.Fml.{flft, ftrue}
@@ -11,15 +11,15 @@ use contract.BorrowLft.{◌⊑◌}
 use contract.Monad.{fact}
 use mir.MapTy.{inst_fn}
 use mir.Syntax.{Fn, w64}
-use mir.Val.{Val, vint, vptr, vunit}
+use mir.Val.{Val, vint, vptr}
 use prog.Model.{Model}
 use prog.Wp.{Env}
 use contract.Running.{Running, tables}
 use types.Logic.{Logic}
 use types.ByLocal.{alloc_all, env, free_all, get, look_at, pass_all, sets, through}
-use types.Kit.{‵, raw, ◌⊛◌, at_ret, ◌$◌, ◌∵◌, !, qed, done, drop, feq_i, fjoin, fjoin3, fsplit, fsplit3, join, keep, move, rewrite, split, suffices, use1, use2}
+use types.Kit.{‵, raw, ◌⊛◌, at_ret, ◌$◌, ◌∵◌, !, qed, done, drop, fjoin, fsplit, fsplit3, join, keep, move, rewrite, split, suffices, use1, use2}
 use types.Part.{look_in, sub, whole}
-use types.Run.{assigns_last, bin, blocks, enter, exec, first, fld, init, load, of_opd, returns, size_lit, stop, unit_lit}
+use types.Run.{bin, blocks, enter, exec, first, fld, load, of_opd, returns, size_lit, stop}
 use denote.Builtin.{usize}
 use denote.Exit.{no, yes}
 use denote.RattleType.{owns}
@@ -27,17 +27,16 @@ use denote.Signature.{plain, types_at}
 use denote.Steps.{heard, nothing}
 use denote.Triple.Clauses.{Clauses, Ended}
 use denote.Triple.Entry.{Vals}
-use denote.Triple.Walked.{Goes-dropped, Goes-ref, Stays, ends_at, stay_dropped, stay_ref, walk_of}
-use Rattle.std.specs.Prelude.{Option, Some, None}
-use Rattle.core.proofs.mem.Param.{El, R, args, elτ, el_x, Good, lawful, one}
+use denote.Triple.Walked.{Goes-dropped, Stays, ends_at, stay_dropped, walk_of}
+use Rattle.std.specs.Prelude.{Some, None}
+use Rattle.core.proofs.mem.Param.{El, R, args, el_x}
 use Rattle.core.proofs.ptr.Rows.{one_below, times_below}
 use Rattle.core.proofs.slots.Bodies.{after}
-use Rattle.std_alloc.proofs.RawLayout.{as_written}
 use Rattle.circular_buffer.specs.Ownership.{slot, slots}
-use Rattle.circular_buffer.proofs.Memory.{Besides, Place, says_both, slot_in, slot_out, sz, value_in}
+use Rattle.circular_buffer.proofs.Memory.{Besides, Place, slot_in, slot_out, sz}
 use Rattle.item_cells.specs.contracts.memory.Memory.item_mut as item_mut
 use Rattle.item_cells.specs.contracts.memory.Memory.item_mut.Key.{name}
-use Rattle.item_cells.proofs.Opens.{Memory, memory_opens, memory_closes}
+use Rattle.item_cells.proofs.Opens.{Memory, memory_opens}
 use Rattle.item_cells.proofs.Walks.{Runs, met}
 use Rattle.item_cells.proofs.memory.Memory.item_mut.Statement.{statement}
 use Rattle.item_cells.proofs.memory.Memory.item_mut.Code as code

@@ -3,7 +3,7 @@ use mathlib.Core.Path.{◌≡◌, refl, sym, subst}
 use Prim.Native.Nat.{ℕ, ◌+◌, ◌*◌, ◌<◌, ◌^◌}
 use native.Mathlib.Omega.{arith}
 use mathlib.Core.List.{List, [], ◌∷◌}
-use lib.ListN.{get_or, length, set, length-set}
+use lib.ListN.{length}
 use seplogic.Ra.Ura.{Ura}
 use base.Logic.{SProp}
 use base.Fml.{flft, ftrue}
@@ -11,43 +11,36 @@ use contract.BorrowLft.{◌⊑◌}
 use contract.Monad.{fact}
 use mir.MapTy.{inst_fn}
 use mir.Syntax.{Fn, w64}
-use mir.Val.{Val, vint, vptr, vunit}
+use mir.Val.{Val, vint, vptr}
 use prog.Model.{Model}
 use prog.Wp.{Env}
 use contract.Running.{Running, tables}
 use types.Logic.{Logic}
 use types.ByLocal.{alloc_all, env, free_all, get, look_at, pass_all, sets, through}
-use types.Kit.{‵, raw, ◌⊛◌, at_ret, ◌$◌, ◌∵◌, !, qed, done, drop, feq_i, fjoin, fjoin3, fsplit, fsplit3, join, keep, move, rewrite, split, suffices, use1, use2}
-use types.Part.{look_in, sub, whole}
-use types.Run.{assigns_last, bin, blocks, enter, exec, first, fld, init, load, of_opd, returns, size_lit, stop, unit_lit}
+use types.Kit.{‵, raw, ◌⊛◌, at_ret, ◌$◌, ◌∵◌, !, qed, done, drop, feq_i, fjoin, fsplit, join, keep, move, split, suffices, use1}
+use types.Run.{bin, blocks, enter, exec, first, fld, load, of_opd, returns, stop}
 use denote.Builtin.{usize}
-use denote.Exit.{no, yes}
+use denote.Exit.{yes}
 use denote.RattleType.{owns}
 use denote.Signature.{plain, types_at}
 use denote.Steps.{heard, nothing}
 use denote.Triple.Clauses.{Clauses, Ended}
 use denote.Triple.Entry.{Vals}
-use denote.Triple.Walked.{Goes-dropped, Goes-ref, Stays, ends_at, stay_dropped, stay_ref, walk_of}
-use Rattle.std.specs.Prelude.{Option, Some, None}
-use Rattle.core.proofs.mem.Param.{El, R, args, elτ, el_x, Good, lawful, one}
-use Rattle.core.proofs.ptr.Rows.{one_below, times_below}
+use denote.Triple.Walked.{Goes-dropped, Stays, ends_at, stay_dropped, walk_of}
+use Rattle.std.specs.Prelude.{Some}
+use Rattle.core.proofs.mem.Param.{El, R, args}
+use Rattle.core.proofs.ptr.Rows.{times_below}
 use Rattle.core.proofs.slots.Bodies.{after}
-use Rattle.std_alloc.proofs.RawLayout.{as_written}
-use Rattle.circular_buffer.specs.Ownership.{slot, slots}
-use Rattle.circular_buffer.proofs.Memory.{Besides, Place, says_both, slot_in, slot_out, sz, value_in}
+use Rattle.circular_buffer.proofs.Memory.{sz}
 use Rattle.item_cells.specs.contracts.memory.Memory.items as items
 use Rattle.item_cells.specs.contracts.memory.Memory.items.Key.{name}
-use Rattle.item_cells.proofs.Opens.{Memory, memory_opens, memory_closes}
+use Rattle.item_cells.proofs.Opens.{Memory}
 use Rattle.item_cells.proofs.Walks.{Runs, met}
 use Rattle.item_cells.proofs.memory.Memory.items.Statement.{statement}
 use Rattle.item_cells.proofs.memory.Memory.items.Code as code
-use base.Fml.{flt}
-use base.Fraction.{full_share}
 use base.Logic.{id⊢, never}
-use lib.ListN.{length-drop, length-take, take, drop as drop_l}
-use mathlib.Core.List.{map}
+use lib.ListN.{length-drop, length-take, drop as drop_l}
 use mathlib.Core.Path.{ap}
-use mir.Syntax.{named}
 use types.ByLocal.{sets_last, is}
 use types.Kit.{flt_i, flt_l}
 use types.Part.{agg}
@@ -55,9 +48,9 @@ use types.Run.{and_then, look, no_more, size_word}
 use denote.Builtin.{RefOf}
 use denote.Opens.{hide, unhide}
 use denote.Plain.{uint_vals}
-use denote.RawPtr.{Ptr, in_a_block}
+use denote.RawPtr.{in_a_block}
 use denote.Ref.{shr_vals}
-use denote.Slice.{ShrSlice, elements_shared, slice_val}
+use denote.Slice.{elements_shared, slice_val}
 use denote.Triple.Walked.{says as says_fact}
 use Rattle.std.proofs.lemmas.List.{length-map}
 use Rattle.core.proofs.slots.Leases.{uncapped}

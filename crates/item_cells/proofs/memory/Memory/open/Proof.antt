@@ -1,6 +1,6 @@
 -- `open` takes the room apart. Assumes `Logic`.
-use mathlib.Core.Path.{◌≡◌, refl, sym, subst, ap}
-use Prim.Native.Nat.{ℕ, ◌+◌, ◌*◌, ◌<◌, ◌^◌}
+use mathlib.Core.Path.{refl, sym, subst}
+use Prim.Native.Nat.{ℕ, ◌*◌, ◌<◌, ◌^◌}
 use mathlib.Core.List.{List, [], ◌∷◌, ◌++◌}
 use seplogic.Ra.Ura.{Ura}
 use base.Fml.{flft, ftrue}
@@ -9,11 +9,11 @@ use contract.BorrowLft.{◌⊑◌}
 use contract.Monad.{fact}
 use mir.Syntax.{ty_array}
 use mir.Val.{Val, vcons, vnil, vstruct}
-use prog.Wp.{Env, WpFn}
-use types.ByLocal.{alloc_all, env, free_all, get, get_in, look_at, pass_all, sets}
-use types.Kit.{‵, raw, ◌⊛◌, at_ret, ◌$◌, ◌∵◌, !, qed, done, drop, feq_i, fjoin, fjoin3, fpack, fsplit, fsplit3, join, keep, move, rewrite, split, split3, suffices, use1, use2}
+use prog.Wp.{WpFn}
+use types.ByLocal.{alloc_all, free_all, get, get_in, look_at, pass_all, sets}
+use types.Kit.{‵, raw, ◌⊛◌, ◌$◌, ◌∵◌, !, qed, done, drop, feq_i, fjoin, fpack, fsplit, join, keep, move, split, split3, suffices, use1}
 use types.Part.{agg, sub, whole}
-use types.Run.{and_then, blocks, enter, exec, first, fld, no_more, of_opd, returns, stop}
+use types.Run.{and_then, enter, fld, no_more, of_opd, returns, stop}
 use denote.RattleType.{Valss, owns}
 use denote.RawPtr.{block_ptr}
 use denote.Signature.{types_at}

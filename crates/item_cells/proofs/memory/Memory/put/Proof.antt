@@ -28,8 +28,8 @@ use denote.Steps.{heard, nothing}
 use denote.Triple.Clauses.{Clauses, Ended}
 use denote.Triple.Entry.{Vals}
 use denote.Triple.Walked.{Goes-dropped, Goes-ref, Stays, ends_at, stay_dropped, stay_ref, walk_of}
-use Rattle.std.specs.Prelude.{Option, Some, None}
-use Rattle.core.proofs.mem.Param.{El, R, args, elτ, el_x, Good, lawful, one}
+use Rattle.std.specs.Prelude.{Some, None}
+use Rattle.core.proofs.mem.Param.{El, R, args, elτ, Good, lawful, one}
 use Rattle.core.proofs.ptr.Rows.{one_below, times_below}
 use Rattle.core.proofs.slots.Bodies.{after}
 use Rattle.std_alloc.proofs.RawLayout.{as_written}

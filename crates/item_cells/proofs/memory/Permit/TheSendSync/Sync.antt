@@ -1,9 +1,6 @@
-use mir.Val.{Val}
 use denote.RattleType.{RattleType}
 use denote.Memory.{raw_all}
 use denote.Param.Send.{IsSend, IsSync, Frees, whole-keyless}
-use denote.Struct.Owning.{shape, to}
-use denote.Struct.Struct.{Struct}
 use Rattle.core.specs.declared.alloc.Allocator.{Ghosts}
 use Rattle.item_cells.specs.contracts.memory.Permit as permit
 use Rattle.item_cells.proofs.memory.Permit.TheSendSync.Send.{send}
