@@ -5,7 +5,7 @@ use Rattle.std.specs.List.{insert, remove}
 use Rattle.std.proofs.lemmas.Option.{none-some, same_Some}
 use Rattle.std.proofs.lemmas.List.{length-map, map-append, map-set, take-map, drop-map, get_or-map, get_or_past, get_or-set_same, get_or-set_other}
 use Rattle.std.proofs.lemmas.List.Edits.{get_or-insert_at, get_or-insert_below, get_or-insert_above, get_or-remove_below, get_or-remove_above}
-use Rattle.item_cells.specs.Places.{cell}
+use Rattle.item_cells.specs.Cells.{cell}
 use Rattle.range_nodes.specs.Segments.{row_cell, items_in}
 
 module _ {T : Type 0} where

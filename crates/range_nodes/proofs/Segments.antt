@@ -6,7 +6,7 @@ use Rattle.std.proofs.lemmas.Bool.{cases_eq, cases_lt, cases_order}
 use Rattle.std.proofs.lemmas.List.{length-map, length-drop, length-take-le, map-set, drop-drop, ext_get_or, get_or-set_same, get_or-set_other, get_or-take, get_or-drop, get_or_past, get_or-replicate, length-replicate}
 use Rattle.std.proofs.lemmas.List.Edits.{length-insert, length-remove}
 use Rattle.std.proofs.Math.ListN.{get_or-map as map_get_or}
-use Rattle.item_cells.specs.Places.{cell, IsFilled, AreFilled, AreEmpty, IsRun, SameOutside}
+use Rattle.item_cells.specs.Cells.{cell, IsFilled, AreFilled, AreEmpty, IsRun, SameOutside}
 use Rattle.range_nodes.specs.declared.nodes.TheConstants.{CAPACITY}
 use Rattle.range_nodes.specs.Rows.{row_of}
 use Rattle.range_nodes.specs.Segments.{row_cell, items_in, rows_in, IsLaid, IsSegment}

@@ -1,7 +1,7 @@
 -- How a `Segment` keeps its rows: in cells that follow each other, so many for each row, of which
 -- the first have an item. No public clause cites this file.
 use Rattle.std.specs.Prelude.{◌≡◌, ℕ, zero, suc, ◌+◌, ◌*◌, ◌<◌, ◌≤◌, List, [], ◌∷◌, length, map, take, drop, get_or, filter_map, Option, Some, None}
-use Rattle.item_cells.specs.Places.{cell}
+use Rattle.item_cells.specs.Cells.{cell}
 use Rattle.range_nodes.specs.declared.nodes.TheConstants.{CAPACITY}
 use Rattle.range_nodes.specs.declared.segment.TheConstants.{ROWS}
 use Rattle.range_nodes.specs.Rows.{row_of}

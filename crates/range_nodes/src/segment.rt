@@ -5,15 +5,12 @@ ghost use Rattle.range_nodes.specs.Rows.{row_of};
 ghost use Rattle.range_nodes.specs.Segments.{IsSegment};
 
 use crate::nodes::CAPACITY;
-use item_cells::Block;
+use item_cells::{Block, CELLS};
 use std::alloc::{AllocError, Global};
 use std::marker::Model;
 
 /// How many rows lie in one block.
-pub const ROWS: usize = 8;
-
-// How many cells these rows have.
-pub const CELLS: usize = CAPACITY * ROWS;
+pub const ROWS: usize = CELLS / CAPACITY;
 
 /// `ROWS` rows of up to `CAPACITY` items.
 pub struct Segment<T> {
@@ -21,7 +18,6 @@ pub struct Segment<T> {
     cells: Block<T>,
     // How many items each row has, which is at hand before the row's memory is read.
     lens: [u8; ROWS],
-    alloc: Global,
 }
 
 impl<T> Model for Segment<T> {
@@ -43,13 +39,9 @@ impl<T> Model for Segment<T> {
 /// Drops each item once.
 impl<T: Drop> Drop for Segment<T> {
     fn drop(self) {
-        let Segment {
-            mut cells,
-            lens,
-            alloc,
-        } = self;
+        let Segment { mut cells, lens } = self;
         drop_rows(&mut cells, lens.as_slice());
-        cells.release(alloc, CELLS);
+        cells.release();
     }
 }
 
@@ -71,11 +63,10 @@ impl<T: Drop> Segment<T> {
     pub fn new(alloc: Global) -> Result<Self, AllocError>
         ensures { IfOk result (λ segment. segment ≡ replicate ROWS []) }
     {
-        let cells = Block::new(alloc, CELLS)?;
+        let cells = Block::new(alloc)?;
         Ok(Segment {
             cells,
             lens: [0; ROWS],
-            alloc,
         })
     }
 

@@ -1,6 +1,6 @@
 use Rattle.std.proofs.Common.{◌≡◌, length, arith, ◌∙◌}
 use Rattle.range_nodes.specs.Rows.{row_of}
-use Rattle.range_nodes.specs.declared.segment.TheConstants.{CELLS}
+use Rattle.item_cells.specs.declared.memory.TheConstants.{CELLS}
 use Rattle.range_nodes.proofs.Segments.{all_empty, bare_more, filled, kept_still, lens_at}
 use Rattle.range_nodes.proofs.segment.drop_rows.Goals as goal
 

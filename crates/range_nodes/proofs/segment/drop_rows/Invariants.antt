@@ -1,5 +1,5 @@
 use Rattle.std.proofs.Common.{◌≡◌, ℕ, ◌*◌, ◌<◌, ◌≤◌, length, None}
-use Rattle.item_cells.specs.Places.{cell}
+use Rattle.item_cells.specs.Cells.{cell}
 use Rattle.range_nodes.specs.declared.nodes.TheConstants.{CAPACITY}
 use Rattle.range_nodes.proofs.segment.drop_rows.Given as goal
 
