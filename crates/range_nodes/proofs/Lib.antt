@@ -1,3 +1,4 @@
+pub mod Occurrences
 pub mod RowCells
 pub mod Halves
 pub mod Heaps

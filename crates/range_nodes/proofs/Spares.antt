@@ -9,7 +9,8 @@ use Rattle.std.proofs.lemmas.List.Sums.{sum_by-cons}
 use Rattle.slab.specs.Slab.{Slab, get, slab_len, with_value, Updates}
 use Rattle.range_nodes.specs.declared.node.Node.{Node}
 use Rattle.range_nodes.specs.Heap.{Heap, node_of, HasNode, HasRoomFor, SameNodes, children_of, node_count, with_item, FitsChild, Writes, Stores, Removes, Absorbs, node_items, node_children}
-use Rattle.range_nodes.specs.Occurrences.{occurrences, occurrences-append, occurrences-cons, occurrences-nil, occurrences_here, occurrences_itself, occurrences_other}
+use Rattle.range_nodes.specs.Occurrences.{occurrences}
+use Rattle.range_nodes.proofs.Occurrences.{occurrences-append, occurrences-cons, occurrences-nil, occurrences_here, occurrences_itself, occurrences_other}
 use Rattle.range_nodes.specs.Rows.{row_of}
 use Rattle.range_nodes.specs.Spares.{without, len_of, content_of, contents, heap_of, FitsCount, IsWhole}
 use Rattle.range_nodes.proofs.Slots.{slot_count, slot_read}
