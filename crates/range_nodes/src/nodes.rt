@@ -227,7 +227,6 @@ impl<T: Drop> Nodes<T> {
         ensures { Stores self.old self.new result (item ∷ []) [] }
     {
         let number = next_spare(&mut self.spares);
-        self.slab[number].len = 1;
         self.rows.put(number, 0, item);
         number
     }
@@ -242,7 +241,6 @@ impl<T: Drop> Nodes<T> {
         ensures rest { into_iter_items items.new ≡ drop count (into_iter_items items.old) }
     {
         let number = next_spare(&mut self.spares);
-        self.slab[number].len = count;
         self.rows.fill(number, count, items);
         number
     }
