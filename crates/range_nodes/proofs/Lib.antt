@@ -1,4 +1,5 @@
-pub mod Cells
+pub mod Occurrences
+pub mod RowCells
 pub mod Halves
 pub mod Heaps
 pub mod RowItems
@@ -6,3 +7,4 @@ pub mod RowMoves
 pub mod Siblings
 pub mod Slots
 pub mod Spares
+pub mod Segments

@@ -1,236 +1,137 @@
--- Rows of cells, of which one is written, or some added.
-use Rattle.std.proofs.Common.{◌≡◌, ◌≢◌, ℕ, zero, suc, ◌+◌, ◌-◌, ◌*◌, ◌<◌, ◌≤◌, List, [], ◌++◌, length, get_or, take, drop, replicate, Option, Some, None, refl, sym, ap, ◌∙◌, inl, inr, arith, length-append, length-drop}
-use borrow.Rule.Slice.PartMut.{put_mid}
-use Rattle.std.proofs.Math.ListN.{set, length-set}
+-- Rows in segments of as many each.
+use Rattle.std.proofs.Common.{◌≡◌, ℕ, zero, suc, ◌+◌, ◌-◌, ◌*◌, ◌/◌, ◌%◌, ◌<◌, List, [], ◌∷◌, ◌++◌, length, replicate, refl, sym, ap, ◌∙◌, inl, inr, arith, length-append, append-nil, append_assoc}
+use Rattle.std.proofs.Math.ListN.{set, get_or}
 use Rattle.std.proofs.lemmas.Bool.{cases_lt}
-use Rattle.std.proofs.lemmas.List.{drop-drop, drop-take, take_at, drop_at, drop_all, take-append-le, length-take-le, length-replicate, ext_get_or, append-nil, append_assoc, take-replicate, replicate-append-replicate, get_or-set_same, get_or-set_other, get_or-take, get_or-drop, get_or_past, take-set-le, drop-set-lt, drop-set-add, set-append_left, map-set}
-use Rattle.std.proofs.lemmas.Slice.{take-put_mid_below, drop-put_mid}
-use Rattle.range_nodes.specs.declared.nodes.TheConstants.{CAPACITY}
-use Rattle.range_nodes.specs.Rows.{items_in, HoldsItems, cells_of, row_of, rows_in, IsRows}
-use Rattle.range_nodes.proofs.Cells.{Standing, cell_read, items_held, row_length, length-full}
+use Rattle.std.proofs.lemmas.List.{get_or_append_left, get_or-append_right, set-append_left, set-append_right, get_or_at, get_or_default, get_or_past, get_or-replicate}
+use Rattle.range_nodes.specs.declared.segment.TheConstants.{ROWS}
+use Rattle.range_nodes.specs.Rows.{row_of, joined, AreSegments}
 
-module _ {T : Type 0} where
-  cells_on : (cells : List (Option T)) (n : ℕ) → cells_of (drop CAPACITY cells) n
-      ≡ cells_of cells (suc n)
-  cells_on cells n = grind (arith, drop-drop (CAPACITY * n) CAPACITY cells)
+module _ {A : Type 0} where
+  after : (xs : List A) (rest : List (List A)) → AreSegments (xs ∷ rest) → AreSegments rest
+  after xs rest all n less = all (suc n) (omega (arith, less))
 
-  pub rows_read : (many : ℕ) (cells : List (Option T)) (n : ℕ) → n < many
-      → row_of (rows_in many cells) n ≡ items_in (cells_of cells n)
-  unfolding rows_in
-  rows_read zero cells n within = absurd (omega arith)
-  rows_read (suc many) cells zero within = refl
-  rows_read (suc many) cells (suc n) within =
-      rows_read many (drop CAPACITY cells) n (omega arith) ∙ ap items_in (cells_on cells n)
+  pub length-joined : (segments : List (List A)) → AreSegments segments
+      → length (joined segments) ≡ ROWS * length segments
+  unfolding joined
+  length-joined [] all = refl
+  length-joined (xs ∷ rest) all = omega (
+    arith,
+    length-append xs (joined rest),
+    all 0 (omega arith),
+    length-joined rest (after xs rest all),
+  )
 
-  pub length-rows : (many : ℕ) (cells : List (Option T)) → length (rows_in many cells) ≡ many
-  unfolding rows_in
-  length-rows zero cells = refl
-  length-rows (suc many) cells = ap suc (length-rows many (drop CAPACITY cells))
+  -- an element of a segment
+  joined_read : (segments : List (List A)) → AreSegments segments → (q r : ℕ) → r < ROWS
+      → (d : A) → get_or (joined segments) (ROWS * q + r) d ≡ get_or (get_or segments q []) r d
+  unfolding joined
+  joined_read [] all q r less d = refl
+  joined_read (xs ∷ rest) all zero r less d =
+      let index : ROWS * 0 + r ≡ r = omega arith in
+      ap (λ k. get_or (xs ++ joined rest) k d) index
+      ∙ get_or_append_left xs (joined rest) d r (omega (arith, all 0 (omega arith), less))
+  joined_read (xs ∷ rest) all (suc q) r less d =
+      let index : ROWS * suc q + r - ROWS ≡ ROWS * q + r = omega arith in
+      get_or-append_right xs (joined rest) ROWS (ROWS * suc q + r) d (all 0 (omega arith))
+      (omega arith)
+      ∙ ap (λ k. get_or (joined rest) k d) index
+      ∙ joined_read rest (after xs rest all) q r less d
 
-  -- a row past the cells has no item
-  module _ {many : ℕ} {cells : List (Option T)} (rows : IsRows many cells) (n : ℕ) where
-    cells_past : rows.there ≤ n → cells_of cells n ≡ []
-    cells_past past = grind (arith, drop_all)
+  -- an element of a segment was written
+  joined_set : (segments : List (List A)) → AreSegments segments → (q r : ℕ)
+      → q < length segments → r < ROWS → (x : A)
+      → joined (set segments q (set (get_or segments q []) r x))
+      ≡ set (joined segments) (ROWS * q + r) x
+  unfolding joined
+  joined_set [] all q r there less x = absurd (omega (arith, there))
+  joined_set (xs ∷ rest) all zero r there less x =
+      let index : r ≡ ROWS * 0 + r = omega arith in
+      sym (set-append_left xs (joined rest) r x (omega (arith, all 0 (omega arith), less)))
+      ∙ ap (λ k. set (xs ++ joined rest) k x) index
+  joined_set (xs ∷ rest) all (suc q) r there less x =
+      let index : ROWS * q + r ≡ ROWS * suc q + r - ROWS = omega arith in
+      ap (λ l. xs ++ l) (joined_set rest (after xs rest all) q r (omega (arith, there)) less x)
+      ∙ ap (λ k. xs ++ set (joined rest) k x) index
+      ∙ sym (set-append_right xs (joined rest) ROWS (ROWS * suc q + r) x (all 0 (omega arith))
+      (omega arith))
 
-    module _ (less : n < many) {i : ℕ} (within : i < length (row_of (rows_in many cells) n)) where
-      row_there : n < rows.there
-      row_there = grind (arith, rows_read, cells_past)
+  joined_more : (segments : List (List A)) (xs : List A)
+      → joined (segments ++ xs ∷ []) ≡ joined segments ++ xs
+  unfolding joined
+  joined_more [] xs = append-nil xs
+  joined_more (ys ∷ rest) xs =
+      ap (λ l. ys ++ l) (joined_more rest xs) ∙ sym (append_assoc ys (joined rest) xs)
 
-      -- what a row with an item holds
-      pub row_held : HoldsItems (cells_of cells n) (row_of (rows_in many cells) n)
-      row_held = rw (rows_read many cells n less) (rows.held n row_there)
+-- the segments hold these rows, one of which has this number
+module _ {T : Type 0} (segments : List (List (List T))) (all : AreSegments segments)
+    (rows : List (List T)) (is : joined segments ≡ rows) (n : ℕ) (less : n < length rows) where
+  pub segment_within : n / ROWS < length segments
+  segment_within = omega (arith, length-joined segments all, ap length is, less)
 
-      pub room : CAPACITY * n + CAPACITY ≤ length cells
-      room = omega (arith, rows.cells_are, row_there)
+  -- its segment
+  module _ (segment : List (List T)) (found : segment ≡ get_or segments (n / ROWS) segment) where
+    there : segment ≡ get_or segments (n / ROWS) []
+    there = found ∙ get_or_default segments (n / ROWS) segment [] segment_within
 
-      -- the cell of an item
-      pub cell_in : (stands : Standing (row_of (rows_in many cells) n) i) → (d : Option T)
-          → get_or cells (CAPACITY * n + i) d ≡ Some stands.item
-      cell_in stands d =
-          sym (get_or-take CAPACITY (drop (CAPACITY * n) cells) i d (omega (arith, row_held.fits))
-          ∙ get_or-drop (CAPACITY * n) cells i d)
-          ∙ cell_read row_held i within stands d
+    number : ROWS * (n / ROWS) + n % ROWS ≡ n
+    number = omega arith
 
-  -- the cells of one number are new, and hold these items
-  pub record Rewrites (cells new : List (Option T)) (n : ℕ) (items : List T) : Type 0 where
-    pub len : length new ≡ length cells
-    pub others : (m : ℕ) → m ≢ n → cells_of new m ≡ cells_of cells m
-    pub here : HoldsItems (cells_of new n) items
+    pub row_read : row_of segment (n % ROWS) ≡ row_of rows n
+    row_read =
+        ap (λ s. row_of s (n % ROWS)) there
+        ∙ sym (joined_read segments all (n / ROWS) (n % ROWS) (omega arith) [])
+        ∙ ap (λ k. row_of (joined segments) k) number
+        ∙ ap (λ l. row_of l n) is
 
-  -- one row has these items, and the others have what they had
-  pub record IsRowWritten (many : ℕ) (cells new : List (Option T)) (n : ℕ) (items : List T)
-      : Type 0 where
-    pub rows : IsRows many new
-    pub is : rows_in many new ≡ set (rows_in many cells) n items
-    pub len : length new ≡ length cells
+    -- the row was written
+    pub row_written : (new : List (List T)) (items : List T) → new ≡ set segment (n % ROWS) items
+        → joined (set segments (n / ROWS) new) ≡ set rows n items
+    row_written new items written =
+        ap (λ s. joined (set segments (n / ROWS) s))
+        (written ∙ ap (λ s. set s (n % ROWS) items) there)
+        ∙ joined_set segments all (n / ROWS) (n % ROWS) segment_within (omega arith) items
+        ∙ ap (λ k. set (joined segments) k items) number
+        ∙ ap (λ l. set l n items) is
 
-  module _ {many : ℕ} {cells new : List (Option T)} (rows : IsRows many cells) {n : ℕ}
-      (within : n < many) {items : List T} (rewrites : Rewrites cells new n items) where
-    row_written : IsRowWritten many cells new n items
-    row_written =
-        let long = length-rows many cells in
-        grind (
-          arith,
-          items_held,
-          ext_get_or [] (rows_in many new) (set (rows_in many cells) n items)
-              (length-rows many new ∙ sym (length-set (rows_in many cells) n items ∙ long))
-              (grind (arith, length-rows, rows_read, items_held, get_or-set_same, get_or-set_other)),
-          length-rows,
-          get_or-set_other,
-        )
+-- rows without an item were added
+module _ {T : Type 0} (segments : List (List (List T))) (all : AreSegments segments)
+    (fresh : List (List T)) (is : fresh ≡ replicate ROWS []) where
+  abbrev bare : List (List T)
+  bare = replicate ROWS []
 
-  -- the cells of a number were written at once
-  all_written : (n : ℕ) (cells : List (Option T)) {part : List (Option T)} {items : List T}
-      → CAPACITY * n + CAPACITY ≤ length cells → HoldsItems part items
-      → Rewrites cells (put_mid (CAPACITY * n) CAPACITY cells part) n items
-  all_written n cells {part} {items} within holds =
-      let long = row_length holds in
-      let front = take (CAPACITY * n) cells in
-      let back = drop CAPACITY (drop (CAPACITY * n) cells) in
-      let start : length front ≡ CAPACITY * n =
-      length-take-le (CAPACITY * n) cells (omega arith) in
-      let here : cells_of (put_mid (CAPACITY * n) CAPACITY cells part) n ≡ part =
-      simp (drop_at, take_at) in
-      record {
-        len =
-            grind (arith, length-append front (part ++ back), length-drop (CAPACITY * n) cells);
-        others = λ m other.
-            elim (cases_lt m n) [
-              | inl less ↦
-                  sym (grind (arith, drop-take))
-                  ∙ ap (drop (CAPACITY * m))
-                  (take-put_mid_below (CAPACITY * n) CAPACITY cells part
-                  (CAPACITY * m + CAPACITY) (omega arith) (omega arith))
-                  ∙ drop-take (CAPACITY * m) CAPACITY cells
-              | inr past ↦
-                  ap (take CAPACITY)
-                  (drop-put_mid (CAPACITY * n) CAPACITY cells part (CAPACITY * m) (omega arith)
-                  (omega arith) long)
-            ];
-        here = rw here holds;
-      }
+  bare_at : (i : ℕ) → row_of bare i ≡ []
+  bare_at i =
+      elim (cases_lt i ROWS) [
+        | inl less ↦ get_or-replicate ROWS i [] [] less
+        | inr past ↦ get_or_past bare i [] past
+      ]
 
-  pub part_written : {many : ℕ} {cells : List (Option T)} → IsRows many cells → {n : ℕ} → n < many
-      → (k : ℕ) → k ≡ CAPACITY → CAPACITY * n + CAPACITY ≤ length cells → {part : List (Option T)}
-      → {items : List T} → HoldsItems part items
-      → IsRowWritten many cells (put_mid (CAPACITY * n) k cells part) n items
-  part_written {many} {cells} rows {n} less k all within holds =
-      rw all (row_written rows less (all_written n cells within holds))
+  pub more_segments : AreSegments (segments ++ fresh ∷ [])
+  more_segments m less =
+      elim (cases_lt m (length segments)) [
+        | inl low ↦ rw (get_or_append_left segments (fresh ∷ []) [] m low) (all m low)
+        | inr past ↦
+            let last : length segments ≡ m =
+            omega (arith, less, past, length-append segments (fresh ∷ [])) in
+            ap length (get_or_at segments fresh [] [] m last) ∙ ap length is
+      ]
 
-  -- the items that it had
-  pub part_held : (cells : List (Option T)) (n k : ℕ) → k ≡ CAPACITY → {items : List T}
-      → HoldsItems (cells_of cells n) items → items_in (take k (drop (CAPACITY * n) cells)) ≡ items
-  part_held cells n k all held = rw all (items_held held)
+  pub more_rows : (k : ℕ) → row_of (joined (segments ++ fresh ∷ [])) k ≡ row_of (joined segments) k
+  more_rows k =
+      ap (λ l. row_of l k) (joined_more segments fresh)
+      ∙ elim (cases_lt k (length (joined segments))) [
+        | inl low ↦ get_or_append_left (joined segments) fresh [] k low
+        | inr past ↦
+            get_or-append_right (joined segments) fresh (length (joined segments)) k [] refl past
+            ∙ ap (λ l. row_of l (k - length (joined segments))) is
+            ∙ bare_at (k - length (joined segments))
+            ∙ sym (get_or_past (joined segments) k [] past)
+      ]
 
-  -- one cell of a number was written
-  cell_rewritten : (n i : ℕ) (cells : List (Option T)) {items : List T} (item : T)
-      → i < length items → HoldsItems (cells_of cells n) items
-      → Rewrites cells (set cells (CAPACITY * n + i) (Some item)) n (set items i item)
-  cell_rewritten n i cells {items} item within holds =
-      let cell : Option T = Some item in
-      let here : cells_of (set cells (CAPACITY * n + i) cell) n ≡ set (cells_of cells n) i cell =
-      grind (arith, drop-set-add) in
-      record {
-        len = length-set cells (CAPACITY * n + i) cell;
-        others = λ m other.
-            grind (
-              arith,
-              drop-take (CAPACITY * m) CAPACITY (set cells (CAPACITY * n + i) cell),
-              take-set-le,
-              drop-take (CAPACITY * m) CAPACITY cells,
-              drop-set-lt,
-            );
-        here = rw here (grind (arith, length-set, set-append_left, length-full, map-set));
-      }
+module _ {A : Type 0} where
+  abbrev no_segments : List (List A)
+  no_segments = []
 
-  pub cell_written : {many : ℕ} {cells : List (Option T)} → IsRows many cells → {n : ℕ} → n < many
-      → {i : ℕ} → i < length (row_of (rows_in many cells) n) → (item : T)
-      → IsRowWritten many cells (set cells (CAPACITY * n + i) (Some item)) n
-      (set (row_of (rows_in many cells) n) i item)
-  cell_written {many} {cells} rows {n} less {i} within item = row_written rows less
-      (cell_rewritten n i cells item within (row_held rows n less within))
-
-  -- empty cells were added up to a row
-  module _ {many : ℕ} {cells : List (Option T)} (rows : IsRows many cells) (n : ℕ)
-      (within : n < many) where
-    abbrev missing : ℕ
-    missing = CAPACITY * n + CAPACITY - length cells
-
-    abbrev topped : List (Option T)
-    topped = cells ++ replicate missing None
-
-    pub topped_room : CAPACITY * n + CAPACITY ≤ length topped
-    topped_room = grind (arith, length-append, length-replicate)
-
-    old_cells : (m : ℕ) → m < rows.there → cells_of topped m ≡ cells_of cells m
-    old_cells m less =
-        grind (arith, drop-take (CAPACITY * m) CAPACITY topped, take-append-le, drop-take)
-
-    new_cells : (m : ℕ) → rows.there ≤ m → m ≤ n → cells_of topped m ≡ replicate CAPACITY None
-    new_cells m past least =
-        let skipped = CAPACITY * m - length cells in
-        let front = cells ++ replicate skipped None in
-        let parts : topped ≡ front ++ replicate (missing - skipped) None =
-        grind (arith, replicate-append-replicate, append_assoc) in
-        let long : length front ≡ CAPACITY * m =
-        grind (arith, length-append, length-replicate) in
-        ap (λ cs. cells_of cs m) parts
-        ∙ ap (take CAPACITY)
-        (drop_at front (replicate (missing - skipped) None) (CAPACITY * m) long)
-        ∙ take-replicate CAPACITY (missing - skipped) None (omega arith)
-
-    pub topped_rows : IsRows many topped
-    topped_rows =
-        elim (cases_lt n rows.there) [
-          | inl less ↦
-              grind (arith, append-nil)
-          | inr past ↦ record {
-            there = suc n;
-            few = omega arith;
-            cells_are = grind (arith, length-append, length-replicate);
-            held = grind (arith, old_cells, new_cells);
-          }
-        ]
-
-    pub topped_same : rows_in many topped ≡ rows_in many cells
-    topped_same =
-        let long = length-rows many topped in
-        ext_get_or [] (rows_in many topped) (rows_in many cells)
-        (long ∙ sym (length-rows many cells))
-        (λ m below.
-        rows_read many topped m (omega (arith, long, below))
-        ∙ elim (cases_lt m rows.there) [
-          | inl less ↦ ap items_in (old_cells m less)
-          | inr past ↦
-              grind (arith, drop_all, length-append, length-replicate, new_cells)
-              ∙ sym (ap items_in (cells_past rows m (omega (arith, past))))
-        ]
-        ∙ sym (rows_read many cells m (omega (arith, long, below))))
-
-    pub topped_held : HoldsItems (cells_of topped n) (row_of (rows_in many cells) n)
-    topped_held =
-        grind (arith, topped_rows, topped_room, topped_same, rows_read)
-
-  -- rows without cells were added
-  module _ {many : ℕ} {cells : List (Option T)} (rows : IsRows many cells) (more : ℕ)
-      (long : many ≤ more) where
-    -- each number has what it had
-    pub added_kept : (n : ℕ) → row_of (rows_in more cells) n ≡ row_of (rows_in many cells) n
-    added_kept n =
-        elim (cases_lt n many) [
-          | inl less ↦
-              rows_read more cells n (omega arith) ∙ sym (rows_read many cells n less)
-          | inr past ↦
-              elim (cases_lt n more) [
-                | inl new ↦
-                    rows_read more cells n new
-                    ∙ ap items_in (cells_past rows n (omega arith))
-                    ∙ sym (grind (arith, get_or_past, length-rows))
-                | inr other ↦
-                    grind (arith, get_or_past, length-rows)
-              ]
-        ]
-
-  pub rows_none : (cells : List (Option T)) → rows_in 0 cells ≡ []
-  unfolding rows_in
-  rows_none cells = refl
+  pub joined_none : joined no_segments ≡ []
+  unfolding joined
+  joined_none = refl

@@ -1,17 +1,17 @@
 -- What is left of a list of slots, and of a slab of nodes, but for its spares.
-use Rattle.std.proofs.Common.{◌≡◌, ◌≢◌, ℕ, zero, suc, ◌+◌, ◌<◌, ◌≤◌, List, [], ◌∷◌, ◌++◌, length, get_or, cond, Option, Some, None, is_some, IsSome, count_by, refl, sym, ap, ◌∙◌, inl, inr, arith, length-append}
+use Rattle.std.proofs.Common.{◌≡◌, ◌≢◌, ℕ, zero, suc, ◌+◌, ◌<◌, ◌≤◌, List, [], ◌∷◌, ◌++◌, length, get_or, cond, Option, Some, None, is_some, IsSome, count_by, refl, sym, ap, subst, ◌∙◌, inl, inr, arith, length-append}
 use Rattle.std.proofs.Math.ListN.{set, length-set}
 use Rattle.std.specs.List.{insert, remove}
-use Rattle.std.proofs.lemmas.List.Edits.{length-insert, length-remove}
 use Rattle.std.proofs.lemmas.Bool.{cases_eq}
-use Rattle.std.proofs.lemmas.List.{get_or-set_other, get_or-set_same, get_or_past, nil_from_length, set_comm}
+use Rattle.std.proofs.lemmas.List.{get_or-set_other, get_or-set_same, get_or_past, nil_from_length, set-get_or, set_comm}
 use Rattle.std.proofs.lemmas.List.Sums.{sum_by-cons}
 use Rattle.slab.specs.Slab.{Slab, get, slab_len, with_value, Updates}
 use Rattle.range_nodes.specs.declared.node.Node.{Node}
 use Rattle.range_nodes.specs.Heap.{Heap, node_of, HasNode, HasRoomFor, SameNodes, children_of, node_count, with_item, FitsChild, Writes, Stores, Removes, Absorbs, node_items, node_children}
-use Rattle.range_nodes.specs.Occurrences.{occurrences, occurrences-append, occurrences-cons, occurrences-nil, occurrences_here, occurrences_itself, occurrences_other}
+use Rattle.range_nodes.specs.Occurrences.{occurrences}
+use Rattle.range_nodes.proofs.Occurrences.{occurrences-append, occurrences-cons, occurrences-nil, occurrences_here, occurrences_itself, occurrences_other}
 use Rattle.range_nodes.specs.Rows.{row_of}
-use Rattle.range_nodes.specs.Spares.{without, len_of, content_of, contents, heap_of, FitsCount, IsWhole}
+use Rattle.range_nodes.specs.Spares.{without, content_of, contents, heap_of, FitsFull, FitsPlace, IsWhole}
 use Rattle.range_nodes.proofs.Slots.{slot_count, slot_read}
 
 module _ {X : Type 0} where
@@ -143,7 +143,6 @@ pub record IsSeen {T : Type 0} (slab : Slab Node) (rows : List (List T)) (spares
     (node : Node) : Type 0 where
   pub items : node_items (heap_of slab rows spares) n ≡ row_of rows n
   pub children : node_children (heap_of slab rows spares) n ≡ node.children.items
-  pub len : node.len ≡ length (node_items (heap_of slab rows spares) n)
 
 module _ {T : Type 0} {slab : Slab Node} {rows : List (List T)} {spares : List ℕ}
     (whole : IsWhole slab rows spares) where
@@ -156,9 +155,6 @@ module _ {T : Type 0} {slab : Slab Node} {rows : List (List T)} {spares : List �
 
   pub row_there : (k : ℕ) → HasNode (heap_of slab rows spares) k → k < length rows
   row_there k present = whole.there k (found k present)
-
-  pub row_len : (k : ℕ) {node : Node} → get slab k ≡ Some node → node.len ≡ length (row_of rows k)
-  row_len k is = sym (whole.lens k ∙ ap len_of is)
 
   pub seen : (k : ℕ) → HasNode (heap_of slab rows spares) k → {node : Node}
       → get slab k ≡ Some node → IsSeen slab rows spares k node
@@ -185,7 +181,6 @@ pub record Changes {T : Type 0} (old new : Slab Node) (was now : List (List T)) 
   pub others : (k : ℕ) → k ≢ n → row_of now k ≡ row_of was k
   pub long : length was ≤ length now
   pub there : n < length now
-  pub len_is : node.len ≡ length items
 
 module _ {T : Type 0} {old new : Slab Node} {was now : List (List T)} {spares : List ℕ}
     (whole : IsWhole old was spares) {n : ℕ} {node : Node} {items : List T}
@@ -292,10 +287,15 @@ pub record Leaves {T : Type 0} (slab : Slab Node) (rows : List (List T)) (spares
         (heap_of (with_value slab n node) (set rows n items) left)
     pub len : slab_len (with_value slab n node) ≡ slab_len slab
 
+-- a row was written for a spare, which left these
+pub record Filled {T : Type 0} (slab : Slab Node) (rows : List (List T)) (spares : List ℕ) (n : ℕ)
+    (items : List T) (left : List ℕ) : Type 0 where
+  pub whole : IsWhole slab (set rows n items) left
+  pub nodes : Stores (heap_of slab rows spares) (heap_of slab (set rows n items) left) n items []
+
 module _ {T : Type 0} {slab : Slab Node} {rows : List (List T)} {spares : List ℕ}
     (whole : IsWhole slab rows spares) (n : ℕ) {was : Node} (at : get slab n ≡ Some was)
-    (node : Node) (items : List T) (len_is : node.len ≡ length items) {ks : List ℕ}
-    (children_are : node.children.items ≡ ks) where
+    (node : Node) (items : List T) {ks : List ℕ} (children_are : node.children.items ≡ ks) where
   there : IsSome (get slab n)
   there = rw at refl
 
@@ -334,51 +334,41 @@ module _ {T : Type 0} {slab : Slab Node} {rows : List (List T)} {spares : List �
     (whole : IsWhole slab rows spares) (n : ℕ) {was : Node} (at : get slab n ≡ Some was)
     (present : HasNode (heap_of slab rows spares) n)
     (none : length (node_items (heap_of slab rows spares) n) ≡ 0) (node : Node)
-    (no_len : node.len ≡ 0) (no_children : node.children.items ≡ []) where
+    (no_children : node.children.items ≡ []) where
   no_items : row_of rows n ≡ []
   no_items = nil_from_length _ (sym (ap length (items_seen whole n present)) ∙ none)
 
   pub freed : Leaves slab rows spares n node (row_of rows n) (n ∷ spares)
       (λ old new. Removes old new n)
-  freed = emptied whole n at node (row_of rows n) (no_len ∙ sym (ap length no_items)) no_children
-      present no_items refl
+  freed = emptied whole n at node (row_of rows n) no_children present no_items refl
 
 -- an item was put among those of a node, or taken out
 module _ {T : Type 0} {slab : Slab Node} {rows : List (List T)} {spares : List ℕ}
     (whole : IsWhole slab rows spares) (n : ℕ) {was : Node} (at : get slab n ≡ Some was)
     (present : HasNode (heap_of slab rows spares) n) (node : Node) (i : ℕ) where
-  pub put_among : (x : T) → i ≤ length (node_items (heap_of slab rows spares) n)
-      → node.len ≡ was.len + 1 → {ks : List ℕ} → node.children.items ≡ ks
+  pub put_among : (x : T) → {ks : List ℕ} → node.children.items ≡ ks
       → Leaves slab rows spares n node (insert (row_of rows n) i x) spares
       (λ old new. Writes old new n (insert (node_items (heap_of slab rows spares) n) i x) ks)
-  put_among x within more children =
+  put_among x children =
       let items = items_seen whole n present in
-      rw items (edited whole n at node (insert (row_of rows n) i x) (grind (
-        arith,
-        length-insert,
-      )) children present)
+      rw items (edited whole n at node (insert (row_of rows n) i x) children present)
 
-  pub taken_out : i < length (node_items (heap_of slab rows spares) n) → node.len + 1 ≡ was.len
-      → {ks : List ℕ} → node.children.items ≡ ks
+  pub taken_out : {ks : List ℕ} → node.children.items ≡ ks
       → Leaves slab rows spares n node (remove (row_of rows n) i) spares
       (λ old new. Writes old new n (remove (node_items (heap_of slab rows spares) n) i) ks)
-  taken_out within less children =
+  taken_out children =
       let items = items_seen whole n present in
-      rw items (edited whole n at node (remove (row_of rows n) i) (grind (
-        arith,
-        length-remove,
-      )) children present)
+      rw items (edited whole n at node (remove (row_of rows n) i) children present)
 
 -- a node went to the end of another, with an item between
 module _ {T : Type 0} {slab : Slab Node} {rows : List (List T)} {spares : List ℕ}
     (whole : IsWhole slab rows spares) (l r : ℕ) (apart : l ≢ r) {lower upper : Node}
     (left_at : get slab l ≡ Some lower) (right_at : get slab r ≡ Some upper)
     (left : HasNode (heap_of slab rows spares) l) (right : HasNode (heap_of slab rows spares) r)
-    (blank : Node) (no_len : blank.len ≡ 0) (no_children : blank.children.items ≡ [])
-    (node : Node) (x : T) (len_is : node.len ≡ lower.len + 1 + upper.len)
+    (blank : Node) (no_children : blank.children.items ≡ []) (node : Node) (x : T)
     (children_are : node.children.items ≡ lower.children.items ++ upper.children.items) where
   gone : Leaves slab rows spares r blank [] (r ∷ spares) (λ old new. Removes old new r)
-  gone = emptied whole r right_at blank [] no_len no_children right refl refl
+  gone = emptied whole r right_at blank [] no_children right refl refl
 
   pub absorbs : Leaves (with_value slab r blank) (set rows r []) (r ∷ spares) l node
       (row_of rows l ++ x ∷ row_of rows r) (r ∷ spares)
@@ -389,14 +379,14 @@ module _ {T : Type 0} {slab : Slab Node} {rows : List (List T)} {spares : List �
         seen,
         edited gone.whole l
             (get_or-set_other slab.slots r l (Some blank) None apart ∙ left_at) node
-            (row_of rows l ++ x ∷ row_of rows r) (grind (arith, length-append)) children_are
+            (row_of rows l ++ x ∷ row_of rows r) children_are
             (rw (gone.nodes.others l apart) left),
         heap_of,
         with_value,
         gone,
       )
 
--- a spare has nothing
+-- a spare has nothing, and may get items
 module _ {T : Type 0} {slab : Slab Node} {rows : List (List T)} {spares : List ℕ}
     (whole : IsWhole slab rows spares) {n : ℕ} {left : List ℕ} (parts : spares ≡ n ∷ left) where
   among : 0 < occurrences n spares
@@ -405,12 +395,33 @@ module _ {T : Type 0} {slab : Slab Node} {rows : List (List T)} {spares : List �
   pub spare_found : IsSome (get slab n)
   spare_found = content_some (row_of rows n) (get slab n) (rw (whole.empty n among) refl)
 
+  pub spare_row : n < length rows
+  spare_row = whole.there n spare_found
+
   pub bare_row : row_of rows n ≡ []
   bare_row = grind (arith, among)
 
   pub bare_children : {was : Node} → get slab n ≡ Some was → was.children.items ≡ []
   bare_children at =
       ap children_of (sym (ap (content_of (row_of rows n)) at) ∙ whole.empty n among)
+
+  node_there : (slot : Option Node) → get slab n ≡ slot → (node : Node) × (get slab n ≡ Some node)
+  node_there (Some node) is = (node, is)
+  node_there None is = absurd (grind (arith, spare_found))
+
+  pub stocked : (items : List T) → Filled slab rows spares n items left
+  stocked items =
+      let node = node_there (get slab n) refl in
+      let same : with_value slab n node.0 ≡ slab =
+      ap (λ slots. record slab { slots = slots })
+      (ap (λ slot. set slab.slots n slot) (sym node.1) ∙ set-get_or slab.slots n None) in
+      let filled = filled whole n node.1 node.0 items (bare_children node.1) parts in
+      record {
+        whole = subst (λ s. IsWhole s (set rows n items) left) same filled.whole;
+        nodes = subst
+            (λ s. Stores (heap_of slab rows spares) (heap_of s (set rows n items) left) n items [])
+            same filled.nodes;
+      }
 
   -- a node in use is no spare
   pub apart_from_spare : (k : ℕ) → HasNode (heap_of slab rows spares) k → k ≢ n
@@ -431,12 +442,12 @@ module _ {T : Type 0} {slab : Slab Node} {rows : List (List T)} {spares : List �
   item_written = grind (arith, in_use, contents_set, row_there, without_set, found, slot_seen)
 
 -- what fits a node fits its numbers
-pub fits_count : {T : Type 0} (child : Option ℕ) (xs : List T) (ks : List ℕ) (many : ℕ)
-    → many ≡ length xs → FitsChild child xs ks → FitsCount child many ks
-fits_count child xs ks many is fits = grind arith
+pub fits_full : {T : Type 0} (child : Option ℕ) (xs : List T) (ks : List ℕ) → length xs ≡ 11
+    → FitsChild child xs ks → FitsFull child ks
+fits_full child xs ks full fits = grind arith
 
-module _ {T : Type 0} where
-  -- a number with no node has no items
-  pub vacant_row : {slab : Slab Node} {rows : List (List T)} {spares : List ℕ}
-      → IsWhole slab rows spares → (n : ℕ) → get slab n ≡ None → row_of rows n ≡ []
-  vacant_row whole n vacant = grind (arith, nil_from_length)
+pub fits_place : {T : Type 0} (child : Option ℕ) (place : ℕ) (xs : List T) (ks : List ℕ)
+    → place ≤ length xs + 1 → length xs < 11 → FitsChild child xs ks → FitsPlace child place ks
+fits_place None place xs ks near room fits = tt
+fits_place (Some k) place xs ks near room fits =
+    (omega (arith, near, fits), omega (arith, room, fits))

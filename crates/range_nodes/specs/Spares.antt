@@ -1,8 +1,9 @@
 -- How `Nodes` keeps its nodes: under the numbers of a slab, with their items in rows, but for
 -- spares, which are empty and stand in no tree. No public clause cites this file.
-use Rattle.std.specs.Prelude.{◌≡◌, ℕ, ◌+◌, ◌<◌, ◌≤◌, List, [], ◌∷◌, length, Option, Some, None, IsSome, slice_set}
+use Rattle.std.specs.Prelude.{◌≡◌, ℕ, ◌<◌, ◌≤◌, List, [], ◌∷◌, length, Option, Some, None, IsSome, slice_set, ⊤}
 use Rattle.slab.specs.Slab.{Slab, get, slab_len}
 use Rattle.range_nodes.specs.declared.node.Node.{Node}
+use Rattle.range_nodes.specs.declared.nodes.TheConstants.{CHILD_PLACES}
 use Rattle.range_nodes.specs.Heap.{Heap, Content}
 use Rattle.range_nodes.specs.Occurrences.{occurrences}
 use Rattle.range_nodes.specs.Rows.{row_of}
@@ -12,15 +13,15 @@ unfoldable pub without : {X : Type 0} → List ℕ → List (Option X) → List 
 without [] slots = slots
 without (n ∷ ns) slots = slice_set (without ns slots) n None
 
--- a node with so many items has no child, or one more than those if another comes with an item
-abbrev pub FitsCount : Option ℕ → ℕ → List ℕ → Type 0
-FitsCount None many ks = length ks ≡ 0
-FitsCount (Some k) many ks = length ks ≡ many + 1
+-- there is room among the children for another one at a place, if another comes
+abbrev pub FitsPlace : Option ℕ → ℕ → List ℕ → Type 0
+FitsPlace None place ks = ⊤
+FitsPlace (Some k) place ks = (place ≤ length ks) × (length ks < CHILD_PLACES)
 
--- how many items a node has
-abbrev pub len_of : Option Node → ℕ
-len_of None = 0
-len_of (Some node) = node.len
+-- a full node has no child, or all that it can have, if another comes
+abbrev pub FitsFull : Option ℕ → List ℕ → Type 0
+FitsFull None ks = length ks ≡ 0
+FitsFull (Some k) ks = length ks ≡ CHILD_PLACES
 
 module _ {T : Type 0} where
   -- what a node with these items has
@@ -44,11 +45,10 @@ module _ {T : Type 0} where
     capacity = slab_len slab;
   }
 
-  -- each node has a row with as many items as it tells, and no other number has any; each spare is
-  -- an empty node, told once
+  -- each node has a row, and no other number has items; each spare is an empty node, told once
   pub record IsWhole (slab : Slab Node) (rows : List (List T)) (spares : List ℕ) : Type 0 where
     pub there : (k : ℕ) → IsSome (get slab k) → k < length rows
-    pub lens : (k : ℕ) → length (row_of rows k) ≡ len_of (get slab k)
+    pub bare : (k : ℕ) → get slab k ≡ None → row_of rows k ≡ []
     pub empty : (k : ℕ) → 0 < occurrences k spares
         → content_of (row_of rows k) (get slab k) ≡ Some nothing
     pub once : (k : ℕ) → occurrences k spares ≤ 1

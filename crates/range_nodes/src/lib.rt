@@ -3,8 +3,10 @@
 //! Where to find what:
 //!
 //! - what the slab keeps of a node: `src/node.rt`
-//! - the items of all nodes, in a row of cells for each number: how one is put, taken and moved:
-//!   `src/rows.rt`, `specs/Rows.antt`, `proofs/{Cells,RowItems,RowMoves,Halves}.antt`
+//! - some rows of items in one block: `src/segment.rt`, `specs/Segments.antt`,
+//!   `proofs/{RowCells,Segments}.antt`
+//! - the items of all nodes, in a row for each number: `src/rows.rt`, `specs/Rows.antt`,
+//!   `proofs/{RowItems,RowMoves,Halves}.antt`
 //! - the nodes by their numbers in a slab, with spares that an insertion takes, and how items
 //!   move between nodes: `src/nodes.rt`, `specs/{Heap,Spares}.antt`,
 //!   `proofs/{Heaps,Siblings,Spares}.antt`
@@ -13,3 +15,4 @@
 pub mod node;
 pub mod nodes;
 pub mod rows;
+pub mod segment;

@@ -1,15 +1,14 @@
-//! What the slab keeps of a node: how many items it has, and the numbers of its children.
-ghost use Rattle.std.specs.Prelude.{◌≡◌, ◌+◌, ◌<◌, ◌≤◌, [], ◌++◌, length, take, drop, slice_get, insert, remove};
+//! What the slab keeps of a node: the numbers of its children.
+ghost use Rattle.std.specs.Prelude.{◌≡◌, ◌+◌, ◌≤◌, [], ◌++◌, length, take, drop, slice_get, insert, remove};
 ghost use Rattle.range_nodes.specs.Heap.{with_child};
-ghost use Rattle.range_nodes.specs.Spares.{FitsCount};
+ghost use Rattle.range_nodes.specs.Spares.{FitsFull, FitsPlace};
 
-use crate::nodes::{CAPACITY, CHILD_PLACES, HALF};
+use crate::nodes::{CHILD_PLACES, HALF};
 use arrayvec::ArrayVec;
 
-/// How many items there are, and the children between which they stand; a leaf has no child.
+/// The children between which the items stand; a leaf has none.
 #[derive(Drop)]
 pub struct Node {
-    pub len: usize,
     pub children: ArrayVec<usize, CHILD_PLACES>,
 }
 
@@ -54,84 +53,59 @@ fn divide_children(
 }
 
 impl Node {
-    /// A node with no item and no child.
+    /// A node with no child.
     pub fn new() -> Self
-        ensures len { result.len ≡ 0 }
-        ensures children { result.children.items ≡ [] }
+        ensures { result.children.items ≡ [] }
     {
         Node {
-            len: 0,
             children: ArrayVec::new(),
         }
     }
 
-    /// Counts one more item, with a child, if there is one, before the one at `place`, and returns
-    /// how many there were.
-    pub fn add(&mut self, place: usize, child: Option<usize>) -> usize
-        requires room { self.old.len < CAPACITY }
-        requires near { place ≤ self.old.len + 1 }
-        requires child { FitsCount child self.old.len self.old.children.items }
-        ensures before { result ≡ self.old.len }
-        ensures len { self.new.len ≡ self.old.len + 1 }
-        ensures children { self.new.children.items
-            ≡ with_child self.old.children.items place child }
+    /// Puts a child, if there is one, before the one at `place`.
+    pub fn add(&mut self, place: usize, child: Option<usize>)
+        requires { FitsPlace child place self.old.children.items }
+        ensures { self.new.children.items ≡ with_child self.old.children.items place child }
     {
-        let len = self.len;
         if let Some(child) = child {
             self.children.insert(place, child);
         }
-        self.len = len + 1;
-        len
     }
 
-    /// Counts one item less, and takes the child at `place`, if there is one.
+    /// Takes the child at `place`, if there is one.
     pub fn take(&mut self, place: usize) -> Option<usize>
-        requires { 0 < self.old.len }
         ensures child { result ≡ slice_get self.old.children.items place }
-        ensures len { self.new.len + 1 ≡ self.old.len }
         ensures children { self.new.children.items ≡ remove self.old.children.items place }
     {
-        self.len -= 1;
         self.children.pop_at(place)
     }
 
-    /// Counts one item more in a full node, with a child, if there is one, at `place`, and returns
-    /// the second half.
+    /// Puts a child, if there is one, before the one at `place` of a full node, and returns the second
+    /// half.
     pub fn divide(&mut self, place: usize, child: Option<usize>) -> Node
         requires near { place ≤ CHILD_PLACES }
-        requires child { FitsCount child CAPACITY self.old.children.items }
-        ensures left_len { self.new.len ≡ HALF }
-        ensures right_len { result.len + HALF ≡ CAPACITY }
+        requires child { FitsFull child self.old.children.items }
         ensures left { self.new.children.items
             ≡ take (HALF + 1) (with_child self.old.children.items place child) }
         ensures right { result.children.items
             ≡ drop (HALF + 1) (with_child self.old.children.items place child) }
     {
-        self.len = HALF;
         let mut upper = Node::new();
-        upper.len = CAPACITY - HALF;
         if let Some(child) = child {
             upper.children = divide_children(&mut self.children, place, child);
         }
         upper
     }
 
-    /// Counts one item more and all that another node has, of which it takes the children, and
-    /// returns how many there were.
-    pub fn absorb(&mut self, upper: &Node) -> usize
-        requires room { self.old.len + 1 + upper.now.len ≤ CAPACITY }
-        requires places { length self.old.children.items + length upper.now.children.items
+    /// Puts the children of another node behind those of this one.
+    pub fn absorb(&mut self, upper: &Node)
+        requires { length self.old.children.items + length upper.now.children.items
             ≤ CHILD_PLACES }
-        ensures before { result ≡ self.old.len }
-        ensures len { self.new.len ≡ self.old.len + 1 + upper.now.len }
-        ensures children { self.new.children.items
+        ensures { self.new.children.items
             ≡ self.old.children.items ++ upper.now.children.items }
     {
-        let len = self.len;
-        self.len = len + 1 + upper.len;
         self.children
             .try_extend_from_slice(upper.children.as_slice())
             .unwrap();
-        len
     }
 }

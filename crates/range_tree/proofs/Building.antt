@@ -11,7 +11,7 @@ use Rattle.range_tree.specs.Nodes.{weave, items_below, used, Shaped, Moves, IsTr
 use Rattle.range_tree.specs.Building.{IsBuilt}
 use Rattle.range_tree.specs.Contents.{IsContent}
 use Rattle.range_tree.specs.Frame.{AgreeAt, AgreeAt-right, SameChildren, same_children}
-use Rattle.range_nodes.specs.Occurrences.{occurrences-append, occurrences-cons, occurrences-nil}
+use Rattle.range_nodes.proofs.Occurrences.{occurrences-append, occurrences-cons, occurrences-nil}
 use Rattle.range_tree.specs.Weave.{weave_cut}
 use Rattle.range_tree.proofs.Below.{Shaped-from_but, child_count_inner, items_below_leaf, used_is, used_leaf, weave_items_below}
 use Rattle.range_tree.proofs.Contents.{Holds, held_items_below, held_used, held_shape, written_holds, held_new}

@@ -9,7 +9,8 @@ use Rattle.range_nodes.specs.declared.nodes.Split.{Split}
 use Rattle.range_nodes.specs.declared.nodes.TheConstants.{CAPACITY, MIN_LEN}
 use Rattle.range_tree.specs.Nodes.{weave, items_below, used, Shaped, ShapedBut, here, Moves, Owned, tops, separators}
 use Rattle.range_tree.specs.Contents.{IsContent, Settles}
-use Rattle.range_nodes.specs.Occurrences.{occurrences, occurrences-append, occurrences-cons}
+use Rattle.range_nodes.specs.Occurrences.{occurrences}
+use Rattle.range_nodes.proofs.Occurrences.{occurrences-append, occurrences-cons}
 use Rattle.range_tree.specs.Frame.{AgreeAt, AgreeAt-left, AgreeAt-right, SameChildren, same_children}
 use Rattle.range_tree.proofs.Below.{weave_items_below, used_is}
 use Rattle.range_tree.proofs.Moves.{here_le, occurrences_self, SameNodes, Moves-like, Moves-then, Writes-moves, Stores-moves}

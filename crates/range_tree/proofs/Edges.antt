@@ -11,7 +11,7 @@ use Rattle.range_tree.specs.Edges.{turn, inside, IsEdge, offset}
 use Rattle.range_tree.specs.Frame.{AgreeAt, AgreeAt-right, agree_kid, same_children}
 use Rattle.range_tree.proofs.Below.{items_below_at, items_below_leaf}
 use Rattle.range_tree.proofs.Rank.{kid_shaped}
-use Rattle.range_nodes.specs.Occurrences.{occurrences_here}
+use Rattle.range_nodes.proofs.Occurrences.{occurrences_here}
 
 -- the digits of a path are no more than the levels
 path_fits : {T : Type 0} (s : Heap T) (d n : ℕ) (g : Edge) → IsEdge s d n g → g.path < PATH_BASE ^ d

@@ -11,7 +11,8 @@ use Rattle.range_tree.specs.declared.btree.path.Edge.{Edge}
 use Rattle.range_tree.specs.Nodes.{weave, items_below, used, Shaped}
 use Rattle.range_tree.specs.Edges.{turn, inside, seat_of, IsEdge, offset, IsSeat, seat_offset}
 use Rattle.range_tree.specs.Contents.{IsContent}
-use Rattle.range_nodes.specs.Occurrences.{occurrences, occurrences-append, occurrences-cons, occurrences_itself}
+use Rattle.range_nodes.specs.Occurrences.{occurrences}
+use Rattle.range_nodes.proofs.Occurrences.{occurrences-append, occurrences-cons, occurrences_itself}
 use Rattle.range_tree.specs.Weave.{weave_cut}
 use Rattle.range_tree.specs.Frame.{AgreeAt}
 use Rattle.range_tree.proofs.Below.{weave_items_below, used_is, items_below_leaf, Shaped-from_but}

@@ -3,7 +3,8 @@ use Rattle.std.proofs.Common.{◌≡◌, ◌≢◌, ℕ, ◌+◌, ◌≤◌, Lis
 use Rattle.std.proofs.lemmas.List.{length-append}
 use Rattle.range_nodes.specs.Heap.{Heap, Writes, Stores, Removes}
 use Rattle.range_tree.specs.Nodes.{here, Moves}
-use Rattle.range_nodes.specs.Occurrences.{occurrences, occurrences-append, occurrences-cons, occurrences_itself, occurrences_other}
+use Rattle.range_nodes.specs.Occurrences.{occurrences}
+use Rattle.range_nodes.proofs.Occurrences.{occurrences-append, occurrences-cons, occurrences_itself, occurrences_other}
 use Rattle.range_tree.specs.Frame.{AgreeAt}
 
 pub here_le : {T : Type 0} (s : Heap T) (k : ℕ) → here s k ≤ 1

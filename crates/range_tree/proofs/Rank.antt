@@ -4,7 +4,7 @@ use Rattle.range_nodes.specs.Heap.{Heap, node_count, node_items, node_child}
 use Rattle.range_nodes.specs.declared.nodes.TheConstants.{CAPACITY, MIN_LEN}
 use Rattle.range_tree.specs.Nodes.{items_below, used, ShapedBut, IsTree}
 use Rattle.range_tree.proofs.Below.{Shaped-but}
-use Rattle.range_nodes.specs.Occurrences.{occurrences-nil}
+use Rattle.range_nodes.proofs.Occurrences.{occurrences-nil}
 
 pub items_below_none : {T : Type 0} (s : Heap T) (n : ℕ) → items_below s zero n ≡ []
 unfolding items_below

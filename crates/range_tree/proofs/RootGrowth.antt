@@ -8,7 +8,8 @@ use Rattle.range_nodes.specs.declared.nodes.TheConstants.{MAX_LEN, MIN_LEN}
 use Rattle.range_tree.specs.declared.btree.path.Edge.{Edge}
 use Rattle.range_tree.specs.Nodes.{items_below, used, IsTree, IsRoomy, here, Replaces}
 use Rattle.range_tree.specs.Edges.{turn, inside, IsEdge, offset, IsSeat, seat_offset}
-use Rattle.range_nodes.specs.Occurrences.{occurrences, occurrences-cons, occurrences-nil, occurrences_itself, occurrences_other}
+use Rattle.range_nodes.specs.Occurrences.{occurrences}
+use Rattle.range_nodes.proofs.Occurrences.{occurrences-cons, occurrences-nil, occurrences_itself, occurrences_other}
 use Rattle.range_tree.proofs.Below.{items_below_leaf, used_leaf, Shaped-from_but}
 use Rattle.range_tree.proofs.Contents.{Holds, held_items_below, held_used, held_shape, held_new}
 use Rattle.range_tree.specs.Depth.{HasLevels}

@@ -2,7 +2,8 @@
 use Rattle.std.proofs.Common.{◌≡◌, ◌≢◌, ℕ, zero, suc, ◌+◌, ◌-◌, ◌<◌, ◌≤◌, List, [], ◌∷◌, length, get_or, refl, ap, arith}
 use Rattle.std.proofs.lemmas.List.{append-nil, nil_from_length}
 use Rattle.range_nodes.specs.Heap.{Heap, Removes, node_items, node_children, node_child}
-use Rattle.range_nodes.specs.Occurrences.{occurrences, occurrences-cons, occurrences-nil, occurrences_itself, occurrences_other}
+use Rattle.range_nodes.specs.Occurrences.{occurrences}
+use Rattle.range_nodes.proofs.Occurrences.{occurrences-cons, occurrences-nil, occurrences_itself, occurrences_other}
 use Rattle.range_tree.specs.Nodes.{items_below, used, here, Shaped, IsTree, IsLooseTree, Shrinks}
 use Rattle.range_tree.proofs.Below.{weave_items_below, used_is, used_leaf, items_below_leaf, Shaped-but}
 use Rattle.range_tree.specs.Frame.{AgreeAt, same_below, SameBelow}

@@ -12,7 +12,7 @@ use Rattle.range_tree.specs.Nodes.{before, items_below, Shrinks, IsLevelled, chi
 use Rattle.range_tree.specs.Edges.{turn, inside, seat_of, IsEdge, offset, IsSeat, seat_offset}
 use Rattle.range_tree.specs.Written.{item_behind, some_of}
 use Rattle.range_tree.specs.Frame.{used_kid_le}
-use Rattle.range_nodes.specs.Occurrences.{occurrences-cons, occurrences_here, occurrences_itself}
+use Rattle.range_nodes.proofs.Occurrences.{occurrences-cons, occurrences_here, occurrences_itself}
 use Rattle.range_tree.proofs.Below.{used_is}
 use Rattle.range_tree.proofs.Moves.{here_le}
 use Rattle.range_tree.proofs.Pairs.{pair_seat, seat_low}

@@ -4,7 +4,8 @@ use Rattle.std.specs.List.{All, flat_map}
 use Rattle.std.proofs.lemmas.List.Elements.{All-nil, All-cons, All-head, All-tail}
 use Rattle.range_nodes.specs.Heap.{Heap, node_of, node_children}
 use Rattle.range_tree.specs.Nodes.{items_below, used, Shaped, IsNode}
-use Rattle.range_nodes.specs.Occurrences.{occurrences, occurrences-append, occurrences_here}
+use Rattle.range_nodes.specs.Occurrences.{occurrences}
+use Rattle.range_nodes.proofs.Occurrences.{occurrences-append, occurrences_here}
 
 -- the slabs agree at each of these nodes
 abbrev pub AgreeAt : {T : Type 0} → Heap T → Heap T → List ℕ → Type 0

@@ -9,7 +9,8 @@ use Rattle.std.proofs.lemmas.List.Concat.{flat_map-append}
 use mathlib.Core.Path.{fun_ext}
 use Rattle.range_store.proofs.Edits.{set_parts}
 use Rattle.range_nodes.specs.Heap.{Heap, node_of, node_count, Writes, node_items, node_children, node_child}
-use Rattle.range_nodes.specs.Occurrences.{occurrences, occurrences-append, occurrences-cons, occurrences_itself, occurrences_here}
+use Rattle.range_nodes.specs.Occurrences.{occurrences}
+use Rattle.range_nodes.proofs.Occurrences.{occurrences-append, occurrences-cons, occurrences_itself, occurrences_here}
 use Rattle.range_tree.specs.declared.btree.path.Edge.{Edge}
 use Rattle.range_tree.specs.declared.btree.path.Home.{Home}
 use Rattle.range_nodes.specs.declared.nodes.TheConstants.{CAPACITY, MIN_LEN}

@@ -25,14 +25,11 @@ pub index_mut-requires-2 : goal.index_mut-requires-2
 index_mut-requires-2 g c =
     grind (arith, get_or-set_other, found)
 
-pub absorb-len-requires-clause-room : goal.absorb-len-requires-clause-room
-absorb-len-requires-clause-room g c = grind (arith, left_seen, seen, right_at)
+pub absorb-requires : goal.absorb-requires
+absorb-requires g c = grind (arith, left_seen, seen, right_at)
 
-pub absorb-len-requires-clause-places : goal.absorb-len-requires-clause-places
-absorb-len-requires-clause-places g c = grind (arith, left_seen, seen, right_at)
-
-pub absorb-requires-clause-room : goal.absorb-requires-clause-room
-absorb-requires-clause-room g c = grind (arith, left_seen, seen, right_at)
+pub absorb-requires-2-clause-room : goal.absorb-requires-2-clause-room
+absorb-requires-2-clause-room g c = grind (arith, left_seen, seen, right_at)
 
 pub push_front_reserved-requires : goal.push_front_reserved-requires
 push_front_reserved-requires g c =
@@ -41,22 +38,18 @@ push_front_reserved-requires g c =
 pub invariant_of-self : goal.invariant_of-self
 invariant_of-self g c =
     let a = (goal.at.invariant_of-self g c).After-index_mut-2 in
-    let none_len = rw (← c.replace-upper.ensures.after) at c.new.ensures.len in
-    let none_children = rw (← c.replace-upper.ensures.after) at c.new.ensures.children in
+    let none_children = rw (← c.replace-upper.ensures.after) at c.new.ensures in
     let now = absorbs c.self.invariant.0 c.args.left c.args.right c.requires.apart (left_at g a)
     (right_at g a)
     (rw (← c.self.view_is) at c.requires.left) (rw (← c.self.view_is) at c.requires.right)
-    c.replace-upper.new.dest none_len none_children c.absorb-len.new.self
-    c.args.middle c.absorb-len.ensures.len c.absorb-len.ensures.children in grind arith
+    c.replace-upper.new.dest none_children c.absorb.new.self c.args.middle c.absorb.ensures in grind arith
 
 pub returns : goal.returns
 returns g c =
     let a = (goal.at.returns g c).After-index_mut-2 in
-    let none_len = rw (← c.replace-upper.ensures.after) at c.new.ensures.len in
-    let none_children = rw (← c.replace-upper.ensures.after) at c.new.ensures.children in
+    let none_children = rw (← c.replace-upper.ensures.after) at c.new.ensures in
     let now = absorbs c.self.invariant.0 c.args.left c.args.right c.requires.apart (left_at g a)
     (right_at g a)
     (rw (← c.self.view_is) at c.requires.left) (rw (← c.self.view_is) at c.requires.right)
-    c.replace-upper.new.dest none_len none_children c.absorb-len.new.self
-    c.args.middle c.absorb-len.ensures.len c.absorb-len.ensures.children in
-    rw (← c.self.view_is, c.push_front_reserved.ensures.items, c.absorb.ensures) now.nodes
+    c.replace-upper.new.dest none_children c.absorb.new.self c.args.middle c.absorb.ensures in
+    rw (← c.self.view_is, c.push_front_reserved.ensures.items, c.absorb-2.ensures) now.nodes

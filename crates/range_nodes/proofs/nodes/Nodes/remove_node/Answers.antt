@@ -14,11 +14,11 @@ pub invariant_of-self : goal.invariant_of-self
 invariant_of-self g c =
     let freed = freed c.self.invariant.0 c.args.number c.index_mut.ensures.value
     (rw (← c.self.view_is) at c.requires.present) (rw (← c.self.view_is) at c.requires.empty)
-    c.new.result c.new.ensures.len c.new.ensures.children in grind (arith, set-get_or, freed)
+    c.new.result c.new.ensures in grind (arith, set-get_or, freed)
 
 pub returns : goal.returns
 returns g c =
     let freed = freed c.self.invariant.0 c.args.number c.index_mut.ensures.value
     (rw (← c.self.view_is) at c.requires.present) (rw (← c.self.view_is) at c.requires.empty)
-    c.new.result c.new.ensures.len c.new.ensures.children in
+    c.new.result c.new.ensures in
     grind (arith, set-get_or, freed)

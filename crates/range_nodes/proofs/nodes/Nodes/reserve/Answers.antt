@@ -1,7 +1,7 @@
 use Rattle.std.proofs.Common.{[], refl, ap, arith}
 use Rattle.slab.specs.Slab.{slab_len}
 use Rattle.range_nodes.specs.Heap.{HasRoomFor}
-use Rattle.range_nodes.proofs.Spares.{Changes, added, counted, roomier, spares_left, vacant_row}
+use Rattle.range_nodes.proofs.Spares.{Changes, added, counted, roomier, spares_left}
 use Rattle.range_nodes.proofs.nodes.Nodes.reserve.Goals as goal
 use Rattle.range_nodes.proofs.nodes.Nodes.reserve.Given.{Over}
 use Rattle.range_nodes.proofs.nodes.Nodes.reserve.Goals.{After-loop, Else-missing-eq0}
@@ -48,13 +48,16 @@ pub loop-preserved : goal.loop-preserved
 loop-preserved g c =
     let was = c.loop.invariant in
     let slab = c.loop.self-inside.slab in
-    let rows = c.loop.self-inside.rows in
+    let rows = c.reserve-in-loop.new.self in
     let number = c.insert_reserved-number.result in
     let inserted = c.insert_reserved-number.ensures in
+    let grown = roomier {slab = slab} {larger = slab} refl rows was.whole c.reserve-in-loop.ensures.no_less
+    c.reserve-in-loop.ensures.kept in
     let changes : Changes slab c.insert_reserved-number.new.self rows rows number c.new.result [] =
-    grind (arith, vacant_row) in
+    let bare = grown.0.bare number inserted.was_vacant in
+    grind arith in
     let next =
-    added was.whole changes inserted.was_vacant inserted.len refl c.new.ensures.children in
+    added grown.0 changes inserted.was_vacant inserted.len refl c.new.ensures in
     grind arith
 
 pub returns-clause-room : goal.returns-clause-room

@@ -1,18 +1,11 @@
-use Rattle.std.proofs.Common.{◌≡◌, ◌+◌, length, length-drop, take, drop, arith, sym, ◌∙◌}
+use Rattle.std.proofs.Common.{◌+◌, take, drop, arith}
 use Rattle.std.specs.List.{insert}
-use Rattle.std.proofs.lemmas.List.{length-take-le}
-use Rattle.std.proofs.lemmas.List.Edits.{length-insert}
 use Rattle.range_nodes.specs.Heap.{Writes, with_child}
 use Rattle.range_nodes.specs.Rows.{row_of}
-use Rattle.range_nodes.proofs.Spares.{Leaves, apart_from_spare, bare_row, edited, filled, fits_count, found, items_seen, seen, spare_found, spares_left}
+use Rattle.range_nodes.proofs.Spares.{Leaves, apart_from_spare, bare_row, edited, filled, fits_full, found, items_seen, seen, spare_found, spares_left}
 use Rattle.range_nodes.proofs.nodes.Nodes.split.Given.{Over}
 use Rattle.range_nodes.proofs.nodes.Nodes.split.Goals as goal
 use Rattle.range_nodes.proofs.nodes.Nodes.split.Goals.{After-divide-upper}
-
-long : (g : Over) (c : After-divide-upper g)
-    → length (insert (row_of c.self.inside.rows c.args.number) c.args.index c.args.item) ≡ 12
-long g c =
-    grind (arith, items_seen, length-insert)
 
 first_half : (g : Over) (c : After-divide-upper g) → Leaves c.self.inside.slab c.self.inside.rows
     c.self.inside.spares.items c.args.number c.divide-upper.new.self
@@ -24,7 +17,6 @@ first_half g c =
     let all = insert (row_of c.self.inside.rows c.args.number) c.args.index c.args.item in
     edited c.self.invariant.0 c.args.number c.index_mut.ensures.value c.divide-upper.new.self
     (take 6 all)
-    (c.divide-upper.ensures.left_len ∙ sym (length-take-le 6 all (omega (arith, long g c))))
     c.divide-upper.ensures.left (rw (← c.self.view_is) at c.requires.present)
 
 pub next_spare-right-requires : goal.next_spare-right-requires
@@ -36,7 +28,7 @@ index_mut-requires g c = grind (arith, found)
 
 pub divide-upper-requires-clause-child : goal.divide-upper-requires-clause-child
 divide-upper-requires-clause-child g c =
-    grind (arith, seen, fits_count)
+    grind (arith, seen, fits_full)
 
 pub index_mut-requires-2 : goal.index_mut-requires-2
 index_mut-requires-2 g c =
@@ -63,7 +55,6 @@ invariant_of-self g c =
     let first = first_half g a in
     let second = filled first.whole c.next_spare-right.result c.index_mut-2.ensures.value
     c.divide-upper.result (drop 7 all)
-    (omega (arith, c.divide-upper.ensures.right_len, length-drop 7 all, long g a))
     c.divide-upper.ensures.right c.next_spare-right.ensures.items in grind arith
 
 pub returns : goal.returns
@@ -75,7 +66,6 @@ returns g c =
     let first = first_half g a in
     let second = filled first.whole c.next_spare-right.result c.index_mut-2.ensures.value
     c.divide-upper.result (drop 7 all)
-    (omega (arith, c.divide-upper.ensures.right_len, length-drop 7 all, long g a))
     c.divide-upper.ensures.right c.next_spare-right.ensures.items in
     rw (← c.self.view_is, c.divide-middle.ensures.rows) (rw (seen.items, seen.children) (record {
       middle_is = c.divide-middle.ensures.middle;

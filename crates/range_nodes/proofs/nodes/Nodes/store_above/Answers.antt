@@ -1,7 +1,7 @@
 use Rattle.std.proofs.Common.{[], ◌∷◌, ◌++◌, length, arith, ap, ◌∙◌}
 use Rattle.std.proofs.lemmas.List.{set-get_or}
 use Rattle.range_nodes.specs.Rows.{row_of}
-use Rattle.range_nodes.proofs.Spares.{bare_children, bare_row, filled, row_len, spare_found, spares_left}
+use Rattle.range_nodes.proofs.Spares.{bare_children, bare_row, filled, spare_found, spares_left}
 use Rattle.range_nodes.proofs.nodes.Nodes.store_above.Goals as goal
 
 pub next_spare-number-requires : goal.next_spare-number-requires
@@ -25,7 +25,7 @@ invariant_of-self g c =
     let parts = c.next_spare-number.ensures.items in
     let filled = filled c.self.invariant.0 number at (record c.index_mut.result.now
     { children = c.push.new.self })
-    (row_of s.rows number) (row_len c.self.invariant.0 number at) (c.push.ensures.items
+    (row_of s.rows number) (c.push.ensures.items
     ∙ ap (λ ks. ks ++ c.args.child ∷ []) (bare_children c.self.invariant.0 parts at)) parts in (
       rw (set-get_or s.rows number []) at filled.whole,
       omega (arith, c.self.invariant.1, c.next_spare-number.ensures.capacity, filled.len),
@@ -39,7 +39,7 @@ returns g c =
     let parts = c.next_spare-number.ensures.items in
     let filled = filled c.self.invariant.0 number at (record c.index_mut.result.now
     { children = c.push.new.self })
-    (row_of s.rows number) (row_len c.self.invariant.0 number at) (c.push.ensures.items
+    (row_of s.rows number) (c.push.ensures.items
     ∙ ap (λ ks. ks ++ c.args.child ∷ []) (bare_children c.self.invariant.0 parts at)) parts in
     rw (← c.self.view_is)
     (rw (set-get_or s.rows number [], bare_row c.self.invariant.0 parts) at filled.nodes)

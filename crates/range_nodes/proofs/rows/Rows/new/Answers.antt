@@ -1,5 +1,6 @@
-use Rattle.range_nodes.proofs.RowItems.{rows_none}
+use Rattle.std.proofs.Common.{arith}
+use Rattle.range_nodes.proofs.RowItems.{joined_none}
 use Rattle.range_nodes.proofs.rows.Rows.new.Goals as goal
 
 pub returns : goal.returns
-returns g c = rows_none _
+returns g c = grind (arith, joined_none)

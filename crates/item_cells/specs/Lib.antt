@@ -1,0 +1,4 @@
+pub mod Blocks
+pub mod Cells
+pub mod Lends
+pub mod Permits
