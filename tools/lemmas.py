@@ -35,7 +35,7 @@ class File:
                 self.whole.add(file)
         text = USE.sub("", text)
         self.loose = " ".join(MODULE.findall(text))
-        text, inside, name = re.sub(r"^ *(pub )?(use|mod) .*$", "", text, flags=re.M), -1, ""
+        text, inside, name = re.sub(r"^ *(pub )?(use|mod|open) .*$", "", text, flags=re.M), -1, ""
         for block in filter(str.strip, re.split(r"\n\s*\n", MODULE.sub("", text))):
             block = block.strip("\n")
             indent, head = len(block) - len(block.lstrip()), HEAD.match(block)
@@ -92,12 +92,13 @@ def cited(files, key, text):
 
 
 def is_root(key, block):
-    """Returns whether a block is needed for its own sake: code, the proof of a function, a public definition."""
+    """Returns whether a block is needed for its own sake: code, the proof of a function or of a law, a public definition."""
     _, path = key
     if path.startswith("src/"):
         return True
     if path.startswith("proofs/"):
-        return pathlib.PurePath(path).name in ("Answers", "Invariants", "Proof")
+        file = pathlib.PurePath(path)
+        return file.name in ("Answers", "Invariants", "Proof") or file.parent.name == "TheSendSync"
     return bool(re.match(r" *(pub |unfoldable )*(abbrev|record|data|unfoldable)\b.*", block.strip("\n")))
 
 

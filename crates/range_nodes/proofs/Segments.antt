@@ -13,30 +13,6 @@ use Rattle.range_nodes.specs.Segments.{row_cell, items_in, rows_in, IsLaid, IsSe
 use Rattle.range_nodes.specs.declared.segment.TheConstants.{ROWS}
 use Rattle.range_nodes.proofs.RowCells.{cell_some, cell_past, items_laid, inserted_at, inserted_below, inserted_above, removed_below, removed_above, same_items, set_at, set_beside}
 
--- the row of a cell, and its index there
-pub record Spot (many k : ℕ) : Type 0 where
-  pub row : ℕ
-  pub index : ℕ
-  pub is : CAPACITY * row + index ≡ k
-  pub below : index < CAPACITY
-  pub there : row < many
-
-pub spot : (many k : ℕ) → k < CAPACITY * many → Spot many k
-spot zero k within = absurd (omega (arith, within))
-spot (suc many) k within =
-    elim (cases_lt k CAPACITY) [
-      | inl less ↦ record { row = 0; index = k; is = omega arith; below = less; there = omega arith }
-      | inr past ↦
-          let rest = spot many (k - CAPACITY) (omega (arith, within, past)) in
-          record {
-            row = suc rest.row;
-            index = rest.index;
-            is = omega (arith, rest.is, past);
-            below = rest.below;
-            there = omega (arith, rest.there);
-          }
-    ]
-
 -- equal elements, read with the same default
 all_alike : {A : Type 0} (many : ℕ) (x : A) (i : ℕ) → get_or (replicate many x) i x ≡ x
 all_alike many x i =
