@@ -9,12 +9,12 @@ ghost use Rattle.range_merge.specs.AskedPieces.{IsFirstAskable, AreAsked, MayAns
 ghost use Rattle.range_merge.specs.Combining.{MayAnswerBoth, MayBeAskedBoth, MayBeAskedOfBoth, IsAnsweredByBoth};
 ghost use Rattle.range_merge.specs.Merged.{IsPlaced, IsPlacedIn, part_item};
 
+use crate::comparing::compare_starts;
 use crate::merged::{
-    Part, Piece, Rests, compare_bounds, first_alone, first_of_both, second_alone, whole_other,
+    Part, Piece, Rests, first_alone, first_of_both, second_alone, whole_other,
     whole_part,
 };
 use range_algebra::any::AnyRange;
-use range_keys::bound::Directed;
 use range_keys::traits::PartialEnum;
 use range_runs::answers::put;
 use range_runs::error::UpdateError;
@@ -133,7 +133,7 @@ fn ask_two<
         (Some (part_item part.entry)) (Some (part_item other.entry)) answers.old.items
         (Ok (Some answer)) }
 {
-    match compare_bounds(Directed::Start(part.start), Directed::Start(other.start)) {
+    match compare_starts(part.start, other.start) {
         Ordering::Less => ask_pieces(answers, first_alone(part, other), f),
         Ordering::Equal => ask_pieces(answers, first_of_both(part, other), f),
         Ordering::Greater => ask_pieces(answers, second_alone(part, other), f),

@@ -7,7 +7,10 @@
 //!   `src/{merged,asking}.rt`, `specs/{Merged,Combining,AskedPieces}.antt`,
 //!   `proofs/{FirstPieces,Combining,Combination,AskedPieces}.antt`; that they are widest, and all:
 //!   `proofs/WidestPieces.antt`
+//! - how bounds compare, by their keys where that tells: `src/comparing.rt`,
+//!   `proofs/ExcludedEnds.antt`
 #![tactic(auto)]
 
 pub mod asking;
+pub mod comparing;
 pub mod merged;

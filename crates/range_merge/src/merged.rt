@@ -1,7 +1,6 @@
 //! Two lists of ranges as one list of pieces, on each of which both are constant.
 ghost use Rattle.std.specs.Prelude.{◌≡◌, Option, Some, None};
 ghost use Rattle.std.specs.declared.cmp.Ordering.TheVariants.{Equal};
-ghost use Rattle.range_keys.specs.Directed.{reference_position};
 ghost use Rattle.range_keys.specs.Position.{bound_of, position_cmp, end_position};
 ghost use Rattle.range_algebra.specs.Cuts.{lower, past};
 ghost use Rattle.range_algebra.specs.Intervals.{Lt};
@@ -11,8 +10,8 @@ ghost use Rattle.range_algebra.specs.declared.any.AnyRange.{AnyRange};
 ghost use Rattle.range_store.specs.declared.storage.Item.{Item};
 ghost use Rattle.range_merge.specs.Merged.{IsPlaced, IsPartPast, IsFirstPieceOf, part_item};
 
+use crate::comparing::{compare_ends, starts_past};
 use range_algebra::any::AnyRange;
-use range_keys::bound::Directed;
 use range_keys::traits::PartialEnum;
 use range_runs::bounds::flip;
 use range_store::storage::Item;
@@ -52,22 +51,6 @@ pub fn keys_of<'a, K: PartialEnum, V>(part: Part<'a, K, V>) -> AnyRange<&'a K>
     AnyRange::new(part.start, part.range.end_bound())
 }
 
-/// How the positions of two bounds compare, at once where both bounds are keys of their ranges.
-#[inline(always)]
-pub fn compare_bounds<K: PartialEnum>(
-    bound: Directed<Bound<&K>>,
-    other: Directed<Bound<&K>>,
-) -> Ordering
-    ensures { result
-        ≡ position_cmp K.order.cmp (reference_position K.order bound.entry)
-        (reference_position K.order other.entry) }
-{
-    match (bound.unwrap(), other.unwrap()) {
-        (Bound::Included(key), Bound::Included(other_key)) => key.cmp(other_key),
-        _ => bound.cmp(&other),
-    }
-}
-
 /// The first piece of two parts of which the first starts before the second.
 #[inline(always)]
 pub fn first_alone<'a, K: PartialEnum, V, W>(
@@ -82,8 +65,7 @@ pub fn first_alone<'a, K: PartialEnum, V, W>(
         result }
 {
     let last = part.range.end_bound();
-    let starts_past = compare_bounds(Directed::Start(later.start), Directed::End(last)).is_gt();
-    let cut = if starts_past {
+    let cut = if starts_past(later.start, last) {
         (last, None)
     } else {
         match flip(later.start) {
@@ -138,7 +120,7 @@ pub fn first_of_both<'a, K: PartialEnum, V, W>(
 {
     let end = part.range.end_bound();
     let other_end = other.range.end_bound();
-    let cut = match compare_bounds(Directed::End(end), Directed::End(other_end)) {
+    let cut = match compare_ends(end, other_end) {
         Ordering::Less => (end, None, Some(part_past(&other, end))),
         Ordering::Equal => (end, None, None),
         Ordering::Greater => (other_end, Some(part_past(&part, other_end)), None),

@@ -1,6 +1,5 @@
 use Rattle.std.proofs.Common.{◌∙◌, ap, sym}
 use Rattle.std.specs.Option.{option_map}
-use Rattle.std.specs.Ordering.{is_gt}
 use Rattle.range_keys.specs.Position.{bound_of}
 use Rattle.range_merge.specs.Merged.{part_item}
 use Rattle.range_merge.proofs.FirstPieces.{later_has_end, whole_first, cut_first}
@@ -19,7 +18,7 @@ returns g c =
     let part = part_item c.args.part in
     let later = part_item c.args.later in
     let last = c.end_bound-last.ensures tt in
-    let past = sym (c.is_gt-starts_past.ensures ∙ ap is_gt c.compare_bounds.ensures) in
+    let past = sym c.starts_past.ensures in
     elim c.if-starts_past.branch [
       | then-starts_past w ↦
           rw (c.new.ensures.start, c.new.ensures.end, w.cut-is, last)

@@ -11,7 +11,7 @@ returns g c =
     let other = part_item c.args.other in
     let end = c.end_bound-end.ensures tt in
     let other_end = c.end_bound-other_end.ensures tt in
-    elim c.match-compare_bounds.branch [
+    elim c.match-compare_ends.branch [
       | in-Less w ↦
           rw (c.new.ensures.start, c.new.ensures.end, w.cut-is, end)
           (first_ends lawful part other c.requires.part c.requires.other c.requires.alike
@@ -26,4 +26,4 @@ returns g c =
 
 pub part_past-requires-clause-before : goal.part_past-requires-clause-before
 part_past-requires-clause-before g c =
-    rw (← c.end_bound-other_end.ensures tt) (sym c.compare_bounds.ensures ∙ c.in-Less.is)
+    rw (← c.end_bound-other_end.ensures tt) (sym c.compare_ends.ensures ∙ c.in-Less.is)
