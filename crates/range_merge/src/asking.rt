@@ -11,8 +11,7 @@ ghost use Rattle.range_merge.specs.Merged.{IsPlaced, IsPlacedIn, part_item};
 
 use crate::comparing::compare_starts;
 use crate::merged::{
-    Part, Piece, Rests, first_alone, first_of_both, second_alone, whole_other,
-    whole_part,
+    Part, Piece, Rests, first_alone, first_of_both, second_alone, whole_other, whole_part,
 };
 use range_algebra::any::AnyRange;
 use range_keys::traits::PartialEnum;
