@@ -13,7 +13,7 @@ use Rattle.range_runs.specs.Bindings.{Binds}
 use Rattle.range_merge.specs.Combining.{AreCombined}
 use Rattle.range_runs.proofs.Overlaps.{binds_bound}
 use Rattle.range_set_extend.specs.KeySets.{HoldsKey}
-use Rattle.range_sets.specs.TwoSets.{HoldsBoth, HoldsFirstAlone, HoldsJustOne, AreKept}
+use Rattle.range_sets.specs.TwoSets.{HoldsFirstAlone, HoldsJustOne, AreKept}
 
 -- two tests that are true in one case are one
 same_test : {P : Type 0} (a b : Bool) → (IsTrue a ↔ P) → (IsTrue b ↔ P) → a ≡ b
@@ -24,11 +24,8 @@ pub decided : {P : Type 0} → P ⊎ (¬ P) → (b : Bool) × (IsTrue b ↔ P)
 decided (inl is) = (true, (λ e. is, λ h. refl))
 decided (inr other) = (false, (λ e. absurd (cc), λ h. absurd (other h)))
 
--- by truth values: of an and, an and with not, and a difference of two facts
+-- by truth values: of an and with not, and a difference of two facts
 module _ {A B N : Type 0} where
-  both_are : (a b : Bool) → (IsTrue a ↔ A) → (IsTrue b ↔ B) → (IsTrue (a && b) ↔ N) → N ↔ (A × B)
-  both_are a b f g n = grind arith
-
   first_alone_is : (a b : Bool) → (IsTrue a ↔ A) → (IsTrue b ↔ B) → (IsTrue (a && not b) ↔ N)
       → N ↔ (A × (¬ B))
   first_alone_is a b f g n = grind arith
@@ -111,9 +108,6 @@ module _ {K : Type 0} (order : KeyOrder K) where
       by_test k key then = grind (arith, decided, holds_or_not, kept_as)
 
     module _ (items others new : Items) where
-      pub kept_both : AreKept order items others new ◌&&◌ → HoldsBoth order items others new
-      kept_both kept k key = by_test ◌&&◌ refl items others new kept k key both_are
-
       pub kept_first_alone : AreKept order items others new (λ a b. a && not b)
           → HoldsFirstAlone order items others new
       kept_first_alone kept k key =

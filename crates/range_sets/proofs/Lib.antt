@@ -13,5 +13,6 @@ pub mod Matching
 pub use Rattle.range_set_extend.proofs.Membership
 pub mod Retained
 pub mod SetLaws
+pub mod Sharing
 pub mod Showing
 pub mod Uniting

@@ -75,7 +75,7 @@ bound_end : {K : Type 0} (order : KeyOrder K) (xs : List (Item (AnyRange K) (Uni
 bound_end order [] x k = grind arith
 bound_end order (y ∷ ys) x k = grind (arith, bound_end order ys x k)
 
-ranges_hold : {K : Type 0} (order : KeyOrder K) (xs : List (Item (AnyRange K) (Unit {0}))) (k : K)
+pub ranges_hold : {K : Type 0} (order : KeyOrder K) (xs : List (Item (AnyRange K) (Unit {0}))) (k : K)
     → HoldsKey order xs k ↔ SomeHolds order (item_ranges xs) k
 ranges_hold order [] k = (λ h. h, λ h. h)
 ranges_hold order (x ∷ xs) k = grind (arith, ranges_hold order xs k)
@@ -254,7 +254,7 @@ module _ {K : Type 0} {order : KeyOrder K} (lawful : IsLawful order) where
           holds = λ k key. grind (arith, bound_end order built i k, copy_holds last copy k key);
         }
 
-    are_pushed : (built new : Items order) (last : AnyRange K) → IsPlaced order last
+    pub are_pushed : (built new : Items order) (last : AnyRange K) → IsPlaced order last
         → StandBefore built last → IsPushed order is_clone built new last
         → ArePushed built new last
     are_pushed built new last placed stand pushed =

@@ -6,5 +6,6 @@ pub mod Reads
 pub mod SetLaws
 pub mod SetOrder
 pub mod SetTexts
+pub mod Sharing
 pub mod TwoSets
 pub mod Uniting

@@ -6,6 +6,7 @@ ghost use Rattle.range_set_extend.specs.KeySets.{IsCanonicalSet};
 ghost use Rattle.range_sets.specs.TwoSets.{HoldsEither, HoldsBoth, HoldsFirstAlone, HoldsJustOne, AreKept};
 
 use super::RangeSet;
+use crate::set::shared::share;
 use crate::set::union::unite;
 use range_algebra::any::AnyRange;
 use range_keys::traits::PartialEnum;
@@ -20,17 +21,6 @@ trait Test {
 
     fn says(in_first: bool, in_second: bool) -> bool
         ensures { result ≡ truth in_first in_second };
-}
-
-/// Whether both have it.
-pub(crate) struct Both;
-
-impl Test for Both {
-    ghost truth = { ◌&&◌ };
-
-    fn says(in_first: bool, in_second: bool) -> bool {
-        in_first && in_second
-    }
 }
 
 /// Whether the first has it, and the second does not.
@@ -140,7 +130,12 @@ impl<T: PartialEnum + Clone, C: Storage<Item<AnyRange<T>, ()>>> RangeSet<T, C> {
             (λ new. HoldsBoth T.order (C.items self.now) (D.items other.now) (C.items new)) }
         ensures canonical { IfOk result (λ new. IsCanonicalSet T.order (C.items new)) }
     {
-        self.kept::<Both, D>(other)
+        let mut ranges = Vec::new(self.alloc);
+        share(&mut ranges, self, other)?;
+        Ok(RangeSet {
+            map: map_of(self.alloc, ranges)?,
+            alloc: self.alloc,
+        })
     }
 
     /// A set of the keys of this set that are not in the other, whatever containers they are kept

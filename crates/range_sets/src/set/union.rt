@@ -1,9 +1,7 @@
 //! The ranges of two sets as one list, in one pass over both.
 ghost use Rattle.std.specs.Prelude.{◌≡◌, ◌↔◌, [], IfOk, IsTrue, MatchOption, None, OnOk};
 ghost use Rattle.std.specs.Option.{option_copied};
-ghost use Rattle.range_keys.specs.Position.{bound_of, position_cmp};
-ghost use Rattle.range_algebra.specs.Cuts.{lower};
-ghost use Rattle.range_algebra.specs.Intervals.{Le};
+ghost use Rattle.range_keys.specs.Position.{bound_of};
 ghost use Rattle.range_algebra.specs.Range.{ClonesAreEqual};
 ghost use Rattle.range_algebra.specs.References.{range_of};
 ghost use Rattle.range_merge.specs.Merged.{IsPlaced};
@@ -12,6 +10,7 @@ ghost use Rattle.range_sets.specs.TwoSets.{HoldsEither};
 ghost use Rattle.range_sets.specs.Uniting.{IsAdded, IsFirstOf, IsLaterEnd, IsPushed, Reaches};
 
 use super::RangeSet;
+use crate::set::comparing::{ends_before, starts_by};
 use range_algebra::any::AnyRange;
 use range_algebra::inner;
 use range_keys::bound::Directed;
@@ -20,18 +19,6 @@ use range_runs::bounds::flip;
 use range_store::storage::{Item, Storage};
 use std::alloc::AllocError;
 use std::ops::{Bound, RangeBounds};
-
-/// Whether the range does not start after the other.
-#[inline(always)]
-fn starts_first<T: PartialEnum>(range: &AnyRange<T>, other: &AnyRange<T>) -> bool
-    ensures { IsTrue result
-        ↔ Le (position_cmp T.order.cmp) (lower T.order range.now) (lower T.order other.now) }
-{
-    match (range.start_bound(), other.start_bound()) {
-        (Bound::Included(first), Bound::Included(other_first)) => first.cmp(other_first).is_le(),
-        (start, other_start) => Directed::Start(start) <= Directed::Start(other_start),
-    }
-}
 
 /// The one of two ranges that starts first, and whether it is the one on the left.
 #[inline(always)]
@@ -48,7 +35,7 @@ fn first_of<'a, T: PartialEnum>(
         (Some(range), None) => Some((range, true)),
         (None, Some(other)) => Some((other, false)),
         (Some(range), Some(other)) => {
-            if starts_first(range, other) {
+            if starts_by(range.start_bound(), other.start_bound()) {
                 Some((range, true))
             } else {
                 Some((other, false))
@@ -81,16 +68,12 @@ fn reaches<T: PartialEnum>(end: Bound<&T>, range: &AnyRange<T>) -> bool
 fn later_end<'a, T: PartialEnum>(end: Bound<&'a T>, other: Bound<&'a T>) -> Bound<&'a T>
     ensures { IsLaterEnd T.order (bound_of end.entry) (bound_of other.entry) (bound_of result) }
 {
-    if Directed::End(end) < Directed::End(other) {
-        other
-    } else {
-        end
-    }
+    if ends_before(end, other) { other } else { end }
 }
 
 /// Puts a clone of the range after the others.
 #[inline(always)]
-fn push_clone<T: PartialEnum + Clone>(
+pub(crate) fn push_clone<T: PartialEnum + Clone>(
     ranges: &mut Vec<Item<AnyRange<T>, ()>>,
     range: AnyRange<&T>,
 ) -> Result<(), AllocError>
