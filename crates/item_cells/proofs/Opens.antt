@@ -5,12 +5,12 @@ use mathlib.Core.List.{List, [], ◌∷◌, ◌++◌}
 use lib.ListN.{length}
 use seplogic.Ra.Ura.{Ura}
 use base.Fraction.{full_share}
-use base.Fml.{Fml, GName, Lft, Share, fauth, fbor, flft, fobor, fobs, fsep}
+use base.Fml.{Fml, GName, Lft, Share, fauth, fbor, feq, flft, fobor, fobs, fsep}
 use base.Logic.{id⊢, never}
 use base.Stored.{Gv}
 use mir.Val.{Val, of_list, vcons, vnil, vptr, vstruct}
 use types.Logic.{Logic}
-use types.Kit.{Goal, Item, Seq, Soaks, Step, step, ‵, ◌$◌, drop as skip, feq_i, feq_l, fjoin, fpack, fpick, flt_i, flt_l, fsplit, move, rewrite}
+use types.Kit.{Goal, Item, Seq, Soaks, Step, step, ‵, ◌$◌, drop as skip, feq_i, feq_l, fjoin, fjoin3, fpack, fpick, flt_i, flt_l, fsplit, move, rewrite}
 use types.SemTy.{Body}
 use denote.Memory.{cell_at, mem}
 use denote.Param.{param}
@@ -72,6 +72,12 @@ module _ (E : El) {M : Type 1} {𝓤 : Ura M} {𝓛 : Logic 𝓤} {K : Type 0} {
   memory_closes t soaks m b o rb ro there fit = step (λ rest.
       memory_made E t m b o there fit $ move t (1 ∷ 0 ∷ []) $ closes t soaks (Memory E) m (start_at E b o ∷ []) rb ro $ rest)
 
+  -- what is left of a `&mut` whose memory is `m` now
+  pub memory_left : K → {κ : Lft} {γ : GName} (m : (Memory E).Denot) (rb ro : ℕ)
+      → Step K 𝓛 (‵ (fsep (feq (List Val) (vptr rb ro ∷ []) (vptr rb ro ∷ [])) (fsep (fobs γ ((Memory E).coded.code m)) (fbor κ (Body (mem (Memory E)) rb ro γ)))) ∷ Γ) G
+      (‵ (fobs γ ((Memory E).coded.code m)) ∷ ‵ (fbor κ (Body (mem (Memory E)) rb ro γ)) ∷ Γ) G
+  memory_left t m rb ro = step (λ rest. feq_i t (List Val) (vptr rb ro ∷ []) (vptr rb ro ∷ []) refl $ fjoin3 t $ rest)
+
 module _ (E : Bx) where
   abbrev pub Permit : RattleType
   Permit = permit.the_row (param 0 E.row) (param 1 E.al.row) E.al.g
@@ -91,7 +97,7 @@ module _ (E : Bx) {M : Type 1} {𝓤 : Ura M} {𝓛 : Logic 𝓤} {K : Type 0} {
   pub permit_made : K → {hv : Val} (handle : E.al.row.Denot) (b o : ℕ)
       → Step K 𝓛 (‵ ((Permit E).own_val (record { start = block_ptr b o; alloc = handle }) (vacant_val hv b o ∷ [])) ∷ Γ) G (‵ (E.al.row.own_val handle (hv ∷ [])) ∷ ‵ (permitted E handle (block_ptr b o)) ∷ Γ) G
   permit_made t {hv} handle b o = step (λ rest.
-      nothing t $ move t (1 ∷ 0 ∷ []) $ fjoin t $
-      feq_i t (List Val) (vptr b o ∷ []) (vptr b o ∷ []) refl $ fjoin t $ feq_i t (List Val) (vacant_val hv b o ∷ []) (vacant_val hv b o ∷ []) refl $ fjoin t $
-      fpack t (Valss (RawPtr ∷ param 1 E.al.row ∷ [])) (within (shape (permit.the_type (param 0 E.row) (param 1 E.al.row) E.al.g)) (block_ptr b o, (handle, tt)) (vacant_val hv b o ∷ [])) (vptr b o ∷ [], (hv ∷ [], tt)) $ fjoin t $
+      let start : List Val = vptr b o ∷ [] in let words : List Val = vacant_val hv b o ∷ [] in
+      nothing t $ move t (1 ∷ 0 ∷ []) $ fjoin t $ feq_i t (List Val) start start refl $ fjoin t $ feq_i t (List Val) words words refl $ fjoin t $
+      fpack t (Valss (RawPtr ∷ param 1 E.al.row ∷ [])) (within (shape (permit.the_type (param 0 E.row) (param 1 E.al.row) E.al.g)) (block_ptr b o, (handle, tt)) words) (start, (hv ∷ [], tt)) $ fjoin t $
       rest)

@@ -9,7 +9,7 @@ use std::marker::{Model, Send, Sync};
 use std::slice;
 use std_alloc::room::Vacant;
 
-/// How many cells a block has.
+/// How many cells a block has: so many that most blocks take several pages.
 pub const CELLS: usize = 352;
 
 /// Cells side by side, each empty or with an item.

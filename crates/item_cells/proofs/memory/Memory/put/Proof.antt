@@ -17,7 +17,7 @@ use prog.Wp.{Env}
 use contract.Running.{Running, tables}
 use types.Logic.{Logic}
 use types.ByLocal.{alloc_all, env, free_all, get, look_at, pass_all, sets, through}
-use types.Kit.{‵, raw, ◌⊛◌, at_ret, ◌$◌, ◌∵◌, !, qed, done, drop, feq_i, fjoin, fjoin3, fsplit, fsplit3, join, keep, move, rewrite, split, suffices, use1, use2}
+use types.Kit.{‵, raw, ◌⊛◌, at_ret, ◌$◌, ◌∵◌, !, qed, done, drop, feq_i, fjoin, fsplit, fsplit3, join, keep, move, rewrite, split, suffices, use1, use2}
 use types.Part.{look_in, sub, whole}
 use types.Run.{assigns_last, bin, blocks, enter, exec, first, fld, init, load, of_opd, returns, size_lit, stop, unit_lit}
 use denote.Builtin.{usize}
@@ -37,7 +37,7 @@ use Rattle.circular_buffer.specs.Ownership.{slot, slots}
 use Rattle.circular_buffer.proofs.Memory.{Besides, Place, says_both, slot_in, slot_out, sz, value_in}
 use Rattle.item_cells.specs.contracts.memory.Memory.put as put
 use Rattle.item_cells.specs.contracts.memory.Memory.put.Key.{name}
-use Rattle.item_cells.proofs.Opens.{Memory, memory_opens, memory_closes}
+use Rattle.item_cells.proofs.Opens.{Memory, memory_closes, memory_left, memory_opens}
 use Rattle.item_cells.proofs.Walks.{Runs, met}
 use Rattle.item_cells.proofs.memory.Memory.put.Statement.{statement}
 use Rattle.item_cells.proofs.memory.Memory.put.Code as code
@@ -92,7 +92,7 @@ module _ (E : El) {M : Type 1} {𝓤 : Ura M} (𝓛 : Logic 𝓤) (𝓜 : Model 
       memory_closes E ! tt new b o rb ro there (subst (λ (n : ℕ). n * s < 2 ^ 63) (sym (length-set m.cells i (Some item))) fit) $
       returns ! (look_at ! 0 refl) $ free_all ! refl $
       suffices ! _ (ends_at 𝓛 ended stays says (spelled y v) vunit tt (new, (tt, (tt, tt))) (tt, (tt, (tt, tt)))) $ says_both ! refl refl $
-      feq_i ! (List Val) (vptr rb ro ∷ []) (vptr rb ro ∷ []) refl $ fjoin3 ! $ nothing ! $ nothing ! $ fjoin ! $ nothing ! $ fjoin ! $ move ! (1 ∷ 0 ∷ []) $ fjoin ! $
+      memory_left E ! new rb ro $ nothing ! $ nothing ! $ fjoin ! $ nothing ! $ fjoin ! $ move ! (1 ∷ 0 ∷ []) $ fjoin ! $
       move ! (1 ∷ 2 ∷ []) $ join ! $ feq_i ! (List Val) (vunit ∷ []) (vunit ∷ []) refl $ keep ! (1 ∷ 2 ∷ 0 ∷ []) $ done !)))
 
 pub put_spec : {M : Type 1} → statement M

@@ -2,7 +2,7 @@
 use mathlib.Core.Path.{refl, sym, subst}
 use Prim.Native.Nat.{ℕ, ◌+◌, ◌*◌, ◌<◌, ◌^◌}
 use native.Mathlib.Omega.{arith}
-use mathlib.Core.List.{List, [], ◌∷◌}
+use mathlib.Core.List.{[], ◌∷◌}
 use lib.ListN.{get_or, length, set, length-set}
 use seplogic.Ra.Ura.{Ura}
 use base.Logic.{SProp}
@@ -17,7 +17,7 @@ use prog.Wp.{Env}
 use contract.Running.{Running, tables}
 use types.Logic.{Logic}
 use types.ByLocal.{alloc_all, env, free_all, get, look_at, pass_all, sets, through}
-use types.Kit.{‵, raw, ◌⊛◌, at_ret, ◌$◌, ◌∵◌, !, qed, done, drop, feq_i, fjoin, fjoin3, fsplit, fsplit3, join, keep, move, rewrite, split, suffices, use1, use2}
+use types.Kit.{‵, raw, ◌⊛◌, at_ret, ◌$◌, ◌∵◌, !, qed, done, drop, fjoin, fsplit, fsplit3, join, keep, move, rewrite, split, suffices, use1, use2}
 use types.Part.{look_in, sub, whole}
 use types.Run.{bin, blocks, enter, exec, first, fld, load, of_opd, returns, size_lit, stop}
 use denote.Builtin.{usize}
@@ -36,7 +36,7 @@ use Rattle.circular_buffer.specs.Ownership.{slot, slots}
 use Rattle.circular_buffer.proofs.Memory.{Besides, Place, slot_in, slot_out, sz}
 use Rattle.item_cells.specs.contracts.memory.Memory.take as take
 use Rattle.item_cells.specs.contracts.memory.Memory.take.Key.{name}
-use Rattle.item_cells.proofs.Opens.{Memory, memory_opens, memory_closes}
+use Rattle.item_cells.proofs.Opens.{Memory, memory_closes, memory_left, memory_opens}
 use Rattle.item_cells.proofs.Walks.{Runs, met}
 use Rattle.item_cells.proofs.memory.Memory.take.Statement.{statement}
 use Rattle.item_cells.proofs.memory.Memory.take.Code as code
@@ -101,7 +101,7 @@ module _ (E : El) {M : Type 1} {𝓤 : Ura M} (𝓛 : Logic 𝓤) (𝓜 : Model 
       returns ! (look_at ! 0 refl) $ free_all ! refl $
       -- [the observed value; the borrow; its token; the item; the token of T]
       suffices ! _ (ends_at 𝓛 ended stays says (spelled y) v item (new, (tt, tt)) (tt, (tt, tt))) $ says_three ! (filled.1, refl, refl) $
-      feq_i ! (List Val) (vptr rb ro ∷ []) (vptr rb ro ∷ []) refl $ fjoin3 ! $ nothing ! $ nothing ! $ fjoin ! $ move ! (1 ∷ 0 ∷ []) $ fjoin ! $ move ! (1 ∷ 3 ∷ []) $ join ! $ keep ! (0 ∷ 1 ∷ 2 ∷ []) $ done !)))))
+      memory_left E ! new rb ro $ nothing ! $ nothing ! $ fjoin ! $ move ! (1 ∷ 0 ∷ []) $ fjoin ! $ move ! (1 ∷ 3 ∷ []) $ join ! $ keep ! (0 ∷ 1 ∷ 2 ∷ []) $ done !)))))
 
 pub take_spec : {M : Type 1} → statement M
 take_spec 𝓤 𝓛 𝓜 𝓡 wired T laws =
