@@ -1,6 +1,6 @@
 -- What a collection is written as has no float, so its text is known.
-use Rattle.std.proofs.Common.{◌≡◌, ℤ, ℕ, List, [], ◌∷◌, refl}
-use Rattle.std.specs.Prelude.{Bool, false, ◌||◌, map, pos, negsuc, Result, Ok, Err, IfOk}
+use Rattle.std.proofs.Common.{◌≡◌, ℕ, List, [], ◌∷◌, refl}
+use Rattle.std.specs.Prelude.{Bool, false, ◌||◌, map, Result, Ok, Err, IfOk}
 use Rattle.std.specs.declared.ops.Bound.{Bound}
 use Rattle.std.specs.declared.ops.Bound.TheVariants.{Included, Excluded, Unbounded}
 use Rattle.serde_json.specs.Data.{Data}
@@ -8,7 +8,7 @@ use Rattle.serde_json.specs.View.{items_of}
 use Rattle.serde_json.specs.Written.{has_float, items_have_float}
 use Rattle.btree_range_map.specs.AnyRange.{AnyRange}
 use Rattle.btree_range_map.specs.Item.{Item}
-use Rattle.btree_range_map.specs.Keys.{signed_shape, unsigned_shape}
+use Rattle.btree_range_map.specs.Keys.{unsigned_shape}
 use Rattle.btree_range_map.specs.Shapes.{bound_shape, range_shape, pair_shape, map_shape, set_shape}
 
 neither_true : (a b : Bool) → a ≡ false → b ≡ false → (a || b) ≡ false
@@ -51,10 +51,6 @@ module _ {K : Type 0} (shape : K → Data)
   set_has_no_float (i ∷ items) =
       neither_true (has_float (range_shape shape i.key)) _ (range_has_no_float i.key)
       (set_has_no_float items)
-
-pub signed_has_no_float : (z : ℤ) → has_float (signed_shape z) ≡ false
-signed_has_no_float (pos n) = refl
-signed_has_no_float (negsuc n) = refl
 
 pub if_ok_as : {A E : Type 0} (r : Result A E) (P Q : A → Type 0) → ((x : A) → P x → Q x) → IfOk r P
     → IfOk r Q
