@@ -64,7 +64,8 @@ module _ (s : S.Denot) (b o k i : ℕ) (h : Val) where
 pub as_mut_spec : {M : Type 1} → statement M
 as_mut_spec 𝓤 𝓛 𝓜 𝓡 wired =
     let seal = plain (λ _. S) in
-    let hs : Stays f.signature.params f.ended.kept = (stay_dropped (mut_ref_to (0 ∷ []) tt seal) no, tt) in
+    let hs : Stays f.signature.params f.ended.kept =
+    (stay_dropped (mut_ref_to (0 ∷ []) tt seal) no, tt) in
     let c = f.clauses 𝓛 𝓜.mem 𝓡.returns in
     let 𝓣 = tables 𝓤 𝓛.H 𝓜 𝓡 𝓡.env in
     let fn = code.function in
@@ -74,19 +75,22 @@ as_mut_spec 𝓤 𝓛 𝓜 𝓡 wired =
     let κ = κs.0 in let q = qs.0 in
     let y : (walk_of 𝓛 f.ended hs c).Ghost = ((κs, qs, bounds, a, (mut_vals a.0, tt)), tt) in
     let s = a.0.now in let b = a.0.ref_ptr.0 in let o = a.0.ref_ptr.1 in
-    qed 𝓛 (((‵ (flft κ q) ⊛ ‵ ftrue) ⊛ ‵ ((MutRef (named 0) κ S).own_val a.0 (mut_vals a.0)) ⊛ ‵ ftrue)
+    qed 𝓛 (((‵ (flft κ q) ⊛ ‵ ftrue)
+    ⊛ ‵ ((MutRef (named 0) κ S).own_val a.0 (mut_vals a.0)) ⊛ ‵ ftrue)
     ∷ raw (fact 𝓤 (IsSome s.held)) ∷ []) ∵ move ! (1 ∷ []) $ heard ! (IsSome s.held) (λ full.
     let held = inside s.held full in
     split3 ! $ split ! $ keep ! (2 ∷ 0 ∷ []) $ enter ! _ _ _ _ _ $
     alloc_all ! (λ l. pass_all ! refl ((tt, tt), tt) $
     fsplit3 ! $ drop ! $ opens ! tt S b o (λ us. move ! (1 ∷ []) $
-    rewrite ! 0 (λ (m : Option X). ‵ (S.own_val (record { ptr = s.ptr; alloc = s.alloc; held = m }) us)) held.1 refl $
+    rewrite ! 0 (λ (m : Option X).
+    ‵ (S.own_val (record { ptr = s.ptr; alloc = s.alloc; held = m }) us)) held.1 refl $
     let v : D boxes = record { ptr = s.ptr; alloc = s.alloc; value = held.0 } in
     use1 𝓛 (‵ ((B boxes).own_val v us)) (id⊢ 𝓤 _) $ box_out boxes ! v us (λ k i h at_k is fits.
     rewrite ! 3 (λ (ws : List Val). ‵ (cell_at full_share S.mir ws b o)) is refl $
     -- [the collection; its block; the allocator; the seal's words; the open borrow, in three entries]
     first ! $ blocks ! $
-    sets ! (of_opd ! (load ! (through ! refl (fld ! refl (stop !))) (look_in ! 3 (sub ! 0 refl (whole !))))) refl (tt, tt) $
+    sets ! (of_opd ! (load ! (through ! refl (fld ! refl (stop !)))
+    (look_in ! 3 (sub ! 0 refl (whole !))))) refl (tt, tt) $
     sets ! (of_opd ! (get ! refl)) refl (tt, tt) $
     sets_last ! (addr ! (through ! refl (stop !))) refl (tt, tt) $
     exec ! 𝓣.C 𝓣.Λ (env fn.locals l) (tail fn.body) (at_ret _ ((walk_of 𝓛 f.ended hs c).post y)) $
@@ -95,9 +99,11 @@ as_mut_spec 𝓤 𝓛 𝓜 𝓡 wired =
     let back = returned s b o k i h 𝓛 at_k in
     let γ = a.0.ghost_name in
     let loan : GName → MutBor X = λ δ. record { ref_ptr = (k, i); ghost_name = δ; now = held.0 } in
-    use1 𝓛 (later (some (λ (δ : GName). ‵ ((MutRef (named 0) κ Collection.the_row).own_val (loan δ) (vptr k i ∷ []))
+    use1 𝓛 (later (some (λ (δ : GName).
+    ‵ ((MutRef (named 0) κ Collection.the_row).own_val (loan δ) (vptr k i ∷ []))
     ⊛ ‵ (flft κ q) ⊛ ‵ (follows S Collection.the_row γ δ (with_held s)))))
-    (lends_Part 𝓛 S Collection.the_row (with_held s) (named 0) κ q b o k i γ (sem 𝓛 (left s b o k i h)) back (S.coded.code s) (S.coded.code s) held.0) $
+    (lends_Part 𝓛 S Collection.the_row (with_held s) (named 0) κ q b o k i γ
+    (sem 𝓛 (left s b o k i h)) back (S.coded.code s) (S.coded.code s) held.0) $
     await ! tt $ pick ! (λ δ. split3 ! $ returns ! (look_at ! 0 refl) $ free_all ! refl $
     suffices ! _ (ends_at 𝓛 f.ended hs c y (vptr k i) (loan δ) (tt, tt) (tt, tt)) $
     nothing ! $ nothing ! $ fjoin ! $ join ! $ nothing ! $ move ! (2 ∷ 0 ∷ []) $ join ! $ join ! $ frame ! $

@@ -30,7 +30,8 @@ pub empty_spec : {M : Type 1} → statement M
 empty_spec 𝓤 𝓛 𝓜 𝓡 wired =
     let place = plain (λ _. RawPtr) in
     let heap = plain (λ _. Heap.the_row) in
-    let hs : Stays f.signature.params f.ended.kept = (stay_dropped place yes, (stay_dropped heap yes, tt)) in
+    let hs : Stays f.signature.params f.ended.kept =
+    (stay_dropped place yes, (stay_dropped heap yes, tt)) in
     let c = f.clauses 𝓛 𝓜.mem 𝓡.returns in
     let S = Seal.the_row in
     proved 𝓛 f.ended hs c 𝓜 𝓡

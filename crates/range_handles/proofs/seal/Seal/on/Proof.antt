@@ -35,16 +35,19 @@ on_spec 𝓤 𝓛 𝓜 𝓡 wired =
     proved_at 𝓛 f.ended hs c 𝓜 𝓡 (Goes-dropped 𝓛 0 given yes (λ κs x w. refl), tt) f.Key.name
     code.function (code.unfolded 𝓤 𝓛.H 𝓜 𝓡 wired) (λ y are.
     let parts = y.0.3.0 in
+    let Run = λ (us : List Val).
+    WpFn 𝓤 𝓛.H 𝓣.C 𝓣.Λ code.function us ((walk_of 𝓛 f.ended hs c).post y) in
     let v : D boxes = record { ptr = parts.place; alloc = parts.allocator; value = parts.value } in
     qed 𝓛 ((‵ ftrue ⊛ ‵ (fsep ((B boxes).own_val v y.0.4.0) ftrue)) ∷ ‵ ftrue ∷ []) ∵
     split ! $ move ! (1 ∷ []) $ fsplit ! $ box_out boxes ! v y.0.4.0 (λ b o h at_b is fits.
     box_in boxes ! v b o v.value at_b refl $ keep ! (0 ∷ []) $
-    regoal ! (λ (us : List Val). prop (WpFn 𝓤 𝓛.H 𝓣.C 𝓣.Λ code.function (us ++ []) ((walk_of 𝓛 f.ended hs c).post y))) is refl $
+    regoal ! (λ (us : List Val). prop (Run (us ++ []))) is refl $
     enter ! _ _ _ _ _ $ alloc_all ! (λ l. pass_all ! refl (box_typed boxes h b o fits, tt) $
     sets ! (of_opd ! (get_in ! (fld ! refl (stop !)) (sub ! 0 refl (whole !)))) refl (tt, tt) $
     sets ! (of_opd ! (get_in ! (fld ! refl (stop !)) (sub ! 1 refl (whole !)))) refl fits $
     sets ! (of_opd ! (get ! refl)) refl (tt, tt) $
     sets ! (agg ! (and_then ! (get ! refl) (and_then ! (get ! refl) (no_more !)))) refl
     (box_typed boxes h b o fits) $ returns ! (look_at ! 0 refl) $ free_all ! refl $
-    suffices ! _ (ends_at 𝓛 f.ended hs c y (word boxes h b o) (record { ptr = v.ptr; alloc = v.alloc; held = Some v.value }) (tt, tt) (tt, tt)) $
+    suffices ! _ (ends_at 𝓛 f.ended hs c y (word boxes h b o)
+    (record { ptr = v.ptr; alloc = v.alloc; held = Some v.value }) (tt, tt) (tt, tt)) $
     says ! refl $ nothing ! $ nothing ! $ fjoin ! $ join ! $ nothing ! $ join ! $ done !)))
