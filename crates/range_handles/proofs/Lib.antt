@@ -1,4 +1,4 @@
-mod AsBox
+mod Boxes
 mod Fills
 mod Floats
 mod InOrder

@@ -7,7 +7,7 @@
 //! Where to find what:
 //!
 //! - the handle of a caller in C: a box of a map or a set whose type C does not see, or nothing:
-//!   `src/{handle,seal,parts}.rt`, `specs/Seals.antt`; how a call reaches it where it lies:
+//!   `src/{handle,seal,unboxed}.rt`, `specs/Seals.antt`; how a call reaches it where it lies:
 //!   `src/seal/lend.rt`, `specs/Lending.antt`; what it holds in `specs/Held.antt`, that no fewer
 //!   ranges would do in `specs/Fewest.antt`
 //! - what is asked of a map, and of a set as the map of its keys to nothing, each call said once for
@@ -30,6 +30,6 @@ mod in_order;
 pub mod kept_map;
 pub mod kept_set;
 pub mod key;
-pub mod parts;
 pub mod reads;
 pub mod seal;
+mod unboxed;

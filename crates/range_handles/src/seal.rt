@@ -6,7 +6,7 @@ ghost use Rattle.range_handles.specs.Seals.{held_coded, seal_owns};
 mod lend;
 
 use crate::collection::Collection;
-use crate::parts::Parts;
+use crate::unboxed::{Unboxed, rebox, unbox};
 use std::alloc::Global;
 use std::marker::Model;
 
@@ -36,16 +36,16 @@ impl Seal {
     pub fn of(b: Box<Collection, Global>) -> Seal
         ensures { result.held ≡ Some b.value }
     {
-        Seal::of_parts(Parts::of(b))
+        Seal::on(unbox(b))
     }
 
-    fn of_parts(parts: Parts<Collection, Global>) -> Seal
+    fn on(parts: Unboxed<Collection, Global>) -> Seal
         ensures { result.held ≡ Some parts.value }
     {
-        let Parts { ptr, alloc } = parts;
+        let Unboxed { place, allocator } = parts;
         Seal {
-            ptr: ptr as *mut u8,
-            alloc,
+            ptr: place as *mut u8,
+            alloc: allocator,
         }
     }
 
@@ -54,17 +54,17 @@ impl Seal {
         requires { IsSome self.held }
         ensures { self.held ≡ Some result.value }
     {
-        self.into_parts().into_box()
+        rebox(self.opened())
     }
 
-    fn into_parts(self) -> Parts<Collection, Global>
+    fn opened(self) -> Unboxed<Collection, Global>
         requires { IsSome self.held }
         ensures { self.held ≡ Some result.value }
     {
         let Seal { ptr, alloc } = self;
-        Parts {
-            ptr: ptr as *mut Collection,
-            alloc,
+        Unboxed {
+            place: ptr as *mut Collection,
+            allocator: alloc,
         }
     }
 }

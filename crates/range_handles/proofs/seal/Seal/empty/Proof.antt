@@ -1,115 +1,54 @@
--- `empty` puts two fields together, and owns nothing more.
-use mathlib.Core.Path.{refl, sym, subst}
-use mathlib.Core.List.{List, [], ◌∷◌, ◌++◌}
-use mathlib.Core.Bool.{Bool, true, false, ◌&&◌}
-use lib.Dec.{T}
-use seplogic.Ra.Ura.{Ura}
-use mir.Val.{Val, has_ty, WT}
-use mir.Syntax.{ty_ptr}
-use base.Logic.{SProp, ent, emp, id⊢}
-use base.Fml.{ftrue, fsep}
-use prog.Memory.{Memory}
-use prog.Routine.{Routine}
-use prog.Wp.{WpFn, Tables}
-use types.Logic.{Logic}
-use contract.Monad.{Fun}
-use contract.Running.{tables, tables_of}
-use sound.WpLaws.{WpFn-mono}
-use types.Kit.{Item, ‵, raw, ◌⊛◌, ◌$◌, ◌∵◌, !, qed, by, move, drop, use1, join, split, fsplit, fjoin, fpack, feq_i, feq_l, suffices, done}
+-- A seal of no box owns its two words alone.
+use mathlib.Core.List.{List, [], ◌∷◌}
+use mathlib.Core.Path.{refl}
+use mir.Val.{Val, vstruct, vcons, vnil}
+use base.Fml.{ftrue}
+use types.Kit.{‵, ◌⊛◌, ◌$◌, ◌∵◌, !, qed, done, move, keep, split, join, fjoin, feq_i, fpack, suffices}
 use types.Part.{agg}
 use types.Run.{no_more, and_then, returns, enter}
 use types.ByLocal.{alloc_all, pass_all, free_all, look_at, get, sets}
 use denote.Exit.{yes}
-use denote.Param.{layout}
-use denote.RattleType.{Valss}
-use denote.RawPtr.{RawPtr, Ptr, ptr_val, block_ptr, null_ptr}
-use denote.Signature.{type_at, plain}
-use denote.Steps.{nothing}
+use denote.Laws.{Is, shows}
+use denote.RattleType.{Valss, owns}
+use denote.RawPtr.{RawPtr, ptr_val, rawptr_vals, rawptr_Tells, rawptr_Lawful}
+use denote.Signature.{plain}
+use denote.Steps.{nothing, peeks}
 use denote.Struct.Owning.{shape, to}
 use denote.Struct.Struct.{within}
-use denote.Triple.Spec.{triple_of}
-use denote.Triple.Table.{entered}
-use denote.Triple.Walked.{says, Stays, stay_dropped, walk_of, ends_at, Goes-dropped, walk_Meets}
+use denote.Triple.Walked.{says, Stays, stay_dropped, ends_at, Goes-dropped}
+use Rattle.std.proofs.raw_atomic.Walks.{proved}
 use Rattle.std.specs.Prelude.{None}
-use Rattle.std.proofs.Common.{lit<}
-use Rattle.core.proofs.alloc.Calls.{handle_tells}
+use Rattle.std_heap.proofs.Handle.{heap_val, heap_Tells}
 use Rattle.std_heap.specs.contracts.Global as Heap
-use Rattle.range_handles.proofs.AsBox.{E, both}
 use Rattle.range_handles.specs.contracts.seal.Seal as Seal
-use Rattle.range_handles.specs.contracts.seal.Seal.empty as F
-use Rattle.range_handles.specs.contracts.seal.Seal.empty.Key.{name as #self}
-use Rattle.range_handles.proofs.seal.Seal.empty.Statement as stated
+use Rattle.range_handles.proofs.seal.Seal.TheLaws as seal
+use Rattle.range_handles.specs.contracts.seal.Seal.empty as f
+use Rattle.range_handles.proofs.seal.Seal.empty.Statement.{statement}
 use Rattle.range_handles.proofs.seal.Seal.empty.Code as code
 
-abbrev stayed : Stays (F.ended).signature.params (F.ended).kept
-stayed = (
-  stay_dropped (plain (λ _. RawPtr)) yes,
-  (stay_dropped (plain (λ _. Heap.the_row)) yes, tt),
-)
-
-pointer_typed : (p : Ptr) → T (has_ty ty_ptr (ptr_val p)) × WT (ptr_val p)
-pointer_typed (block_ptr b o) = (tt, tt)
-pointer_typed null_ptr = (tt, record { fits = lit< tt })
-
-both_tt : (x y : Bool) → T x → T y → T (x && (y && true))
-both_tt true true s t = tt
-both_tt true false s t = absurd t
-both_tt false y s t = absurd s
-
-module _ {M : Type 1} {𝓤 : Ura M} (𝓛 : Logic 𝓤) (at_mem : Memory → SProp 𝓤) (run : Routine → Fun 𝓤)
-    (𝓣 : Tables 𝓤 𝓛.H) where
-  open 𝓛 use {H}
-
-  walk : (z : (walk_of 𝓛 F.ended stayed (F.clauses 𝓛 at_mem run)).Ghost)
-      → ent 𝓤 ((walk_of 𝓛 F.ended stayed (F.clauses 𝓛 at_mem run)).pre z)
-      (WpFn 𝓤 H 𝓣.C 𝓣.Λ code.function (z.0.4.0 ++ (z.0.4.1.0 ++ []))
-      ((walk_of 𝓛 F.ended stayed (F.clauses 𝓛 at_mem run)).post z))
-  walk z =
-      let Post = (walk_of 𝓛 F.ended stayed (F.clauses 𝓛 at_mem run)).post z in
-      let p = z.0.3.0 in let a = z.0.3.1.0 in let typed_p = pointer_typed p in
-      let To = type_at (F.signature).result tt in
-      let made : To.Denot = record { ptr = p; alloc = a; held = None } in
-      qed 𝓛 ((‵ ftrue
-      ⊛ ‵ (fsep (RawPtr.own_val p z.0.4.0) (fsep (Heap.the_row.own_val a z.0.4.1.0) ftrue)))
-      ∷ raw (emp 𝓤) ∷ []) ∵ split ! $ drop ! $ fsplit ! $ feq_l ! (λ ep. fsplit ! $
-      handle_tells E.al ! a z.0.4.1.0 (λ h ea fits.
-      -- [the handle; true; the empty `requires`]
-      let w = both (ptr_val p) h in
-      nothing ! $ move ! (1 ∷ 0 ∷ []) $ fjoin ! $
-      feq_i ! (List Val) (ptr_val p ∷ []) (ptr_val p ∷ []) refl $ fjoin ! $
-      feq_i ! (List Val) (w ∷ []) (w ∷ []) refl $ fjoin ! $
-      fpack ! (Valss (RawPtr ∷ Heap.the_row ∷ []))
-      (within (shape Seal.the_type) (to Seal.the_type made) (w ∷ []))
-      (ptr_val p ∷ [], (h ∷ [], tt)) $ nothing ! $ move ! (1 ∷ 0 ∷ []) $ fjoin ! $
-      use1 𝓛 (‵ (To.own_val made (w ∷ []))) (id⊢ 𝓤 _) $ move ! (1 ∷ 2 ∷ []) $ drop ! $ drop ! $
-      let Γ : List (Item 𝓤) = ‵ (To.own_val made (w ∷ [])) ∷ [] in
-      let good : T (has_ty (layout Seal.the_row) w) × WT w = (
-        both_tt (has_ty ty_ptr (ptr_val p)) (has_ty (layout Heap.the_row) h) typed_p.0 fits.0,
-        (typed_p.1, (fits.1, tt)),
-      ) in
-      by ! (subst
-      (λ (us : List Val). ent 𝓤 (types.Kit.⋆ 𝓛 Γ) (WpFn 𝓤 H 𝓣.C 𝓣.Λ code.function us Post))
-      (sym (λ i. ep i ++ (ea i ++ [])))
-      (qed 𝓛 Γ ∵ enter ! 𝓣.C 𝓣.Λ code.function (ptr_val p ∷ h ∷ []) _ $
-      alloc_all ! (λ ls. pass_all ! refl (typed_p, (fits, tt)) $
-      sets ! (agg ! (and_then ! (get ! refl) (and_then ! (get ! refl) (no_more !)))) refl good $
-      returns ! (look_at ! 0 refl) $ free_all ! refl $
-      suffices ! _
-      (ends_at 𝓛 F.ended stayed (F.clauses 𝓛 at_mem run) z w made (tt, (tt, tt))
-      (tt, (tt, tt))) $ says ! refl $
-      nothing ! $ nothing ! $ fjoin ! $ nothing ! $ fjoin ! $ join ! $ nothing ! $ join ! $
-      done !)))))
-
-pub empty_spec : {M : Type 1} → stated.statement M
-unfolding tables_of
+pub empty_spec : {M : Type 1} → statement M
 empty_spec 𝓤 𝓛 𝓜 𝓡 wired =
-    let 𝓣 : Tables 𝓤 𝓛.H = tables_of 𝓤 𝓛.H 𝓜 (tables 𝓤 𝓛.H 𝓜 𝓡 𝓡.env) in
-    entered 𝓤 𝓛.H (triple_of 𝓛 F.signature (F.spec 𝓛 𝓜.mem 𝓡.returns)) 𝓣.C 𝓣.Λ #self code.function
-    (code.unfolded 𝓤 𝓛.H 𝓜 𝓡 wired)
-    (walk_Meets 𝓛 F.ended stayed (
-      Goes-dropped 𝓛 0 (plain (λ _. RawPtr)) yes (λ κs x f. refl),
-      (Goes-dropped 𝓛 0 (plain (λ _. Heap.the_row)) yes (λ κs x f. refl), tt),
-    )
-    (F.clauses 𝓛 𝓜.mem 𝓡.returns) (WpFn 𝓤 𝓛.H 𝓣.C 𝓣.Λ code.function)
-    (WpFn-mono 𝓤 𝓛.H 𝓛.laws 𝓣 code.function)
-    (walk 𝓛 𝓜.mem 𝓡.returns 𝓣))
+    let place = plain (λ _. RawPtr) in
+    let heap = plain (λ _. Heap.the_row) in
+    let hs : Stays f.signature.params f.ended.kept =
+    (stay_dropped place yes, (stay_dropped heap yes, tt)) in
+    let c = f.clauses 𝓛 𝓜.mem 𝓡.returns in
+    let S = Seal.the_row in
+    proved 𝓛 f.ended hs c 𝓜 𝓡
+    (Goes-dropped 𝓛 0 place yes (λ κs x w. refl), (Goes-dropped 𝓛 0 heap yes (λ κs x w. refl), tt))
+    f.Key.name code.function (code.unfolded 𝓤 𝓛.H 𝓜 𝓡 wired)
+    (λ κs. (rawptr_vals, ((λ _. heap_val ∷ []), tt))) (λ κs. (rawptr_Tells, (heap_Tells, tt))) (λ κs qs bounds a _ are.
+    let vss : Valss (RawPtr ∷ Heap.the_row ∷ []) = (rawptr_vals a.0, (heap_val ∷ [], tt)) in
+    let w = vstruct (vcons (ptr_val a.0) (vcons heap_val vnil)) in
+    let made : S.Denot = record { ptr = a.0; alloc = a.1.0; held = None } in
+    qed 𝓛 ((‵ ftrue ⊛ ‵ (owns (RawPtr ∷ Heap.the_row ∷ []) a vss)) ∷ ‵ ftrue ∷ []) ∵
+    split ! $ move ! (1 ∷ []) $ feq_i ! (List Val) (w ∷ []) (w ∷ []) refl $ fjoin ! $
+    fpack ! (Valss (RawPtr ∷ Heap.the_row ∷ [])) (within (shape Seal.the_type) (to Seal.the_type made) (w ∷ [])) vss $
+    fjoin ! $ peeks ! S (Is S) (shows 𝓛 S) made (w ∷ []) (λ fine.
+    enter ! _ _ _ _ _ $
+    alloc_all ! (λ l. pass_all ! refl (((rawptr_Lawful 𝓛).typed a.0 _ refl).0, ((tt, ((tt, tt), tt)), tt)) $
+    sets ! (agg ! (and_then ! (get ! refl) (and_then ! (get ! refl) (no_more !)))) refl
+    ((seal.the_field_loose.lawful 𝓛).typed made (w ∷ []) fine).0 $
+    returns ! (look_at ! 0 refl) $ free_all ! refl $ keep ! (0 ∷ []) $
+    suffices ! _ (ends_at 𝓛 f.ended hs c ((κs, qs, bounds, a, vss), tt) w made (tt, (tt, tt)) (tt, (tt, tt))) $
+    says ! refl $ nothing ! $ nothing ! $ fjoin ! $ nothing ! $ fjoin ! $ join ! $ nothing ! $ join ! $ done !)))
