@@ -1,4 +1,4 @@
-use Rattle.std.proofs.Common.{◌∙◌, ◌⊎◌, inl, inr, arith}
+use Rattle.std.proofs.Common.{◌∙◌, inl, inr, arith}
 use Rattle.range_algebra.specs.Clones.{bound_clone}
 use Rattle.range_map.proofs.CloneLists.{clones_tied}
 use Rattle.range_sets.proofs.Sharing.{set_apart, shared_none, shared_left, shared_right, shared_both, zipped, one_is_missing}
