@@ -14,5 +14,6 @@ pub use Rattle.range_set_extend.proofs.Membership
 pub mod Retained
 pub mod SetLaws
 pub mod Sharing
+pub mod Subtracting
 pub mod Showing
 pub mod Uniting

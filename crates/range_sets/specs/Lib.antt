@@ -7,5 +7,6 @@ pub mod SetLaws
 pub mod SetOrder
 pub mod SetTexts
 pub mod Sharing
+pub mod Subtracting
 pub mod TwoSets
 pub mod Uniting

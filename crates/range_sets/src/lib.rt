@@ -10,10 +10,13 @@
 //!   `specs/{SetOrder,SetTexts}.antt`, against the map's in `proofs/Likeness.antt`
 //! - whether the keys of one set are among those of another: `src/set/relations.rt`, over
 //!   `range_map/src/inner/relate.rt`
-//! - difference and symmetric difference of two sets, by a test of which of them has a key:
+//! - the symmetric difference of two sets, by a test of which of them has a key:
 //!   `src/set/algebra.rt`, over `combine` of the map; `specs/TwoSets.antt`, `proofs/KeptKeys.antt`
 //! - the intersection of two sets: what each range shares with one of the other set, by their ends:
 //!   `src/set/shared.rt`, `specs/Sharing.antt`, `proofs/Sharing.antt`
+//! - the difference of two sets: what each range has before the next one of the other set, and what
+//!   is left past that: `src/set/subtracted.rt`, `specs/Subtracting.antt`,
+//!   `proofs/Subtracting.antt`
 //! - the union of two sets: their ranges by their starts, each joined to the last one where it
 //!   meets or touches it: `src/set/union.rt`, `specs/Uniting.antt`, `proofs/Uniting.antt`
 //! - a set changed by another: `src/set/in_place.rt`, over that of the map; `proofs/InPlace.antt`

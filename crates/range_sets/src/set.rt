@@ -26,6 +26,7 @@ mod relations;
 mod remove;
 mod retain;
 mod shared;
+mod subtracted;
 mod text;
 mod try_insert;
 mod union;

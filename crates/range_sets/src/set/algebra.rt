@@ -1,5 +1,5 @@
 //! Two sets put together.
-ghost use Rattle.std.specs.Prelude.{◌≡◌, ◌&&◌, Bool, IfOk, is_some, not};
+ghost use Rattle.std.specs.Prelude.{◌≡◌, Bool, IfOk, is_some, not};
 ghost use Rattle.std.specs.Bool.{beq};
 ghost use Rattle.range_algebra.specs.Range.{ClonesAreEqual};
 ghost use Rattle.range_set_extend.specs.KeySets.{IsCanonicalSet};
@@ -7,6 +7,7 @@ ghost use Rattle.range_sets.specs.TwoSets.{HoldsEither, HoldsBoth, HoldsFirstAlo
 
 use super::RangeSet;
 use crate::set::shared::share;
+use crate::set::subtracted::subtract;
 use crate::set::union::unite;
 use range_algebra::any::AnyRange;
 use range_keys::traits::PartialEnum;
@@ -21,17 +22,6 @@ trait Test {
 
     fn says(in_first: bool, in_second: bool) -> bool
         ensures { result ≡ truth in_first in_second };
-}
-
-/// Whether the first has it, and the second does not.
-pub(crate) struct FirstAlone;
-
-impl Test for FirstAlone {
-    ghost truth = { λ first second. first && not second };
-
-    fn says(in_first: bool, in_second: bool) -> bool {
-        in_first && !in_second
-    }
 }
 
 /// Whether just one has it.
@@ -160,7 +150,12 @@ impl<T: PartialEnum + Clone, C: Storage<Item<AnyRange<T>, ()>>> RangeSet<T, C> {
             (C.items new)) }
         ensures canonical { IfOk result (λ new. IsCanonicalSet T.order (C.items new)) }
     {
-        self.kept::<FirstAlone, D>(other)
+        let mut ranges = Vec::new(self.alloc);
+        subtract(&mut ranges, self, other)?;
+        Ok(RangeSet {
+            map: map_of(self.alloc, ranges)?,
+            alloc: self.alloc,
+        })
     }
 
     /// A set of the keys that are in just one of the two sets, whatever containers they are kept
