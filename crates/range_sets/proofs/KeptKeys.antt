@@ -1,5 +1,5 @@
 -- What becomes of the keys of two sets, by what a test says of which of them holds a key.
-use Rattle.std.proofs.Common.{◌≡◌, refl, ap, subst, ◌↔◌, ◌⊎◌, inl, inr, Bool, true, false, not, ◌&&◌, IsTrue, List, [], ◌∷◌, Option, Some, None, Result, Ok, arith}
+use Rattle.std.proofs.Common.{◌≡◌, refl, ap, subst, ◌↔◌, ◌⊎◌, inl, inr, Bool, true, false, not, IsTrue, List, [], ◌∷◌, Option, Some, None, Result, Ok, arith}
 use Rattle.std.specs.Prelude.{is_some}
 use Rattle.std.specs.Bool.{beq}
 use Rattle.std.specs.Option.{option_copied}
@@ -13,7 +13,7 @@ use Rattle.range_runs.specs.Bindings.{Binds}
 use Rattle.range_merge.specs.Combining.{AreCombined}
 use Rattle.range_runs.proofs.Overlaps.{binds_bound}
 use Rattle.range_set_extend.specs.KeySets.{HoldsKey}
-use Rattle.range_sets.specs.TwoSets.{HoldsFirstAlone, HoldsJustOne, AreKept}
+use Rattle.range_sets.specs.TwoSets.{HoldsJustOne, AreKept}
 
 -- two tests that are true in one case are one
 same_test : {P : Type 0} (a b : Bool) → (IsTrue a ↔ P) → (IsTrue b ↔ P) → a ≡ b
@@ -26,10 +26,6 @@ decided (inr other) = (false, (λ e. absurd (cc), λ h. absurd (other h)))
 
 -- by truth values: of an and with not, and a difference of two facts
 module _ {A B N : Type 0} where
-  first_alone_is : (a b : Bool) → (IsTrue a ↔ A) → (IsTrue b ↔ B) → (IsTrue (a && not b) ↔ N)
-      → N ↔ (A × (¬ B))
-  first_alone_is a b f g n = grind arith
-
   just_one_is : (a b : Bool) → (IsTrue a ↔ A) → (IsTrue b ↔ B) → (IsTrue (not (beq a b)) ↔ N)
       → N ↔ ((A × (¬ B)) ⊎ ((¬ A) × B))
   just_one_is a b f g n = grind arith
@@ -108,11 +104,6 @@ module _ {K : Type 0} (order : KeyOrder K) where
       by_test k key then = grind (arith, decided, holds_or_not, kept_as)
 
     module _ (items others new : Items) where
-      pub kept_first_alone : AreKept order items others new (λ a b. a && not b)
-          → HoldsFirstAlone order items others new
-      kept_first_alone kept k key =
-          by_test (λ a b. a && not b) refl items others new kept k key first_alone_is
-
       pub kept_just_one : AreKept order items others new (λ a b. not (beq a b))
           → HoldsJustOne order items others new
       kept_just_one kept k key =

@@ -1,8 +1,7 @@
 -- What the ranges of one list have and those of another have not: what is made of those so far, and
 -- what is left.
-use Rattle.std.proofs.Common.{◌≡◌, refl, ◌↔◌, ◌⊎◌, inl, inr, List, [], ◌∷◌, Some, None, arith}
+use Rattle.std.proofs.Common.{◌≡◌, refl, ◌↔◌, ◌⊎◌, inl, inr, List, [], ◌∷◌, Some, arith}
 use Rattle.std.specs.declared.cmp.Ordering.{Ordering}
-use Rattle.std.specs.declared.cmp.Ordering.TheVariants.{Equal}
 use Rattle.std.specs.declared.ops.Bound.{Bound}
 use Rattle.std.specs.List.{AllByRecursion as Every}
 use Rattle.range_keys.specs.Order.{KeyOrder, IsLawful}
@@ -19,7 +18,7 @@ use Rattle.range_algebra.specs.declared.any.AnyRange.{AnyRange}
 use Rattle.range_algebra.proofs.Lists.{every_weaker}
 use Rattle.range_algebra.proofs.Positions.{flipped_back, flipped_bound_is_past, flipped_known, held_between, reaching_is_before_past}
 use Rattle.range_store.specs.declared.storage.Item.{Item}
-use Rattle.range_runs.specs.Stored.{item_lower, item_upper}
+use Rattle.range_runs.specs.Stored.{item_upper}
 use Rattle.range_runs.proofs.Extents.{past_le}
 use Rattle.range_runs.proofs.Forms.{Known, Chained, before_is, chain_stored}
 use Rattle.range_runs.proofs.PlaceOrder.{cases, eq_ge, eq_le, le_refl, le_trans, lt_le, le_lt_trans, lt_le_trans, lt_not_le, not_le, not_lt}
@@ -86,20 +85,6 @@ module _ {K : Type 0} {order : KeyOrder K} (lawful : IsLawful order) where
           upto = inl above;
         }
 
-    -- the range starts past the other
-    pub kept_rest : (¬ Le cmp (start_position order r.start) (end_position order s.end))
-        → IsRest order r s r
-    kept_rest none =
-        record {
-          placed = placed;
-          end = refl;
-          above = le_refl lawful (lower order r);
-          past =
-              (before_is order lawful s.end r.start other.known.1 placed.known.0).0
-              (not_le lawful (end_position order s.end) (start_position order r.start) none);
-          from = inl (le_refl lawful (lower order r));
-        }
-
     -- the range starts before the other ends, and goes on past that
     pub turned_rest : (i : Bound K) → flipped s.end ≡ Some i
         → Lt cmp (end_position order s.end) (end_position order r.end)
@@ -143,13 +128,6 @@ module _ {K : Type 0} {order : KeyOrder K} (lawful : IsLawful order) where
           let within = (held_between order lawful front k is.placed.known key).0 h in
           (held_between order lawful r k placed.known key).1
           (rw front_lower at within.0, lt_le_trans lawful (Beside k At) _ _ within.1 is.below)
-
-      front_off : (k : K) → order.is_key k → Holds order front k → ¬ Holds order s k
-      front_off k key h held =
-          lt_not_le lawful (Beside k At) (lower order s)
-          (lt_le_trans lawful (Beside k At) (upper order front) (lower order s)
-          ((held_between order lawful front k is.placed.known key).0 h).1 is.before)
-          ((held_between order lawful s k other.known key).0 held).0
 
       front_has : (k : K) → order.is_key k → Holds order r k
           → Lt cmp (Beside k At) (lower order s) → Holds order front k
