@@ -4,8 +4,8 @@ pub mod Escapes
 pub mod FaultLines
 pub mod Lists
 pub mod Machines
+pub mod ModeNames
 pub mod RuleLines
-pub mod Steps
 pub mod TableLines
 pub mod Warned
 pub mod Written

@@ -1,13 +1,13 @@
 -- Lines of rules, read one after the other.
 use Rattle.std.proofs.Common.{◌≡◌, refl, sym, ◌∙◌, ℕ, ◌+◌, ◌<◌, Bool, true, false, List, [], ◌∷◌, ◌++◌, length, inl, inr, get_or, take, take_all, not, cond, Some, append-nil, append_assoc, arith}
 use Rattle.std.proofs.lemmas.Bool.Decides.{nat_tests}
-use Rattle.std.proofs.lemmas.List.{take_more, take-append-le}
+use Rattle.std.proofs.lemmas.List.{take-append-le}
 use Rattle.std.proofs.lemmas.Option.{slice_get_cases, slice_get_within}
 use Rattle.std.specs.List.{slice_get, AllZip}
 use Rattle.std.specs.Str.{trim}
-use Rattle.lexing_patterns.specs.declared.patterns.PatternRule.{PatternRule}
+use Rattle.lexing_mode_patterns.specs.declared.rules.ModeRule.{ModeRule}
 use Rattle.tokens.specs.Rules.{says_nothing, AreNumbered, AreRulesUpTo, IsNumbered, IsRule, rule_lines}
-use Rattle.tokens.proofs.Lists.{push_at, zip_more}
+use Rattle.tokens.proofs.Lists.{push_at, take_item, zip_more}
 
 -- the lines of rules, with a line more
 nothing_more : (all : List (List ℕ)) (line : List ℕ) → says_nothing (trim line) ≡ true
@@ -26,39 +26,35 @@ rule_more (x ∷ all) line is = rw (rule_more all line is) (pulled (says_nothing
     pulled true = refl
     pulled false = refl
 
-module _ (all : List (List ℕ)) where
-  line_more : (at : ℕ) (line : List ℕ) → slice_get all at ≡ Some line
-      → take (at + 1) all ≡ take at all ++ line ∷ []
-  line_more at line there = grind (arith, take_more all at line, slice_get_cases all at)
-
-  pub read_none : AreRulesUpTo all 0 []
+module _ (names all : List (List ℕ)) where
+  pub read_none : AreRulesUpTo names all 0 []
   read_none = tt
 
-  pub read_nothing : (at : ℕ) (line : List ℕ) (rules : List PatternRule)
+  pub read_nothing : (at : ℕ) (line : List ℕ) (rules : List ModeRule)
       → slice_get all at ≡ Some line → says_nothing (trim line) ≡ true
-      → AreRulesUpTo all at rules → AreRulesUpTo all (at + 1) rules
+      → AreRulesUpTo names all at rules → AreRulesUpTo names all (at + 1) rules
   read_nothing at line rules there nothing was =
-      rw (line_more at line there, nothing_more (take at all) line nothing) was
+      rw (take_item all at line there, nothing_more (take at all) line nothing) was
 
-  pub read_rule : (at : ℕ) (line : List ℕ) (rules after : List PatternRule) (rule : PatternRule)
-      → slice_get all at ≡ Some line → IsRule (trim line) rule → after ≡ rules ++ rule ∷ []
-      → AreRulesUpTo all at rules → AreRulesUpTo all (at + 1) after
+  pub read_rule : (at : ℕ) (line : List ℕ) (rules after : List ModeRule) (rule : ModeRule)
+      → slice_get all at ≡ Some line → IsRule names (trim line) rule → after ≡ rules ++ rule ∷ []
+      → AreRulesUpTo names all at rules → AreRulesUpTo names all (at + 1) after
   read_rule at line rules after rule there is pushed was =
-      rw (line_more at line there, rule_more (take at all) line is.says, pushed)
-      (zip_more IsRule (rule_lines (take at all)) rules (trim line) rule was is)
+      rw (take_item all at line there, rule_more (take at all) line is.says, pushed)
+      (zip_more (IsRule names) (rule_lines (take at all)) rules (trim line) rule was is)
 
-  pub read_all : (at : ℕ) (rules : List PatternRule) → at ≡ length all → AreRulesUpTo all at rules
-      → AllZip IsRule (rule_lines all) rules
+  pub read_all : (at : ℕ) (rules : List ModeRule) → at ≡ length all → AreRulesUpTo names all at rules
+      → AllZip (IsRule names) (rule_lines all) rules
   read_all at rules ended was = rw (take_all at all (omega (arith, ended))) at was
 
-  pub numbered_none : AreNumbered all [] []
+  pub numbered_none : AreNumbered names all [] []
   numbered_none i number rule at there = grind (arith, slice_get_within [] i number at)
 
   -- a rule more, with its number
-  pub numbered_more : (numbers : List ℕ) (rules : List PatternRule) (number : ℕ) (rule : PatternRule)
-      → length numbers ≡ length rules → AreNumbered all numbers rules
-      → IsNumbered (λ line. IsRule line rule) all number rules
-      → AreNumbered all (numbers ++ number ∷ []) (rules ++ rule ∷ [])
+  pub numbered_more : (numbers : List ℕ) (rules : List ModeRule) (number : ℕ) (rule : ModeRule)
+      → length numbers ≡ length rules → AreNumbered names all numbers rules
+      → IsNumbered names (λ line. IsRule names line rule) all number rules
+      → AreNumbered names all (numbers ++ number ∷ []) (rules ++ rule ∷ [])
   numbered_more numbers rules number rule same was new i n r at there =
       elim (push_at numbers number i n at) [
         | inl (old, within) ↦ elim (push_at rules rule i r there) [

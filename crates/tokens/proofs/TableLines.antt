@@ -9,13 +9,17 @@ use Rattle.std.specs.Io.KnownBytes.{Appends}
 use Rattle.line_program.specs.Listing.{Writes}
 use Rattle.line_program.proofs.Listing.{append_nil, appends_none, appends_then}
 use Rattle.lexing.specs.declared.lexer.Lexer.{Lexer}
+use Rattle.lexing.specs.Lexers.{IsNameOf}
 use Rattle.lexing_patterns.specs.declared.patterns.PatternRule.{PatternRule}
-use Rattle.regex_hir.specs.Re.{Re}
 use Rattle.tokens.specs.declared.language.Language.{Language}
-use Rattle.tokens.specs.Printing.{IsOfRules}
+use Rattle.lexing_mode_patterns.specs.Rules.{IsOfRules}
 use Rattle.tokens.specs.TableTexts.{WritesRule, rule_line, rule_lines}
 use Rattle.tokens.proofs.Lists.{item_drop}
-use Rattle.tokens.proofs.Steps.{one_name}
+
+-- the name of a rule is one
+one_name : (lexer : Lexer) (i : ℕ) (one other : List ℕ) → IsNameOf lexer i one
+    → IsNameOf lexer i other → one ≡ other
+one_name lexer i one other h k = grind arith
 
 -- the text of an item more
 pub flat_more : {X : Type 0} (f : X → List ℕ) (xs : List X) (at : ℕ) (x : X)
@@ -39,11 +43,11 @@ flat_all f xs at before now ended so_far =
 
 module _ (language : Language) (rules : List PatternRule) where
   -- what is written of a rule of the lexer is the line of the rule
-  pub rule_line_is : (patterns : List Re) (lexer : Lexer) → IsOfRules rules patterns lexer
+  pub rule_line_is : (lexer : Lexer) → IsOfRules rules lexer
       → (number : ℕ) (line : List ℕ) → WritesRule language lexer number line
       → (rule : PatternRule) → slice_get rules number ≡ Some rule
       → line ≡ rule_line language rule.name.now rule.skipped
-  rule_line_is patterns lexer is number line writes rule there =
+  rule_line_is lexer is number line writes rule there =
       grind (arith, nat_tests, is.skips number rule, one_name lexer number, is.named number rule)
 
   -- the lines of the first rules are written

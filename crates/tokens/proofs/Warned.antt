@@ -8,12 +8,12 @@ use Rattle.line_program.specs.Listing.{Writes}
 use Rattle.line_program.proofs.Listing.{append_nil, appends_none, appends_then}
 use Rattle.lexing.specs.declared.lexer.Lexer.{Lexer}
 use Rattle.lexing.specs.declared.table.TableState.{TableState}
-use Rattle.lexing_patterns.specs.declared.patterns.PatternRule.{PatternRule}
+use Rattle.lexing_mode_patterns.specs.declared.rules.ModeRule.{ModeRule}
 use Rattle.tokens.specs.Warnings.{IsWarned, Warns, warning}
 use Rattle.tokens.proofs.Lists.{item_drop}
 
 module _ (lexer : Lexer) (table : List TableState) (path : List ℕ) (numbers : List ℕ)
-    (rules : List PatternRule) where
+    (rules : List ModeRule) where
   -- what is said of the rules before this one is written
   pub record HasWarned (rule : ℕ) (before now : Option (List ℕ)) : Type 0 where
     pub written : List ℕ
@@ -26,10 +26,10 @@ module _ (lexer : Lexer) (table : List TableState) (path : List ℕ) (numbers : 
   warned_none known =
       record { written = []; appended = appends_none known; goes_on = λ more is. is }
 
-  pub warned_more : (rule number : ℕ) (this : PatternRule) (before now after : Option (List ℕ))
+  pub warned_more : (rule number : ℕ) (this : ModeRule) (before now after : Option (List ℕ))
       → slice_get numbers rule ≡ Some number → slice_get rules rule ≡ Some this
       → HasWarned rule before now
-      → Writes now after (Warns lexer table path rule number this.name.now)
+      → Writes now after (Warns lexer table path rule number this.rule.name.now)
       → HasWarned (rule + 1) before after
   warned_more rule number this before now after at there was (line, warns, more) = record {
     written = was.written ++ line;

@@ -1,59 +1,119 @@
--- What is shown and printed of a text so far.
-use Rattle.std.proofs.Common.{arith, ◌≡◌, refl, ℕ, Bool, true, ◌&&◌, List, [], ◌++◌, length, Option, append_assoc}
+-- What is written of tokens, one after the other.
+use Rattle.std.proofs.Common.{◌≡◌, refl, sym, ap, subst, ◌∙◌, ℕ, Bool, true, false, ◌&&◌, cond, ◌==◌, List, [], ◌∷◌, ◌++◌, Option, Some, None, Ok, Err, append_assoc}
 use Rattle.std.proofs.Math.Bool.{and_assoc, and-true}
 use Rattle.std.specs.Io.KnownBytes.{Appends}
-use Rattle.line_program.specs.Listing.{Writes}
+use Rattle.line_program.specs.Listing.{SpellsEach, Writes}
 use Rattle.line_program.proofs.Listing.{append_nil, appends_none, appends_then}
-use Rattle.lexing_patterns.specs.declared.patterns.PatternRule.{PatternRule}
-use Rattle.regex_hir.specs.Re.{Re}
-use Rattle.tokens.specs.Printing.{Shown, IsStep, IsShown}
-use Rattle.tokens.specs.Printing.IsShown.{At_end, Behind}
+use Rattle.std.specs.Prelude.{◌≤◌, IfOk, IfSome, MatchOption}
+use Rattle.std.specs.Borrow.{Bor}
+use Rattle.std.specs.Iterator.{YieldsThen}
+use Rattle.lexing.specs.declared.lexer.Lexer.{Lexer}
+use Rattle.lexing.specs.declared.machine.Machine.{Machine}
+use Rattle.lexing.specs.declared.place.Place.{Place}
+use Rattle.lexing.specs.Lexers.{IsNameOf, rule_count}
+use Rattle.lexing.specs.MachineSteps.{lexer_of}
+use Rattle.lexing.specs.Places.{place_at}
+use Rattle.lexing_modes.specs.declared.modes.Modes.{Modes}
+use Rattle.lexing_modes.specs.declared.token.ModeToken.{ModeToken}
+use Rattle.lexing_modes.specs.declared.tokens.ModeTokens.{ModeTokens}
+use Rattle.lexing_modes.specs.Left.{GivesNext}
+use Rattle.lexing_modes.specs.Modes.{IsScannerOf}
+use Rattle.tokens.specs.declared.form.Form.{Form}
+use Rattle.tokens.specs.Counts.{rules_in}
+use Rattle.tokens.specs.Printing.{AreTokensOf, IsLine, IsNameIn, Next, are_tokens, is_token}
 
-module _ (rules : List PatternRule) (patterns : List Re) (shown : Shown) (text : List ℕ) where
-  -- this is shown of the text up to the place
-  pub record HasShown (is_whole : Bool) (at : ℕ) (front : List ℕ) : Type 0 where
-    pub goes_on : (rest : Bool) (more : List ℕ) → IsShown rules patterns shown text rest at more
-        → IsShown rules patterns shown text (is_whole && rest) 0 (front ++ more)
+-- a line more
+spells_more : {X : Type 0} (S : X → List ℕ → Type 0) (xs : List X) (x : X) (text line : List ℕ)
+    → SpellsEach S xs text → S x line → SpellsEach S (xs ++ x ∷ []) (text ++ line)
+spells_more S [] x text line is one = rw is (line, [], one, refl, sym (append_nil line))
+spells_more S (y ∷ xs) x text line (first, rest, one, more, is) last = (
+  first,
+  rest ++ line,
+  one,
+  spells_more S xs x rest line more last,
+  ap (λ t. t ++ line) is ∙ append_assoc first rest line,
+)
 
-  pub shown_none : HasShown true 0 []
-  shown_none = record { goes_on = λ rest more is. is }
+-- whether all are tokens, with one more
+pub all_more : (items : List Next) (next : Next)
+    → are_tokens (items ++ next ∷ []) ≡ (are_tokens items && is_token next)
+all_more [] next = and-true (is_token next)
+all_more (first ∷ items) next =
+    ap (λ b. is_token first && b) (all_more items next)
+    ∙ sym (and_assoc (is_token first) (are_tokens items) (is_token next))
 
-  pub shown_more : (is_whole is_token : Bool) (at next : ℕ) (front line : List ℕ)
-      → HasShown is_whole at front → IsStep rules patterns shown text is_token at line next
-      → HasShown (is_whole && is_token) next (front ++ line)
-  shown_more is_whole is_token at next front line was step = record {
-    goes_on = λ rest more is.
-        rw (append_assoc front line more, and_assoc is_whole is_token rest)
-        (was.goes_on (is_token && rest) (line ++ more)
-        (Behind is_token rest _ at next line more _ step is refl refl));
-  }
+-- the rules of tokens of a mode, with one more
+pub rules_more : (mode : ℕ) (items : List Next) (next : Next)
+    → rules_in mode (items ++ next ∷ []) ≡ rules_in mode items ++ rules_in mode (next ∷ [])
+rules_more mode [] next = refl
+rules_more mode (Ok found ∷ items) next = rw (rules_more mode items next) (pulled (found.mode == mode))
+  where
+    pulled : (is : Bool) → cond is (found.token.rule ∷ (rules_in mode items ++ rules_in mode (next ∷ [])))
+        (rules_in mode items ++ rules_in mode (next ∷ []))
+        ≡ cond is (found.token.rule ∷ rules_in mode items) (rules_in mode items)
+        ++ rules_in mode (next ∷ [])
+    pulled true = refl
+    pulled false = refl
+rules_more mode (Err error ∷ items) next = rules_more mode items next
 
-  pub shown_all : (is_whole : Bool) (at : ℕ) (front : List ℕ) → at ≡ length text
-      → HasShown is_whole at front → IsShown rules patterns shown text is_whole 0 front
-  shown_all is_whole at front ended was =
-      rw (append_nil front, and-true is_whole) at (was.goes_on true [] (At_end at ended))
-
-  -- what is written is shown of the text up to the place
-  pub record HasPrinted (is_whole : Bool) (at : ℕ) (before now : Option (List ℕ)) : Type 0 where
+module _ (modes : Modes Machine) (form : Form) (text : List ℕ) where
+  -- the lines of these are written, and so it is whether all of them are tokens
+  pub record HasPrinted (is_whole : Bool) (items : List Next) (before now : Option (List ℕ))
+      : Type 0 where
     pub written : List ℕ
     pub appended : Appends before now written
-    pub shows : HasShown is_whole at written
+    pub whole : is_whole ≡ are_tokens items
+    pub spells : SpellsEach (IsLine modes form text) items written
 
-  pub printed_none : (known : Option (List ℕ)) → HasPrinted true 0 known known
+  pub printed_none : (known : Option (List ℕ)) → HasPrinted true [] known known
   printed_none known =
-      record { written = []; appended = appends_none known; shows = shown_none }
+      record { written = []; appended = appends_none known; whole = refl; spells = refl }
 
-  pub printed_more : (is_whole is_token : Bool) (at next : ℕ) (before now after : Option (List ℕ))
-      → HasPrinted is_whole at before now
-      → Writes now after (λ line. IsStep rules patterns shown text is_token at line next)
-      → HasPrinted (is_whole && is_token) next before after
-  printed_more is_whole is_token at next before now after printed (line, step, more) = record {
-    written = printed.written ++ line;
-    appended = appends_then before now after printed.written line printed.appended more;
-    shows = shown_more is_whole is_token at next printed.written line printed.shows step;
-  }
+  pub printed_more : (is_whole is_one both : Bool) (items : List Next) (next : Next)
+      (before now after : Option (List ℕ)) → HasPrinted is_whole items before now
+      → both ≡ (is_whole && is_one) → is_one ≡ is_token next
+      → Writes now after (IsLine modes form text next)
+      → HasPrinted both (items ++ next ∷ []) before after
+  printed_more is_whole is_one both items next before now after was joined one (line, is, more) =
+      record {
+        written = was.written ++ line;
+        appended = appends_then before now after was.written line was.appended more;
+        whole = joined ∙ ap (λ b. b && is_one) was.whole ∙ ap (λ b. are_tokens items && b) one
+            ∙ sym (all_more items next);
+        spells = spells_more (IsLine modes form text) items next was.written line was.spells is;
+      }
 
-  pub printed_all : (is_whole : Bool) (at : ℕ) (before now : Option (List ℕ)) → at ≡ length text
-      → HasPrinted is_whole at before now
-      → Writes before now (IsShown rules patterns shown text is_whole 0)
-  printed_all is_whole at before now ended printed = grind (arith, shown_all)
+-- a token begins at this place
+pub begins_here : (text : List ℕ) (next : Next) (start : ℕ) (place : Place)
+    → IfOk next (λ found. start ≡ found.token.start) → place ≡ place_at text start
+    → IfOk next (λ found. place ≡ place_at text found.token.start)
+begins_here text (Ok found) start place is here = here ∙ ap (place_at text) is
+begins_here text (Err error) start place is here = tt
+
+-- a name that a lexer has is that of the rule in the mode
+pub name_found : (modes : Modes Machine) (found : ModeToken) (machine : Machine) (lexer : Lexer)
+    (r : Option (Bor (List ℕ))) → IsScannerOf modes found.mode machine → lexer ≡ lexer_of machine
+    → MatchOption r (rule_count lexer ≤ found.token.rule)
+    (λ name. IsNameOf lexer found.token.rule name.now)
+    → IfSome r (λ name. IsNameIn modes found name.now)
+name_found modes found machine lexer None scanner same named = tt
+name_found modes found machine lexer (Some name) scanner same named =
+    (machine, scanner, rw same at named)
+
+-- what all calls of `next` give from tokens that are these
+pub given_from : (modes : Modes Machine) (text : List ℕ) (start other last : ModeTokens Machine)
+    (items : List Next) → other ≡ start
+    → ((given : List Next) (end : ModeTokens Machine)
+    → YieldsThen (GivesNext lexer_of (λ machine. ⊥)) start given None end
+    → AreTokensOf modes text given)
+    → YieldsThen (GivesNext lexer_of (λ machine. ⊥)) other items None last
+    → AreTokensOf modes text items
+given_from modes text start other last items same whole run =
+    whole items last
+    (subst (λ s. YieldsThen (GivesNext lexer_of (λ machine. ⊥)) s items None last) same run)
+
+-- what holds of a text that is known
+pub text_as : (known : Option (List ℕ)) (P : List ℕ → Type 0) (text : List ℕ)
+    → IfSome known (λ all. text ≡ all) → P text → IfSome known P
+text_as None P text is holds = tt
+text_as (Some all) P text is holds = subst P is holds

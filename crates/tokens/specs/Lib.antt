@@ -2,10 +2,12 @@ pub mod Complaints
 pub mod Counts
 pub mod Escaping
 pub mod Faults
+pub mod Heads
 pub mod Lines
 pub mod Printing
 pub mod Reading
 pub mod Rules
 pub mod TableTexts
+pub mod Tails
 pub mod Texts
 pub mod Warnings

@@ -4,7 +4,7 @@ use Rattle.std.specs.Str.Lines.{lines}
 use Rattle.lexing.specs.declared.lexer.Lexer.{Lexer}
 use Rattle.lexing.specs.declared.table.TableState.{TableState}
 use Rattle.lexing.specs.Tables.{HasNoToken, IsTableOf, LeadsToRule}
-use Rattle.lexing_patterns.specs.declared.patterns.PatternRule.{PatternRule}
+use Rattle.lexing_mode_patterns.specs.declared.rules.ModeRule.{ModeRule}
 use Rattle.tokens.specs.Rules.{AreNumbered, AreRulesOf}
 
 abbrev pub warning : List ℕ → ℕ → List ℕ → List ℕ
@@ -20,16 +20,17 @@ module _ (lexer : Lexer) (table : List TableState) (path : List ℕ) where
       ⊎ ((¬ LeadsToRule table rule) × HasNoToken lexer rule × (line ≡ warning path number name))
 
   -- what is said of rules, the first of which is the rule of this number, with those of their lines
-  abbrev pub IsWarned : ℕ → List ℕ → List PatternRule → List ℕ → Type 0
+  abbrev pub IsWarned : ℕ → List ℕ → List ModeRule → List ℕ → Type 0
   IsWarned rule [] [] said = said ≡ []
   IsWarned rule [] (first ∷ rules) said = ⊥
   IsWarned rule (number ∷ numbers) [] said = ⊥
   IsWarned rule (number ∷ numbers) (first ∷ rules) said = (line : List ℕ) × (more : List ℕ)
-      × Warns rule number first.name.now line × IsWarned (rule + 1) numbers rules more
+      × Warns rule number first.rule.name.now line × IsWarned (rule + 1) numbers rules more
       × (said ≡ line ++ more)
 
 -- what is said of the rules of a text that the lexer has
 abbrev pub AreWarnings : List ℕ → List ℕ → Lexer → List ℕ → Type 0
-AreWarnings path text lexer said = (rules : List PatternRule) × (numbers : List ℕ)
-    × (table : List TableState) × AreRulesOf text rules × AreNumbered (lines text) numbers rules
-    × IsTableOf lexer table × IsWarned lexer table path 0 numbers rules said
+AreWarnings path text lexer said = (names : List (List ℕ)) × (rules : List ModeRule)
+    × (numbers : List ℕ) × (table : List TableState) × AreRulesOf text names rules
+    × AreNumbered names (lines text) numbers rules × IsTableOf lexer table
+    × IsWarned lexer table path 0 numbers rules said

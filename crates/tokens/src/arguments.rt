@@ -24,6 +24,10 @@ With no file, or for -, it reads standard input.
 
 A line of the rules is NAME PATTERN, or skip PATTERN for what is left out. Patterns are those of
 Rust's regex, without assertions. The longest match makes a token, by the first such rule.
+
+Before a rule may stand the modes in which it holds: <MODE,MODE> NAME PATTERN. Others hold in the
+mode initial, in which a text begins. Behind it may stand the mode after its tokens: -> MODE, or
+-> push MODE over the present one, or -> pop for the one below. A table has no modes.
 ";
 
 /// What `--version` prints.

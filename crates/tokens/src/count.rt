@@ -1,128 +1,146 @@
 //! How many tokens each rule has.
-ghost use Rattle.std.specs.Prelude.{◌≡◌, ◌+◌, ◌<◌, ◌^◌, ◌∷◌, [], ◌++◌, List, Ok, true, length, IfOk, IfErr, IfSome, OnOk, ℕ};
-ghost use Rattle.std.specs.Io.KnownBytes.{Appends};
+ghost use Rattle.std.specs.Prelude.{◌≡◌, ◌∷◌, [], ◌++◌, List, Ok, true, length, IfOk, IfErr, IfSome, OnOk, ℕ};
 ghost use Rattle.line_program.specs.Listing.{Writes};
-ghost use Rattle.lexing_patterns.specs.declared.patterns.PatternRule.{PatternRule};
-ghost use Rattle.regex_hir.specs.Re.{Re};
+ghost use Rattle.lexing.specs.Lexers.{rule_count};
 ghost use Rattle.tokens.specs.declared.form.Form.TheVariants.{Silent};
-ghost use Rattle.tokens.specs.Printing.{AreNumbers, IsOfRules};
-ghost use Rattle.tokens.specs.Counts.{AreCounts, IsCounted, WritesCount, count_lines, numbers_of};
+ghost use Rattle.tokens.specs.Printing.{Next, is_token};
+ghost use Rattle.tokens.specs.Counts.{AreCountLines, AreCounts, HasNumbersIn, IsCounted, IsModeCounted, WritesCount, rules_in};
 ghost use Rattle.tokens.specs.Texts.{TellsFault};
 
-use crate::pieces::{Piece, piece_at};
 use crate::printing::{Printer, both, print_tokens};
 use crate::texts::{Stop, bytes_of, text_in};
-use lexing::Scanner;
+use lexing::Lexer;
+use lexing_modes::{ModeToken, TokenError};
 use std::io::{self, ErrorKind, Read, Write};
 
 /// Counts a token of the rule.
-fn add_one(counts: &mut [usize], rule: u32)
+fn add_one(counts: &mut [usize], rule: u32) -> io::Result<()>
     ensures len { length counts.new ≡ length counts.old }
-    ensures counted { (numbers : List ℕ) → length numbers + 1 < 2 ^ 64 → rule < length counts.old
-        → AreCounts numbers counts.old → AreCounts (numbers ++ rule ∷ []) counts.new }
+    ensures counted { (numbers : List ℕ) → AreCounts numbers counts.old
+        → OnOk result (AreCounts (numbers ++ rule ∷ []) counts.new) }
 {
     let rule = rule as usize;
     if rule < counts.len() {
-        counts[rule] = counts[rule].saturating_add(1);
+        let Some(count) = counts[rule].checked_add(1) else {
+            return Err(io::Error::from(ErrorKind::InvalidData));
+        };
+        counts[rule] = count;
     }
+    Ok(())
 }
 
-/// Counts the token that the piece is, if it is one.
-fn add_piece(counts: &mut [usize], piece: Piece)
-    ensures len { length counts.new ≡ length counts.old }
-    ensures counted { (numbers : List ℕ) → length numbers + 1 < 2 ^ 64
-        → IfSome piece.rule (λ rule. rule < length counts.old) → AreCounts numbers counts.old
-        → AreCounts (numbers ++ numbers_of piece.rule) counts.new }
-{
-    if let Some(rule) = piece.rule {
-        add_one(counts, rule);
-    }
-}
-
-/// Counts the tokens of the text by their rules, and returns whether they are all of it.
-fn count_tokens<S: Scanner>(
-    printer: &Printer<S>,
-    text: &str,
+/// Counts the token if it is one of the mode; whether it is a token at all.
+fn add_next(
     counts: &mut [usize],
+    mode: u32,
+    next: Result<ModeToken, TokenError>,
 ) -> io::Result<bool>
-    requires { printer.now.lexer.now ≡ S.lexer printer.now.scanner.now }
     ensures len { length counts.new ≡ length counts.old }
-    ensures counted { (rules : List PatternRule) (patterns : List Re)
-        → IsOfRules rules patterns printer.now.lexer.now → length counts.old ≡ length rules
-        → AreCounts [] counts.old → IfOk result (λ is_whole. (numbers : List ℕ)
-        × AreNumbers rules patterns text.now is_whole 0 numbers × AreCounts numbers counts.new) }
+    ensures token { IfOk result (λ is_one. is_one ≡ is_token next) }
+    ensures counted { (numbers : List ℕ) → AreCounts numbers counts.old
+        → OnOk result (AreCounts (numbers ++ rules_in mode (next ∷ [])) counts.new) }
+{
+    match next {
+        Ok(found) => {
+            if found.mode == mode {
+                add_one(counts, found.token.rule)?;
+            }
+            Ok(true)
+        }
+        Err(TokenError::Memory) => Err(io::Error::from(ErrorKind::OutOfMemory)),
+        Err(_) => Ok(false),
+    }
+}
+
+/// Counts the tokens of the mode by their rules, and returns whether tokens are all of the text.
+fn count_tokens(printer: &Printer, text: &str, mode: u32, counts: &mut [usize]) -> io::Result<bool>
+    ensures len { length counts.new ≡ length counts.old }
+    ensures counted { AreCounts [] counts.old → IfOk result (λ is_whole. (numbers : List ℕ)
+        × HasNumbersIn printer.now.modes.now text.now mode is_whole numbers
+        × AreCounts numbers counts.new) }
 {
     let mut is_whole = true;
-    let mut at = 0;
-    while at < text.len() {
-        let piece = piece_at(printer.scanner, text, at)?;
-        add_piece(counts, piece);
-        is_whole = both(is_whole, piece.rule.is_some());
-        at = piece.end;
+    for next in printer.modes.tokens(text) {
+        let is_one = add_next(counts, mode, next)?;
+        is_whole = both(is_whole, is_one);
     }
     Ok(is_whole)
 }
 
-/// Writes how many tokens a rule has, unless it has none or they are skipped.
-fn write_count<S: Scanner, W: Write>(
-    printer: &Printer<S>,
-    rule: usize,
-    count: usize,
-    out: &mut W,
-) -> io::Result<()>
-    requires { printer.now.lexer.now ≡ S.lexer printer.now.scanner.now }
+/// Writes how many tokens a rule has, unless it has none.
+fn write_count<W: Write>(lexer: &Lexer, rule: usize, count: usize, out: &mut W) -> io::Result<()>
     ensures { OnOk result (Writes (W.contents out.old) (W.contents out.new)
-        (WritesCount printer.now.lexer.now rule count)) }
+        (WritesCount lexer.now rule count)) }
 {
+    if count == 0 {
+        return Ok(());
+    }
     let Ok(rule) = u32::try_from(rule) else {
         return Err(io::Error::from(ErrorKind::InvalidData));
     };
-    if count == 0 || printer.scanner.is_skipped(rule) {
-        return Ok(());
-    }
-    match printer.lexer.name(rule) {
+    match lexer.name(rule) {
         Some(name) => writeln!(out, "{name} {count}"),
         None => Err(io::Error::from(ErrorKind::InvalidData)),
     }
 }
 
-fn write_counts<S: Scanner, W: Write>(
-    printer: &Printer<S>,
-    counts: &[usize],
-    out: &mut W,
-) -> io::Result<()>
-    requires { printer.now.lexer.now ≡ S.lexer printer.now.scanner.now }
-    ensures { (rules : List PatternRule) (patterns : List Re) (numbers : List ℕ)
-        → IsOfRules rules patterns printer.now.lexer.now → length counts.now ≡ length rules
+fn write_counts<W: Write>(lexer: &Lexer, counts: &[usize], out: &mut W) -> io::Result<()>
+    ensures { (numbers : List ℕ) → length counts.now ≡ rule_count lexer.now
         → AreCounts numbers counts.now
-        → OnOk result (Appends (W.contents out.old) (W.contents out.new)
-        (count_lines rules 0 numbers)) }
+        → OnOk result (Writes (W.contents out.old) (W.contents out.new)
+        (AreCountLines lexer.now numbers (rule_count lexer.now))) }
 {
     for rule in 0..counts.len() {
-        write_count(printer, rule, counts[rule], out)?;
+        write_count(lexer, rule, counts[rule], out)?;
     }
     Ok(())
 }
 
-/// Prints how many tokens each rule has, and returns whether they are all of the text.
-fn print_counts<S: Scanner, W: Write, E: Write>(
-    printer: &Printer<S>,
+/// Prints how many tokens each rule has in the mode; whether tokens are all of the text.
+fn print_mode<W: Write>(printer: &Printer, text: &str, mode: u32, out: &mut W) -> io::Result<bool>
+    ensures { IfOk result (λ is_whole. Writes (W.contents out.old) (W.contents out.new)
+        (IsModeCounted printer.now.modes.now text.now mode is_whole)) }
+{
+    let Some(machine) = printer.modes.scanner(mode) else {
+        return Err(io::Error::from(ErrorKind::InvalidData));
+    };
+    let lexer = machine.lexer();
+    let mut counts: Vec<usize> = vec![in printer.alloc; 0; lexer.rule_count()]?;
+    let is_whole = count_tokens(printer, text, mode, &mut counts)?;
+    write_counts(lexer, &counts, out)?;
+    Ok(is_whole)
+}
+
+/// Prints how many tokens each rule has, mode by mode; whether tokens are all of the text.
+fn print_modes<W: Write>(printer: &Printer, text: &str, out: &mut W) -> io::Result<bool>
+    ensures { IfOk result (λ is_whole. Writes (W.contents out.old) (W.contents out.new)
+        (IsCounted printer.now.modes.now text.now is_whole)) }
+{
+    let Ok(count) = u32::try_from(printer.modes.mode_count()) else {
+        return Err(io::Error::from(ErrorKind::InvalidData));
+    };
+    let mut is_whole = true;
+    for mode in 0..count {
+        let is_one = print_mode(printer, text, mode, out)?;
+        is_whole = both(is_whole, is_one);
+    }
+    Ok(is_whole)
+}
+
+/// Prints how many tokens each rule has, and returns whether tokens are all of the text.
+fn print_counts<W: Write, E: Write>(
+    printer: &Printer,
     path: &str,
     text: &str,
     out: &mut W,
     err: &mut E,
 ) -> io::Result<bool>
-    requires same { printer.now.lexer.now ≡ S.lexer printer.now.scanner.now }
     requires silent { printer.now.form ≡ Silent }
-    ensures counted { (rules : List PatternRule) (patterns : List Re)
-        → IsOfRules rules patterns printer.now.lexer.now
-        → IfOk result (λ is_whole. Writes (W.contents out.old) (W.contents out.new)
-        (IsCounted rules patterns text.now is_whole)) }
+    ensures counted { IfOk result (λ is_whole. Writes (W.contents out.old) (W.contents out.new)
+        (IsCounted printer.now.modes.now text.now is_whole)) }
     ensures silent { result ≡ Ok true → err.new ≡ err.old }
 {
-    let mut counts: Vec<usize> = vec![in printer.alloc; 0; printer.lexer.rule_count()]?;
-    let is_whole = count_tokens(printer, text, &mut counts)?;
-    write_counts(printer, &counts, out)?;
+    let is_whole = print_modes(printer, text, out)?;
     if is_whole {
         return Ok(true);
     }
@@ -130,23 +148,20 @@ fn print_counts<S: Scanner, W: Write, E: Write>(
     Ok(false)
 }
 
-/// Prints how many tokens of the text that the reader gives each rule has: a line `NAME COUNT` for
-/// each rule that has one and is not skipped, in the order of the rules. The printer is a silent
-/// one. The rest is as of `serve`.
-pub fn serve_counts<S: Scanner, R: Read + Drop, W: Write, E: Write>(
-    printer: &Printer<S>,
+/// Prints how many tokens of the text that the reader gives each rule has: for each mode, a line
+/// `NAME COUNT` for each rule that has one and is not skipped, in the order of the rules. The printer
+/// is a silent one. The rest is as of `serve`. Cuts the text once for each mode.
+pub fn serve_counts<R: Read + Drop, W: Write, E: Write>(
+    printer: &Printer,
     path: &str,
     input: R,
     out: &mut W,
     err: &mut E,
 ) -> Result<bool, Stop>
-    requires same { printer.now.lexer.now ≡ S.lexer printer.now.scanner.now }
     requires silent { printer.now.form ≡ Silent }
-    ensures counted { (rules : List PatternRule) (patterns : List Re)
-        → IsOfRules rules patterns printer.now.lexer.now
-        → IfOk result (λ is_whole. IfSome (R.remaining input)
+    ensures counted { IfOk result (λ is_whole. IfSome (R.remaining input)
         (λ bytes. Writes (W.contents out.old) (W.contents out.new)
-        (IsCounted rules patterns bytes is_whole))) }
+        (IsCounted printer.now.modes.now bytes is_whole))) }
     ensures no_text { IfErr result (λ stop. IfSome (R.remaining input)
         (λ bytes. TellsFault bytes stop)) }
     ensures silent { result ≡ Ok true → err.new ≡ err.old }

@@ -8,25 +8,26 @@
 //!
 //! A line of the rules is `NAME PATTERN`, or `skip PATTERN` for what is left out. Blank lines and
 //! lines that begin with `#` say nothing. Spaces around a pattern are none of it: one there is
-//! written `[ ]`. Each token is the longest piece of the text from its place on that one of the
-//! patterns matches, by the first such pattern.
+//! written `[ ]`. Rules hold in modes, and may change the mode: `<MODE,MODE> NAME PATTERN -> MODE`.
+//! In each mode a token is the longest piece of the text from its place on that one of its patterns
+//! matches, by the first such pattern.
 //!
 //! Where to find what:
 //!
 //! - what is printed, by rules: `src/{serve,printing}.rt`, `specs/Printing.antt`,
-//!   `proofs/{Steps,Written}.antt`
+//!   `proofs/Written.antt`
 //! - how a token is written: `src/{form,escaping}.rt`, `specs/{Lines,Escaping}.antt`
 //! - the words of a command line: `src/arguments.rt`; bytes that are no text: `src/texts.rt`
-//! - files of rules: `src/rules.rt`, `proofs/Machines.antt`; rules of which there is no token:
-//!   `src/warnings.rt`, `specs/Warnings.antt`
+//! - files of rules: `src/rules.rt`, `proofs/Machines.antt`; their lines: `src/lines.rt`,
+//!   `specs/Rules.antt`; rules of which there is no token: `src/warnings.rt`, `specs/Warnings.antt`
+//! - modes: before rules `src/heads.rt`, `specs/Heads.antt`, behind them `src/tails.rt`,
+//!   `specs/Tails.antt`
 //! - machines written as tables: `src/{tables,language}.rt`, `specs/TableTexts.antt`
 //! - faults shown: `src/fault.rt`; counts: `src/count.rt`
 #![tactic(auto)]
 
-ghost use Rattle.std.specs.Prelude.{◌≡◌};
-ghost use Rattle.lexing.specs.MachineSteps.{lexer_of};
-
 use lexing::{Machine, Place};
+use lexing_modes::Modes;
 use line_program::streams::words;
 use std::fs::File;
 use std::io::{self, BufWriter, ErrorKind, Read, Write};
@@ -37,12 +38,14 @@ mod count;
 mod escaping;
 mod fault;
 mod form;
+mod heads;
 mod language;
-mod pieces;
+mod lines;
 mod printing;
 mod rules;
 mod serve;
 mod tables;
+mod tails;
 mod texts;
 mod warnings;
 
@@ -59,14 +62,12 @@ const BUFFER_BYTES: usize = 65536;
 
 /// Prints the tokens of an input, or their numbers; whether it could be read and cut to its end.
 fn print_input<R: Read + Drop, W: Write, E: Write>(
-    printer: &Printer<Machine>,
+    printer: &Printer,
     name: &str,
     input: io::Result<R>,
     out: &mut W,
     err: &mut E,
-) -> io::Result<bool>
-    requires { printer.now.lexer.now ≡ lexer_of printer.now.scanner.now }
-{
+) -> io::Result<bool> {
     let done = match input {
         Err(error) => Err(Stop::Unreadable(error)),
         Ok(input) => match printer.form {
@@ -98,12 +99,10 @@ fn tell<E: Write>(name: &str, stop: Stop, err: &mut E) -> io::Result<()> {
 /// end.
 fn print_standard<W: Write, E: Write>(
     rt: &HostRuntime,
-    printer: &Printer<Machine>,
+    printer: &Printer,
     out: &mut W,
     err: &mut E,
-) -> io::Result<bool>
-    requires { printer.now.lexer.now ≡ lexer_of printer.now.scanner.now }
-{
+) -> io::Result<bool> {
     print_input(printer, "standard input", Ok(rt.reader()), out, err)
 }
 
@@ -111,13 +110,11 @@ fn print_standard<W: Write, E: Write>(
 /// and cut to its end.
 fn print_files<W: Write, E: Write>(
     rt: &HostRuntime,
-    printer: &Printer<Machine>,
+    printer: &Printer,
     paths: &[String],
     out: &mut W,
     err: &mut E,
-) -> io::Result<bool>
-    requires { printer.now.lexer.now ≡ lexer_of printer.now.scanner.now }
-{
+) -> io::Result<bool> {
     if paths.is_empty() {
         return print_standard(rt, printer, out, err);
     }
@@ -142,8 +139,12 @@ fn file_of(rt: &HostRuntime, path: &str) -> Result<Vec<u8>, Stop> {
     }
 }
 
-/// The machine of a file of rules, or none where it cannot be read or is bad, which is shown.
-fn machine_of<E: Write>(rt: &HostRuntime, path: &str, err: &mut E) -> io::Result<Option<Machine>> {
+/// The modes of a file of rules, or none where it cannot be read or is bad, which is shown.
+fn modes_of<E: Write>(
+    rt: &HostRuntime,
+    path: &str,
+    err: &mut E,
+) -> io::Result<Option<Modes<Machine>>> {
     let bytes = match file_of(rt, path) {
         Ok(bytes) => bytes,
         Err(stop) => {
@@ -163,14 +164,13 @@ fn machine_of<E: Write>(rt: &HostRuntime, path: &str, err: &mut E) -> io::Result
 /// Cuts the files into tokens by the rules, and prints them.
 fn cut(rt: &HostRuntime, form: Form, rules: &str, paths: &[String]) -> io::Result<u8> {
     let mut err = rt.stderr();
-    let Some(machine) = machine_of(rt, rules, &mut err)? else {
+    let Some(modes) = modes_of(rt, rules, &mut err)? else {
         return Ok(1);
     };
     let printer = Printer {
         alloc: rt.alloc(),
         form,
-        lexer: machine.lexer(),
-        scanner: &machine,
+        modes: &modes,
     };
     let mut out = BufWriter::with_capacity(rt.alloc(), BUFFER_BYTES, rt.stdout())?;
     let is_whole = print_files(rt, &printer, paths, &mut out, &mut err)?;
@@ -180,11 +180,16 @@ fn cut(rt: &HostRuntime, form: Form, rules: &str, paths: &[String]) -> io::Resul
 
 /// Prints the rules as a table of the language.
 fn print_table(rt: &HostRuntime, language: &Language, rules: &str) -> io::Result<u8> {
-    let Some(machine) = machine_of(rt, rules, &mut rt.stderr())? else {
+    let mut err = rt.stderr();
+    let Some(modes) = modes_of(rt, rules, &mut err)? else {
+        return Ok(1);
+    };
+    let (Some(machine), 1) = (modes.scanner(0), modes.mode_count()) else {
+        writeln!(err, "{rules}: a table has no modes, as these rules have")?;
         return Ok(1);
     };
     let mut out = BufWriter::with_capacity(rt.alloc(), BUFFER_BYTES, rt.stdout())?;
-    write_table(rt.alloc(), language, &machine, &mut out)?;
+    write_table(rt.alloc(), language, machine, &mut out)?;
     out.flush()?;
     Ok(0)
 }

@@ -5,8 +5,7 @@ ghost use Rattle.line_program.specs.Listing.{Writes};
 ghost use Rattle.lexing.specs.MachineSteps.{lexer_of};
 ghost use Rattle.lexing.specs.Tables.{IsTableOf};
 ghost use Rattle.lexing_patterns.specs.declared.patterns.PatternRule.{PatternRule};
-ghost use Rattle.regex_hir.specs.Re.{Re};
-ghost use Rattle.tokens.specs.Printing.{IsOfRules};
+ghost use Rattle.lexing_mode_patterns.specs.Rules.{IsOfRules};
 ghost use Rattle.tokens.specs.TableTexts.{IsTableText, WritesRule, hex_digit, lead_text, number_text, quoted_byte, rule_lines, stands_for_itself, state_line};
 
 use crate::language::Language;
@@ -82,7 +81,7 @@ fn write_rule<W: Write>(
 }
 
 fn write_rules<W: Write>(language: &Language, lexer: &Lexer, out: &mut W) -> io::Result<()>
-    ensures { (rules : List PatternRule) (patterns : List Re) → IsOfRules rules patterns lexer.now
+    ensures { (rules : List PatternRule) → IsOfRules rules lexer.now
         → OnOk result (Appends (W.contents out.old) (W.contents out.new)
         (rule_lines language.now rules)) }
 {
@@ -155,8 +154,7 @@ pub(crate) fn write_table<W: Write>(
     machine: &Machine,
     out: &mut W,
 ) -> io::Result<()>
-    ensures { (rules : List PatternRule) (patterns : List Re)
-        → IsOfRules rules patterns (lexer_of machine.now)
+    ensures { (rules : List PatternRule) → IsOfRules rules (lexer_of machine.now)
         → OnOk result (Writes (W.contents out.old) (W.contents out.new)
         (IsTableText language.now rules (lexer_of machine.now))) }
 {

@@ -5,7 +5,7 @@ ghost use Rattle.lexing.specs.declared.lexer.Lexer.{Lexer};
 ghost use Rattle.lexing.specs.Tables.{IsTableOf};
 ghost use Rattle.tokens.specs.Warnings.{IsWarned, Warns};
 
-use crate::rules::Rules;
+use crate::lines::Rules;
 use lexing::Table;
 use std::io::{self, ErrorKind, Write};
 
@@ -51,7 +51,7 @@ pub(crate) fn warn<E: Write>(
     for at in 0..rules.rules.len() {
         let number = rules.numbers[at];
         let rule = rules.rules[at];
-        warn_of(path, table, at, number, rule.name, err)?;
+        warn_of(path, table, at, number, rule.rule.name, err)?;
     }
     Ok(())
 }

@@ -1,27 +1,34 @@
-use Rattle.std.proofs.Common.{◌≡◌, refl, sym, ap, subst, ◌∙◌, ◌<◌, ◌^◌, ◌&&◌, length, arith}
-use Rattle.std.proofs.lemmas.Str.{IsCharBoundary-start}
-use Rattle.tokens.specs.Printing.{IsPiece}
-use Rattle.tokens.proofs.Counting.{HasCounted, counted_none, counted_more, counted_all}
+use Rattle.std.proofs.Common.{◌≡◌, refl, sym, ap, ◌∙◌, ◌&&◌}
+use Rattle.tokens.specs.Counts.{rules_in}
+use Rattle.tokens.specs.Printing.{are_tokens}
+use Rattle.tokens.proofs.Written.{all_more, given_from, rules_more}
 use Rattle.tokens.proofs.count.count_tokens.Goals as goal
 
-pub loop-at-init : goal.loop-at-init
-loop-at-init g c = grind (arith, IsCharBoundary-start, counted_none)
-
-pub loop-at-preserved : goal.loop-at-preserved
-loop-at-preserved g c =
-    let was = c.loop-at.invariant in
-    let piece = c.in_ok-piece.piece in
-    let of_piece = rw (← c.requires) at c.in_ok-piece.ensures.piece in
+pub loop-next-preserved : goal.loop-next-preserved
+loop-next-preserved c =
+    let was = c.loop-next.invariant in
+    let items = c.loop-next.yielded in
+    let next = c.in-Some.next in
+    let is_one = c.in_ok-is_one.is_one in
     record {
-      boundary = c.in_ok-piece.ensures.boundary;
-      len = c.add_piece.ensures.len ∙ was.len;
-      counted = λ rules patterns is many are.
-          rw (c.both-is_whole.ensures, c.is_some.ensures)
-          (counted_more rules patterns c.args.text.now c.args.printer.now.lexer.now is c.utf8.text
-          c.loop-at.at was.boundary c.loop-at.counts c.add_piece.new.counts (was.len ∙ many)
-          piece.end c.in_ok-piece.ensures.further (omega arith) c.loop-at.is_whole piece.rule
-          of_piece (was.counted rules patterns is many are) c.add_piece.ensures.counted);
+      len = c.in_ok-is_one.ensures.len ∙ was.len;
+      whole = c.both-is_whole.ensures ∙ ap (λ b. b && is_one) was.whole
+          ∙ ap (λ b. are_tokens items && b) c.in_ok-is_one.ensures.token ∙ sym (all_more items next);
+      counted = λ zero. rw (rules_more c.args.mode items next)
+          (c.in_ok-is_one.ensures.counted (rules_in c.args.mode items) (was.counted zero));
     }
 
 pub returns-clause-counted : goal.returns-clause-counted
-returns-clause-counted g c = grind (arith, counted_all)
+returns-clause-counted c =
+    let same : c.into_iter-next-iterator.result ≡ c.tokens-next-items.result = cc in λ zero. (
+      rules_in c.args.mode c.loop-next.yielded,
+      (
+        c.loop-next.yielded,
+        given_from c.args.printer.now.modes.now c.args.text.now c.tokens-next-items.result
+            c.into_iter-next-iterator.result c.next.new.self c.loop-next.yielded same c.tokens-next-items.ensures.whole
+            (c.loop-next.next-iterator, c.loop-next.yielded_by, c.in-None.ensures.steps),
+        c.loop-next.invariant.whole,
+        refl,
+      ),
+      c.loop-next.invariant.counted zero,
+    )

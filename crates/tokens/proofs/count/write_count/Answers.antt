@@ -1,19 +1,10 @@
-use Rattle.std.proofs.Common.{◌≡◌, refl, sym, subst, inl, inr, [], ◌++◌, codes, decimal, arith}
+use Rattle.std.proofs.Common.{◌≡◌, refl, sym, inl, inr, [], ◌++◌, codes, decimal, arith}
 use Rattle.line_program.proofs.Listing.{appends_none, on_ok_as}
-use Rattle.lexing.specs.Lexers.{IsNameOf, IsSkipped}
 use Rattle.tokens.proofs.Lists.{append_four}
-use Rattle.tokens.proofs.count.write_count.Goals.{then-count-eq0-via-then-count-eq0, then-count-eq0-via-else-count-eq0+then-is_skipped}
 use Rattle.tokens.proofs.count.write_count.Goals as goal
 
 pub returns-then-count-eq0 : goal.returns-then-count-eq0
-returns-then-count-eq0 g c =
-    let same : c.in-Ok.rule ≡ c.args.rule = omega (arith, c.in-Ok.ensures) in
-    elim c.then-count-eq0.branch [
-      | then-count-eq0-via-then-count-eq0 w ↦
-          ([], inl (inl w.if-count-eq0.true, refl), appends_none _)
-      | then-count-eq0-via-else-count-eq0+then-is_skipped w ↦
-          ([], inl (inr (rw (← same, c.requires) (w.if-is_skipped.ensures.0 refl)), refl), appends_none _)
-    ]
+returns-then-count-eq0 g c = ([], inl (c.if-count-eq0.true, refl), appends_none _)
 
 pub returns-in-Some : goal.returns-in-Some
 returns-in-Some g c =
@@ -24,7 +15,6 @@ returns-in-Some g c =
       name ++ (codes " " ++ (decimal c.args.count ++ codes "\n")),
       inr (
         c.if-count-eq0.false,
-        λ h. let e = c.if-is_skipped.ensures.1 (rw (← same, c.requires) at h) in absurd cc,
         name,
         rw same at c.in-Some.ensures,
         sym (append_four name (codes " ") (decimal c.args.count) (codes "\n")),

@@ -1,13 +1,10 @@
 use Rattle.std.proofs.Common.{◌≡◌, ℕ, List, length}
-use Rattle.lexing_patterns.specs.declared.patterns.PatternRule.{PatternRule}
-use Rattle.regex_hir.specs.Re.{Re}
-use Rattle.tokens.specs.Counts.{AreCounts}
-use Rattle.tokens.specs.Printing.{IsOfRules}
-use Rattle.tokens.proofs.CountLines.{HasLines}
+use Rattle.line_program.specs.Listing.{Writes}
+use Rattle.lexing.specs.Lexers.{rule_count}
+use Rattle.tokens.specs.Counts.{AreCountLines, AreCounts}
 use Rattle.tokens.proofs.count.write_counts.Given as goal
 
 abbrev pub invariant-loop-rule : goal.invariant-loop-rule
-invariant-loop-rule g l = (rules : List PatternRule) (patterns : List Re) (numbers : List ℕ)
-    → IsOfRules rules patterns l.printer.lexer.now → length l.counts ≡ length rules
-    → AreCounts numbers l.counts
-    → HasLines rules numbers l.rule (g.W.Write.contents l.fn.out) (g.W.Write.contents l.out)
+invariant-loop-rule g l = (numbers : List ℕ) → AreCounts numbers l.counts
+    → Writes (g.W.Write.contents l.fn.out) (g.W.Write.contents l.out)
+    (AreCountLines l.lexer numbers l.rule)

@@ -1,23 +1,18 @@
-use Rattle.std.proofs.Common.{refl, sym, subst, inl, inr, []}
-use Rattle.line_program.proofs.Listing.{appends_none, on_ok_as}
-use Rattle.lexing.specs.Lexers.{IsSkipped}
+use Rattle.std.proofs.Common.{◌≡◌, ◌-◌, refl, drop, take}
+use Rattle.line_program.proofs.Listing.{on_ok_as}
 use Rattle.tokens.specs.Lines.{token_line}
 use Rattle.tokens.proofs.printing.print_token.Goals as goal
 
-pub returns-then-is_skipped : goal.returns-then-is_skipped
-returns-then-is_skipped g c =
-    ([], inl (rw c.requires (c.if-is_skipped.ensures.0 refl), refl), appends_none _)
-
-pub returns-in-Some : goal.returns-in-Some
-returns-in-Some g c =
+pub returns-in-Some-Some : goal.returns-in-Some-Some
+returns-in-Some-Some g c =
+    let token = c.args.found.token in
+    let piece : c.in-Some-Some.piece.now
+    ≡ take (token.end - token.start) (drop token.start c.args.text.now) =
+    c.in-Some-Some.ensures'.cases.0 in
     on_ok_as c.write_token.result _ _
     (λ appended. (
-      _,
-      inr (
-        λ h. let e = c.if-is_skipped.ensures.1 (rw c.requires at h) in absurd cc,
-        c.in-Some.name.now,
-        c.in-Some.ensures,
-        refl,
-      ),
+      token_line c.args.printer.now.form c.args.place c.in-Some-Some.name.now c.in-Some-Some.piece.now,
+      (c.in-Some-Some.name.now, c.in-Some-Some.ensures, rw (c.requires.here, piece) refl),
       appended,
-    )) c.write_token.ensures
+    ))
+    c.write_token.ensures

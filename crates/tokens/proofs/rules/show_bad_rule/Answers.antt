@@ -7,7 +7,7 @@ use Rattle.tokens.proofs.Machines.{first_fault, tells_of_line}
 use Rattle.tokens.proofs.rules.show_bad_rule.Goals as goal
 
 pub returns-in_ok-show_line-in-Some-Some : goal.returns-in_ok-show_line-in-Some-Some
-returns-in_ok-show_line-in-Some-Some g c = λ all are.
+returns-in_ok-show_line-in-Some-Some g c = λ all names modes are.
     let i = c.args.bad.rule in
     let number = c.in-Some-Some.number.now in
     let rule = c.in-Some-Some.rule.now in
@@ -23,10 +23,22 @@ returns-in_ok-show_line-in-Some-Some g c = λ all are.
     (slice_get_read rules (length rules) i rule refl also.3.0 also.1) in
     let not_memory : c.args.bad.error ≢ Memory = grind arith in
     let (patterns, taken, numbered) =
-    first_fault all c.args.rules.now.rules.items c.args.rules.now.numbers.items c.args.bad number rule
+    first_fault names all c.args.rules.now.rules.items c.args.rules.now.numbers.items c.args.bad number rule
     are at there not_memory c.requires in
     on_ok_as c.show_pattern.result _ _
     (λ shown. let (said, tells, appended) =
-    tells_of_line c.args.path.now number _ _ _ c.in_ok-show_line-in-Some-Some.ensures shown in
-    (said, (number, take i c.args.rules.now.rules.items, patterns, tells, taken, numbered), appended))
+    tells_of_line c.args.path.now number _ _ _ c.in_ok-show_line-in-Some-Some.ensures shown in (
+      said,
+      (
+        names,
+        number,
+        take i c.args.rules.now.rules.items,
+        patterns,
+        modes,
+        tells,
+        taken,
+        numbered,
+      ),
+      appended,
+    ))
     c.show_pattern.ensures

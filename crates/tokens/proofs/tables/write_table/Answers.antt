@@ -3,7 +3,7 @@ use Rattle.line_program.proofs.Listing.{appends_then, on_ok_as}
 use Rattle.tokens.proofs.tables.write_table.Goals as goal
 
 pub returns : goal.returns
-returns g c = λ rules patterns is.
+returns g c = λ rules is.
     let head = rw c.as_bytes.ensures.value at c.in_ok-write_all.ensures.bytes in
     let middle = rw c.as_bytes-2.ensures.value at c.in_ok-write_all-2.ensures.bytes in
     on_ok_as c.write_all-3.result _ _
@@ -13,7 +13,7 @@ returns g c = λ rules patterns is.
       appends_then _ _ _ _ _
           (appends_then _ _ _ _ _
           (appends_then _ _ _ _ _
-          (appends_then _ _ _ _ _ head (c.in_ok-write_rules.ensures rules patterns (rw c.lexer.ensures is)))
+          (appends_then _ _ _ _ _ head (c.in_ok-write_rules.ensures rules (rw c.lexer.ensures is)))
           middle)
           c.in_ok-write_states.ensures)
           last,
