@@ -1,8 +1,7 @@
 -- Counts that are written, one after the other.
 use Rattle.std.proofs.Common.{◌≡◌, refl, ap, ◌∙◌, arith, ℕ, suc, ◌+◌, Bool, ◌&&◌, List, [], ◌∷◌, ◌++◌, Option, Ok, Err}
-use Rattle.std.specs.Io.KnownBytes.{Appends}
 use Rattle.line_program.specs.Listing.{SpellsEach, Writes}
-use Rattle.line_program.proofs.Listing.{append_nil, appends_none, appends_then}
+use Rattle.line_program.proofs.Listing.{appends_then}
 use Rattle.lexing.specs.declared.lexer.Lexer.{Lexer}
 use Rattle.lexing.specs.declared.machine.Machine.{Machine}
 use Rattle.lexing_modes.specs.declared.modes.Modes.{Modes}

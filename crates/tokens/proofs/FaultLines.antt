@@ -1,7 +1,6 @@
 -- The lines around a place of a text.
-use Rattle.std.proofs.Common.{◌≡◌, ◌≢◌, sym, subst, ap, inr, ◌∙◌, ℕ, ◌+◌, ◌<◌, List, ◌∷◌, ◌++◌, length, get_or, take, drop, true, append_assoc, arith}
+use Rattle.std.proofs.Common.{◌≡◌, ◌≢◌, inr, ℕ, ◌+◌, ◌<◌, List, ◌++◌, length, get_or, take, drop, true, append_assoc, arith}
 use Rattle.std.proofs.lemmas.List.{get_or-drop, drop_more, length-drop, take-append-drop}
-use Rattle.line_program.specs.Lines.{Lacks}
 use Rattle.std.specs.Prelude.{codes, decimal}
 use Rattle.lexing.specs.declared.place.Place.{Place}
 use Rattle.tokens.specs.Faults.{EndsWithLine, fault_place}

@@ -1,15 +1,13 @@
 -- The modes of lines, one line after the other.
-use Rattle.std.proofs.Common.{◌≡◌, ◌≢◌, refl, sym, ap, ◌∙◌, inl, inr, ℕ, ◌+◌, ◌<◌, List, [], ◌∷◌, ◌++◌, length, get_or, map, Some, Bor, arith}
-use Rattle.std.specs.Prelude.{codes}
-use Rattle.std.specs.List.{slice_get, AllZip, Contains}
+use Rattle.std.proofs.Common.{◌≡◌, ◌≢◌, refl, sym, ap, ◌∙◌, inl, inr, ℕ, ◌+◌, ◌<◌, List, [], ◌∷◌, ◌++◌, length, get_or, Some, Bor, arith}
+use Rattle.std.specs.List.{slice_get, Contains}
 use Rattle.std.specs.Str.{trim}
-use Rattle.std.proofs.lemmas.Bool.{cases_eq}
 use Rattle.std.proofs.lemmas.List.{length-map, map-append}
 use Rattle.std.proofs.lemmas.Option.{slice_get-get_or, slice_get_read, slice_get_within}
 use borrow.Author.Tests.{ne_eqb}
 use Rattle.lexing_modes.proofs.StateSteps.{slice_get-push}
 use Rattle.tokens.specs.Heads.{AddsOnly, AreHeadsOf, HasNumbers, HasRuleIn, KeepsNames, behind_modes, first_mode, mode_names, named_modes, texts_of}
-use Rattle.tokens.proofs.Lists.{contains_at, map_at, take_item, zip_as, zip_beside, zip_more}
+use Rattle.tokens.proofs.Lists.{contains_at, map_at, zip_as, zip_beside, zip_more}
 
 -- a line that begins with no `<`
 pub no_modes : (line : List ℕ) → ((rest : List ℕ) → line ≢ 60 ∷ rest)

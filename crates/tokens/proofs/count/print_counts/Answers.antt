@@ -1,4 +1,3 @@
-use Rattle.std.proofs.Common.{◌≡◌, refl}
 use Rattle.line_program.proofs.Listing.{append_nil, appends_then}
 use Rattle.tokens.proofs.CountLines.{nothing_silent}
 use Rattle.tokens.proofs.count.print_counts.Goals as goal

@@ -1,4 +1,4 @@
-use Rattle.std.proofs.Common.{◌≡◌, refl, [], get_or, length, arith}
+use Rattle.std.proofs.Common.{◌≡◌, refl, [], get_or, arith}
 use Rattle.line_program.proofs.Listing.{appends_none}
 use Rattle.lexing.specs.Lexers.{rule_count}
 use Rattle.tokens.proofs.CountLines.{lines_more}

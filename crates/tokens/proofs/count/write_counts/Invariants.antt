@@ -1,6 +1,5 @@
-use Rattle.std.proofs.Common.{◌≡◌, ℕ, List, length}
+use Rattle.std.proofs.Common.{ℕ, List}
 use Rattle.line_program.specs.Listing.{Writes}
-use Rattle.lexing.specs.Lexers.{rule_count}
 use Rattle.tokens.specs.Counts.{AreCountLines, AreCounts}
 use Rattle.tokens.proofs.count.write_counts.Given as goal
 

@@ -1,10 +1,8 @@
-use Rattle.std.proofs.Common.{◌≡◌, ap, sym, subst, ◌∙◌, ◌++◌, [], ◌∷◌, map, codes}
-use Rattle.std.specs.Io.KnownBytes.{Appends}
+use Rattle.std.proofs.Common.{sym, ◌∙◌}
 use Rattle.std.proofs.lemmas.Iterator.{YieldsList-from_chars}
 use Rattle.std.proofs.lemmas.Iterator.Consumers.{YieldsList-end}
 use Rattle.std.proofs.lemmas.List.{map-append, map-id}
 use Rattle.line_program.proofs.Listing.{appends_then, on_ok_as}
-use Rattle.tokens.specs.Faults.{blank_below}
 use Rattle.tokens.proofs.fault.mark.Goals as goal
 
 pub loop-c-init : goal.loop-c-init

@@ -1,4 +1,4 @@
-use Rattle.std.proofs.Common.{◌≡◌, refl, [], ◌∷◌, map, take, take_all, arith}
+use Rattle.std.proofs.Common.{refl, [], ◌∷◌, map, take, take_all, arith}
 use Rattle.std.proofs.lemmas.List.{length-map, map-append}
 use Rattle.tokens.specs.Heads.{texts_of}
 use Rattle.tokens.proofs.Lists.{contains_at, take_item}

@@ -1,4 +1,4 @@
-use Rattle.std.proofs.Common.{◌≡◌, refl, ◌+◌, ◌∷◌, [], ◌++◌, length, length-append, map, arith}
+use Rattle.std.proofs.Common.{◌≡◌, refl, ◌+◌, ◌∷◌, [], length, length-append, map, arith}
 use Rattle.std.specs.Str.{trim}
 use Rattle.std.proofs.lemmas.List.{length-map}
 use Rattle.std.proofs.lemmas.Option.{slice_get_read, slice_get_within}

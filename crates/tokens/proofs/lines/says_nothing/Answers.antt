@@ -1,4 +1,4 @@
-use Rattle.std.proofs.Common.{sym, ◌∙◌, length, eq-eqb, eqb-true, arith}
+use Rattle.std.proofs.Common.{eq-eqb, eqb-true, arith}
 use Rattle.std.proofs.lemmas.Str.Pattern.{starts_char}
 use Rattle.tokens.proofs.RuleLines.{nothing_of, nothing_empty}
 use Rattle.tokens.proofs.lines.says_nothing.Goals as goal

@@ -1,5 +1,4 @@
-use Rattle.std.proofs.Common.{◌≡◌, refl, inl, inr, None, codes, decimal, arith}
-use Rattle.std.specs.Prelude.{IsNone}
+use Rattle.std.proofs.Common.{◌≡◌, refl, inl, inr, codes, decimal, arith}
 use Rattle.tokens.specs.Rules.{too_many_states}
 use Rattle.tokens.proofs.Lists.{append_four}
 use Rattle.tokens.proofs.Machines.{all_read}

@@ -1,5 +1,4 @@
-use Rattle.std.proofs.Common.{◌≡◌, refl, inl}
-use Rattle.std.specs.Prelude.{IsNone}
+use Rattle.std.proofs.Common.{refl, inl}
 use Rattle.tokens.proofs.Machines.{found_as}
 use Rattle.tokens.proofs.rules.modes_of.Goals as goal
 

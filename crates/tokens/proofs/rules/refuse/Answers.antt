@@ -1,4 +1,4 @@
-use Rattle.std.proofs.Common.{◌≡◌, ◌∙◌, sym, subst, ap}
+use Rattle.std.proofs.Common.{◌∙◌, ap}
 use Rattle.lexing_mode_patterns.specs.Rules.{patterns_of}
 use Rattle.line_program.proofs.Listing.{on_ok_as}
 use Rattle.tokens.proofs.Machines.{no_rule_first}
