@@ -1,6 +1,5 @@
 -- Lists as JSON: their texts, and what is read of texts.
-use Rattle.std.proofs.Common.{◌≡◌, ℕ, Bool, false, ◌||◌, List, [], ◌∷◌, ◌++◌, map, Option, None, Some, IfSome, Result, Ok, Err, IfErr, IfOk, inl, inr, ap, refl, sym, subst, ◌∙◌, append_assoc, arith}
-use Rattle.std.proofs.lemmas.List.{append-nil, map-append}
+use Rattle.std.proofs.Common.{◌≡◌, ℕ, Bool, false, ◌||◌, List, [], ◌∷◌, ◌++◌, map, Option, None, Some, Result, Ok, Err, IfOk, inl, inr, ap, refl, sym, subst, ◌∙◌, arith}
 use Rattle.std.specs.declared.ops.Bound.{Bound}
 use Rattle.std.specs.declared.ops.Bound.TheVariants.{Included, Excluded, Unbounded}
 use Rattle.serde_json.specs.Data.{Data}
@@ -15,11 +14,9 @@ use Rattle.address_keys.specs.Addresses.{ipv4_at, ipv6_at}
 use Rattle.address_keys.specs.Json.{ipv4_shape, ipv6_shape, reads_ipv4, reads_ipv6}
 use Rattle.address_text.specs.declared.family.Family.{Family}
 use Rattle.address_text.specs.declared.family.Family.TheVariants.{V4, V6}
-use Rattle.address_lists.specs.Json.{IsDocument, IsJsonReason, IsListRead, IsListShape, IsMemberReason, IsSetReason, IsSetShape, IsValueReason, member_of, runs_shape, span_shape}
+use Rattle.address_lists.specs.Json.{IsListShape, IsMemberReason, IsSetReason, IsSetShape, IsValueReason, member_of, runs_shape, span_shape}
 use Rattle.address_lists.specs.declared.addresses.Addresses.{Addresses}
-use Rattle.address_lists.specs.declared.json.JsonFault.TheVariants.{Members, Set, Text}
 use Rattle.address_lists.specs.declared.read.ListError.{ListError}
-use Rattle.address_lists.specs.declared.read.ListError.TheVariants.{BadLine, Json, Memory, Unread}
 
 neither_true : (a b : Bool) → a ≡ false → b ≡ false → (a || b) ≡ false
 neither_true a b p q = rw (p, q) refl
@@ -59,26 +56,6 @@ list_has_no_float list d (v4, v6, first, second, is) =
 abbrev pub AreValuesTo : {X : Type 0} → (X → Data) → List X → List X → List Value → Type 0
 AreValuesTo shape all left done = map view done ++ map shape left ≡ map shape all
 
-pub no_values : {X : Type 0} (shape : X → Data) (all : List X) (done : List Value) → done ≡ []
-    → AreValuesTo shape all all done
-no_values shape all done none = rw none refl
-
-pub one_value : {X : Type 0} (shape : X → Data) (all left rest : List X) (x : X) (value : Value)
-    (done new : List Value) → AreValuesTo shape all left done → left ≡ x ∷ rest
-    → view value ≡ shape x → new ≡ done ++ value ∷ [] → AreValuesTo shape all rest new
-one_value shape all left rest x value done new so_far steps is more =
-    ap (λ vs. map view vs ++ map shape rest) more
-    ∙ ap (λ ds. ds ++ map shape rest) (map-append view done (value ∷ []))
-    ∙ append_assoc (map view done) (view value ∷ []) (map shape rest)
-    ∙ ap (λ d. map view done ++ d ∷ map shape rest) is
-    ∙ ap (λ xs. map view done ++ map shape xs) (sym steps)
-    ∙ so_far
-
-pub all_values : {X : Type 0} (shape : X → Data) (all left : List X) (done : List Value)
-    → AreValuesTo shape all left done → left ≡ [] → map view done ≡ map shape all
-all_values shape all left done so_far none =
-    sym (append-nil (map view done)) ∙ ap (λ xs. map view done ++ map shape xs) (sym none) ∙ so_far
-
 pub if_ok_as : {A E : Type 0} (r : Result A E) (P Q : A → Type 0) → ((x : A) → P x → Q x) → IfOk r P
     → IfOk r Q
 if_ok_as (Ok x) P Q follows held = follows x held
@@ -104,35 +81,3 @@ pub v6_member_unread : (d : Data) (member : Option Data) (e : ListError)
     → member ≡ member_of V6 d → IsMemberReason V6 reads_ipv6 member e → IsValueReason d e
 v6_member_unread d None e same why = absurd why
 v6_member_unread d (Some set) e same why = v6_unread d set e (sym same) why
-
--- why the value of a text is not read
-pub value_unread : (bytes : List ℕ) (d : Data) (e : ListError) → read bytes ≡ Some d
-    → IsValueReason d e → IsJsonReason bytes e
-value_unread bytes d (BadLine line column expected found) is why = absurd why
-value_unread bytes d Unread is why = tt
-value_unread bytes d Memory is why = tt
-value_unread bytes d (Json (Text line column)) is why = absurd why
-value_unread bytes d (Json Members) is why = (d, is, why)
-value_unread bytes d (Json (Set family fault)) is why = (d, is, why)
-
--- what is read of a text that is a value
-pub document_read : {E : Type 0} (input : Option (List ℕ)) (text : List ℕ) (d : Data)
-    (result : Result Addresses E) → IfSome input (λ bytes. text ≡ bytes) → read text ≡ Some d
-    → IfOk result (IsListRead d) → IfOk result (λ list. IfSome input (λ bytes. IsDocument bytes list))
-document_read None text d (Ok list) same is found = tt
-document_read (Some bytes) text d (Ok list) same is found = grind arith
-document_read input text d (Err e) same is found = tt
-
-pub document_unread : {A : Type 0} (input : Option (List ℕ)) (text : List ℕ) (d : Data)
-    (result : Result A ListError) → IfSome input (λ bytes. text ≡ bytes) → read text ≡ Some d
-    → IfErr result (IsValueReason d)
-    → IfErr result (λ e. IfSome input (λ bytes. IsJsonReason bytes e))
-document_unread input text d (Ok x) same is why = tt
-document_unread None text d (Err e) same is why = tt
-document_unread (Some bytes) text d (Err e) same is why = grind (arith, value_unread)
-
-pub text_unread : (input : Option (List ℕ)) (text : List ℕ) (e : ListError)
-    → IfSome input (λ bytes. text ≡ bytes) → IsJsonReason text e
-    → IfSome input (λ bytes. IsJsonReason bytes e)
-text_unread None text e same why = tt
-text_unread (Some bytes) text e same why = subst (λ t. IsJsonReason t e) same why

@@ -1,10 +1,10 @@
 -- Lines that are told of and searched, also where what is written is flushed then.
 use Rattle.std.proofs.Common.{◌≡◌, ◌≢◌, ℕ, ◌⊎◌, Bool, List, [], ◌∷◌, ◌++◌, Option, None, Some, IfSome, Result, Ok, Err, IfErr, IfOk, inl, inr, refl, sym, subst, ◌∙◌, arith}
-use Rattle.std.specs.Prelude.{String, nat_lt}
+use Rattle.std.specs.Prelude.{String}
 use Rattle.std.specs.Io.KnownBytes.{Appends, Keeps}
 use Rattle.std.specs.declared.alloc.Global.{Global}
 use Rattle.address_lines.specs.Found.{AreFoundSoFar}
-use Rattle.address_lines.specs.Sought.{AreTold, AreToldUntil}
+use Rattle.address_lines.specs.Sought.{AreToldUntil}
 use Rattle.address_lines.specs.declared.grep.Search.{Search}
 use Rattle.address_lines.specs.declared.sought.Halt.{Halt}
 use Rattle.address_lines.specs.declared.sought.Halt.TheVariants as Halts
@@ -24,15 +24,6 @@ appends_kept None mid after text appended kept = tt
 appends_kept (Some xs) None after text appended kept = absurd appended
 appends_kept (Some xs) (Some ys) None text appended kept = absurd kept
 appends_kept (Some xs) (Some ys) (Some zs) text appended kept = kept ∙ appended
-
--- what is told stays written
-pub told_kept : (list : Addresses) (lines before mid after : Option (List ℕ)) (all : Bool)
-    → IfSome lines (λ text. AreTold list text before mid all) → Keeps mid after
-    → IfSome lines (λ text. AreTold list text before after all)
-told_kept list None before mid after all told kept = tt
-told_kept list (Some lines) before mid after all
-    (addresses, last, sought, has, (text, each, appended)) kept =
-    (addresses, last, sought, has, (text, each, appends_kept before mid after text appended kept))
 
 until_kept : (list : Addresses) (lines : List ℕ) (before mid after : Option (List ℕ))
     (error : ListError) → AreToldUntil list lines before mid error → Keeps mid after
@@ -94,13 +85,6 @@ module _ (list : Addresses) (search : Search) (start : List ℕ) (name : String 
       (refl, grind arith, found (λ unwritable. cc))
   search_halted (Some bytes) Halts.Unwritable stop same found why =
       subst (IsSearchHalted list search start bytes name before after) (sym same) tt
-
--- so many lines are found
-pub found_some : (text : Option (List ℕ)) (IsFound : List ℕ → ℕ → Type 0) (count : ℕ)
-    (found : Bool) → found ≡ nat_lt 0 count → IfSome text (λ bytes. IsFound bytes count)
-    → IfSome text (λ bytes. (n : ℕ) × (found ≡ nat_lt 0 n) × IsFound bytes n)
-found_some None IsFound count found same all = tt
-found_some (Some bytes) IsFound count found same all = (count, same, all)
 
 module _ (reading : Reading) (numbers later : List ℕ) (name : String Global) where
   -- what is said of the lines over the list that is read

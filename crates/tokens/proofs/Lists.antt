@@ -2,7 +2,6 @@
 use Rattle.std.proofs.Common.{◌≡◌, ◌⊎◌, refl, ◌∙◌, ℕ, zero, suc, ◌+◌, ◌<◌, List, [], ◌∷◌, ◌++◌, length, drop, take, map, Some, append_assoc, arith}
 use Rattle.std.proofs.lemmas.Grind.{common_steps}
 use Rattle.std.proofs.lemmas.List.{drop_more, take_more}
-use Rattle.std.proofs.lemmas.Slice.Zip.{AllZip-left}
 use Rattle.std.proofs.lemmas.Option.{slice_get-map}
 use Rattle.std.proofs.lemmas.Option.{slice_get_cases}
 use Rattle.std.specs.List.{slice_get, AllZip, Contains}
@@ -23,10 +22,6 @@ module _ {X Y : Type 0} (R : X → Y → Type 0) where
   zip_more [] (z ∷ ys) x y all one = absurd all
   zip_more (w ∷ xs) [] x y all one = absurd all
   zip_more (w ∷ xs) (z ∷ ys) x y all one = (all.0, zip_more xs ys x y all.1 one)
-
-  pub zip_at : (xs : List X) (ys : List Y) (i : ℕ) (x : X) (y : Y) → AllZip R xs ys
-      → slice_get xs i ≡ Some x → slice_get ys i ≡ Some y → R x y
-  zip_at xs ys i x y all at other = grind (arith, AllZip-left R xs ys all i)
 
 pub some_at : {X : Type 0} (xs : List X) (i : ℕ) → i < length xs
     → (x : X) × (slice_get xs i ≡ Some x)
