@@ -1,3 +1,4 @@
 mod Found
 mod Pieces
+mod Shortest
 mod Told

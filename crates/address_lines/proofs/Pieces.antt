@@ -23,16 +23,41 @@ pub not_told : {P : Type 0} (told : Bool) → told ≡ false → IsTrue told ↔
 not_told told none tells = λ is. false≢true (sym none ∙ tells.1 is)
 
 -- the last of the ways in which a word may count is asked
-pub last_way : {H V W P : Type 0} (told : Bool) → H → ¬ V → ¬ P → IsTrue told ↔ W
-    → IsTrue told ↔ ((H × (V ⊎ W)) ⊎ P)
-last_way told has one other tells = (
-  λ holds. inl (has, inr (tells.0 holds)),
+pub last_way : {H V P : Type 0} (told : Bool) → H → ¬ P → IsTrue told ↔ V
+    → IsTrue told ↔ ((H × V) ⊎ P)
+last_way told has other tells = (
+  λ holds. inl (has, tells.0 holds),
+  λ either. elim either [ inl (has_it, v) ↦ tells.1 v | inr p ↦ absurd (other p) ],
+)
+
+-- or the one that there is
+pub one_way : {H V P : Type 0} (told : Bool) → ¬ H → IsTrue told ↔ P
+    → IsTrue told ↔ ((H × V) ⊎ P)
+one_way told none tells = (
+  λ holds. inr (tells.0 holds),
+  λ either. elim either [ inl (has_it, v) ↦ absurd (none has_it) | inr p ↦ tells.1 p ],
+)
+
+-- the last of three is asked
+pub last_of_three : {V W X : Type 0} (told : Bool) → ¬ V → ¬ W → IsTrue told ↔ X
+    → IsTrue told ↔ (V ⊎ (W ⊎ X))
+last_of_three told one two tells = (
+  λ holds. inr (inr (tells.0 holds)),
   λ either. elim either [
-    | inl (has_it, inl v) ↦ absurd (one v)
-    | inl (has_it, inr w) ↦ tells.1 w
-    | inr p ↦ absurd (other p)
+    | inl v ↦ absurd (one v)
+    | inr (inl w) ↦ absurd (two w)
+    | inr (inr x) ↦ tells.1 x
   ],
 )
+
+-- a text without a mark is asked only where it is shorter than one that is none
+pub shorter_told : (P : List ℕ → Type 0) (told : Bool) (text shorter stripped : List ℕ)
+    → shorter ≡ stripped
+    → ((length text ≤ length shorter → shorter ≡ text) → ¬ P text → IsTrue told ↔ P shorter)
+    → (length text ≤ length stripped → stripped ≡ text) → ¬ P text → IsTrue told ↔ P stripped
+shorter_told P told text shorter stripped same asked whole none =
+    subst (λ s. IsTrue told ↔ P s) same
+    (asked (λ long. same ∙ whole (subst (λ s. length text ≤ length s) same long)) none)
 
 module _ (cuts : ℕ → Bool) (P : List ℕ → Type 0) where
   first_or_later : (text piece : List ℕ) → HasPiece cuts text piece → P piece

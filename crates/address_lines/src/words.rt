@@ -1,6 +1,6 @@
 //! Whether a line of any text holds an address of a list.
 
-ghost use Rattle.std.specs.Prelude.{◌≡◌, ◌↔◌, ◌⊎◌, IsTrue, MatchOption, position};
+ghost use Rattle.std.specs.Prelude.{◌≡◌, ◌↔◌, ◌⊎◌, ◌≤◌, IsTrue, MatchOption, length, position};
 ghost use Rattle.std.specs.Io.BufRead.{strip_last};
 ghost use Rattle.std.specs.List.{after_first, before_first};
 ghost use Rattle.address_text.specs.Lines.{HasByte};
@@ -9,11 +9,18 @@ ghost use Rattle.address_lines.specs.Words.{Counts, HasIpv4, HasIpv6, HasPart, H
 use address_lists::{Addresses, has};
 use std::net::{IpAddr, Ipv4Addr, Ipv6Addr};
 
+/// The length of `0.0.0.0`. Most words of a text are shorter.
+const SHORTEST_IPV4: usize = 7;
+
 /// Whether a byte stands in words: a letter, a digit, a dot or a colon.
 fn is_word(byte: u8) -> bool
     ensures { result ≡ is_word byte }
 {
-    byte.is_ascii_alphanumeric() || byte == b'.' || byte == b':'
+    if byte <= b':' {
+        byte >= b'0' || byte == b'.'
+    } else {
+        byte.is_ascii_alphabetic()
+    }
 }
 
 /// Where the first byte stands that is in no word.
@@ -73,6 +80,9 @@ fn without_mark(text: &[u8]) -> &[u8]
 fn is_ipv4(list: &Addresses, text: &[u8]) -> bool
     ensures { IsTrue result ↔ HasIpv4 list.now text.now }
 {
+    if text.len() < SHORTEST_IPV4 {
+        return false;
+    }
     match Ipv4Addr::parse_ascii(text) {
         Ok(address) => has(list, IpAddr::V4(address)),
         Err(_) => false,
@@ -89,13 +99,25 @@ fn is_ipv6(list: &Addresses, text: &[u8]) -> bool
     }
 }
 
-/// Whether the text without a dot at its end, or without a mark there, is an address of IPv6 that
-/// the list has.
-fn is_marked_ipv6(list: &Addresses, text: &[u8]) -> bool
-    ensures { IsTrue result
-        ↔ (HasIpv6 list.now (strip_last 46 text.now) ⊎ HasIpv6 list.now (without_mark text.now)) }
+/// Whether a text that is shorter than another is an address of IPv6 that the list has.
+fn is_shorter_ipv6(list: &Addresses, shorter: &[u8], text: &[u8]) -> bool
+    ensures { (length text.now ≤ length shorter.now → shorter.now ≡ text.now)
+        → ¬ HasIpv6 list.now text.now → IsTrue result ↔ HasIpv6 list.now shorter.now }
 {
-    is_ipv6(list, without_dot(text)) || is_ipv6(list, without_mark(text))
+    shorter.len() < text.len() && is_ipv6(list, shorter)
+}
+
+/// Whether a text is an address of IPv6 that the list has, or is one without a dot at its end, or
+/// without a mark there.
+fn is_marked_ipv6(list: &Addresses, text: &[u8]) -> bool
+    ensures { IsTrue result ↔ (HasIpv6 list.now text.now
+        ⊎ (HasIpv6 list.now (strip_last 46 text.now) ⊎ HasIpv6 list.now (without_mark text.now))) }
+{
+    if is_ipv6(list, text) {
+        return true;
+    }
+    is_shorter_ipv6(list, without_dot(text), text)
+        || is_shorter_ipv6(list, without_mark(text), text)
 }
 
 /// Whether a part of a word between colons counts as an address of IPv4.
@@ -116,12 +138,9 @@ fn has_part(list: &Addresses, word: &[u8]) -> bool
 fn counts(list: &Addresses, word: &[u8]) -> bool
     ensures { IsTrue result ↔ Counts list.now word.now }
 {
-    if has_part(list, word) {
-        return true;
-    }
     match colon_in(word) {
-        Some(_) => is_ipv6(list, word) || is_marked_ipv6(list, word),
-        None => false,
+        Some(_) => has_part(list, word) || is_marked_ipv6(list, word),
+        None => is_ipv4(list, without_dot(word)),
     }
 }
 

@@ -3,7 +3,9 @@ mod Documents
 mod Files
 mod Lines
 mod Lookups
+mod Ordered
 mod Reading
 mod Relations
 mod Series
+mod Serving
 mod Undivided

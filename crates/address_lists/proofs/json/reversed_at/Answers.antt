@@ -1,0 +1,19 @@
+use Rattle.std.proofs.Common.{◌≡◌, ◌<◌, length, get_or, ap, arith, subst}
+use Rattle.serde_json.specs.View.{view}
+use Rattle.address_lists.specs.Json.{IsInOrder, IsReversedValue}
+use Rattle.address_lists.proofs.Ordered.{first_other}
+use Rattle.address_lists.proofs.json.reversed_at.Goals as goal
+use Rattle.std.proofs.Common.{rules}
+
+pub returns-then-branch : goal.returns-then-branch
+returns-then-branch g c =
+    let values = c.args.elements.now in
+    let i = c.loop-index.index in
+    let value = c.index-elements-index.result in
+    let below : i < length values =
+    omega (arith, c.loop-index-test.true, c.loop-index.auto.index-end) in
+    first_other (IsInOrder g.A.Json.is_read g.A.Address.number g.A.Json.reads)
+    (IsReversedValue g.A.Json.is_read g.A.Address.number) values i value below
+    c.loop-index.invariant
+    (subst (λ v. IsReversedValue g.A.Json.is_read g.A.Address.number (view v))
+    c.index-elements-index.is (c.in_ok-is_reversed_value.ensures.reversed (search rules)))
