@@ -8,16 +8,20 @@
 //!   `specs/{Commands,Shown}.antt`, `proofs/{Commands,Kept}.antt`; of `compare`,
 //!   `src/compare.rt`, `specs/Relations.antt`, `proofs/Compared.antt`; of `has`, `src/lookup.rt`,
 //!   `proofs/LookedUp.antt`; of `has` over lines and of `grep`, `src/lines.rt`, `specs/Lines.antt`
+//! - files of firewalls: `src/firewall.rt`, `specs/Firewalls.antt`
+//! - the commands over tables: `src/table.rt`
 //! - what is written, and why that failed: `src/output.rt`
 #![tactic(auto)]
 
 mod compare;
+mod firewall;
 mod inputs;
 mod lines;
 mod lookup;
 mod output;
 mod progress;
 mod serve;
+mod table;
 
 use crate::compare::compare;
 use crate::inputs::{Input, ToldInput};
@@ -25,6 +29,7 @@ use crate::lines::{look_up_lines, search_text};
 use crate::lookup::look_up;
 use crate::output::Noted;
 use crate::serve::{Reading, Source, Stop, read_source, serve};
+use crate::table::{Asked, answer_tables};
 use address_lines::{Search, Showing};
 use address_lists::{Addresses, BadLines};
 use anyhow::{Context, bail};
@@ -37,10 +42,10 @@ use std::process::ExitCode;
 const BUFFER_BYTES: usize = 65536;
 
 /// A list that is read from a file, or from standard input.
-type List<'a> = Source<BufReader<ToldInput<'a>>>;
+pub(crate) type List<'a> = Source<BufReader<ToldInput<'a>>>;
 
 /// The list of this name; `-` is standard input.
-fn source<'a>(rt: &'a HostRuntime, name: &'a str) -> anyhow::Result<List<'a>> {
+pub(crate) fn source<'a>(rt: &'a HostRuntime, name: &'a str) -> anyhow::Result<List<'a>> {
     let alloc = rt.alloc();
     let input = Input::open(rt, name).context(format_args!("{name}"))?;
     Ok(Source {
@@ -75,7 +80,7 @@ fn combine_files<W: Write>(
     command: Command,
     files: &[&str],
     reading: Reading,
-    output: Output,
+    output: Output<'_>,
     left_out: &mut Vec<u64>,
     out: &mut W,
 ) -> anyhow::Result<Result<bool, Stop>> {
@@ -201,6 +206,19 @@ fn answer<W: Write>(
         Task::LookUp(file, sought) => look_up_in_file(rt, file, sought, reading, left_out, out),
         Task::Search(file, texts, wanted) => {
             search_files(rt, file, texts.as_slice(), *wanted, reading, left_out, out)
+        }
+        Task::Table(request, output) => {
+            let output = *output;
+            answer_tables(
+                rt,
+                Asked {
+                    request,
+                    reading,
+                    output,
+                },
+                left_out,
+                out,
+            )
         }
     }
 }

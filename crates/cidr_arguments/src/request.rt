@@ -1,7 +1,9 @@
 //! What the arguments ask for.
 
+use crate::table::{TableRequest, table_request};
 use crate::usage::{program, wrong};
 use address_text::Family;
+use address_text::write::Around;
 use clap::ArgMatches;
 use clap::error::ErrorKind;
 use std::alloc::{AllocError, Global};
@@ -39,31 +41,38 @@ pub enum Lines {
 
 /// What is printed of addresses.
 #[derive(Clone, Copy)]
-pub enum Form {
-    Lines(Lines),
+pub enum Form<'a> {
+    /// Lines, with the same texts around what is on each.
+    Lines(Lines, Around<'a>),
     /// An object with the set of either family, as the library writes it as JSON.
     Json,
+    /// A file that `ipset restore` reads, with sets whose names begin with this one.
+    Ipset(&'a str),
+    /// A file that `nft -f` reads, with sets of a table, whose names begin with the other name.
+    Nft(&'a str, &'a str),
 }
 
 /// What is printed of an answer.
 #[derive(Clone, Copy)]
-pub struct Output {
+pub struct Output<'a> {
     /// The family whose addresses alone are printed; `None` for both.
     pub only: Option<Family>,
-    pub form: Form,
+    pub form: Form<'a>,
 }
 
 /// What is to be done with the lists of these names.
 #[derive(Drop)]
 pub enum Task<'a> {
     /// They are put together, that from which others are taken first, and printed.
-    Combine(Command, Vec<&'a str>, Output),
+    Combine(Command, Vec<&'a str>, Output<'a>),
     /// The first is compared with the second.
     Compare(&'a str, &'a str),
     /// The addresses are looked up in it.
     LookUp(&'a str, Sought),
     /// The lines of texts are searched for its addresses.
     Search(&'a str, Vec<&'a str>, Wanted),
+    /// Tables of addresses with values are read.
+    Table(TableRequest<'a>, Output<'a>),
 }
 
 /// What is printed of the lines of texts.
@@ -92,6 +101,7 @@ impl<'a> Task<'a> {
             Task::Combine(_, files, _) => files.as_slice().get(place).copied(),
             Task::Compare(first, second) => [*first, *second].get(place).copied(),
             Task::LookUp(file, _) | Task::Search(file, _, _) => [*file].get(place).copied(),
+            Task::Table(request, _) => request.file(place),
         }
     }
 }
@@ -134,15 +144,55 @@ fn family_of(found: &ArgMatches<'_>) -> Option<Family> {
     }
 }
 
-fn form_of(name: &str, found: &ArgMatches<'_>) -> Form {
+fn lines_of(name: &str, found: &ArgMatches<'_>) -> Lines {
     match name {
-        "count" => Form::Lines(Lines::Count),
-        "split" => Form::Lines(Lines::Split(found.get_one("at").unwrap_or(Family::V6.width()))),
-        _ if found.get_flag("json") => Form::Json,
-        _ if found.get_flag("ranges") => Form::Lines(Lines::Ranges),
-        _ if found.get_flag("single") => Form::Lines(Lines::Singles),
-        _ => Form::Lines(Lines::Prefixes),
+        "count" => Lines::Count,
+        "split" => Lines::Split(found.get_one("at").unwrap_or(Family::V6.width())),
+        _ if found.get_flag("ranges") => Lines::Ranges,
+        _ if found.get_flag("single") => Lines::Singles,
+        _ => Lines::Prefixes,
     }
+}
+
+/// What is printed of addresses, but for a file of a firewall.
+fn plain_form<'a>(name: &str, found: &ArgMatches<'a>) -> Form<'a> {
+    if found.get_flag("json") {
+        return Form::Json;
+    }
+    let around = Around {
+        before: found.get_str("prefix").unwrap_or(""),
+        after: found.get_str("suffix").unwrap_or(""),
+    };
+    Form::Lines(lines_of(name, found), around)
+}
+
+fn form_of<'a>(name: &str, found: &ArgMatches<'a>) -> Form<'a> {
+    match (found.get_strs("ipset"), found.get_strs("nft")) {
+        (Some([set]), _) => Form::Ipset(set),
+        (_, Some([table, set])) => Form::Nft(table, set),
+        _ => plain_form(name, found),
+    }
+}
+
+/// Whether `ipset` and `nft` take the text as the beginning of a name: letters, digits, `_`, `-` and
+/// `.`, a letter first, and no more bytes than leave room for the name of a family.
+fn is_set_name(text: &str) -> bool {
+    text.len() <= 28
+        && text.starts_with(|first: char| first.is_ascii_alphabetic())
+        && text.bytes().all(|byte| byte.is_ascii_alphanumeric()
+            || matches!(byte, b'_' | b'-' | b'.'))
+}
+
+/// The first of the names that is none of a set or of a table.
+fn wrong_name<'a>(found: &ArgMatches<'a>) -> Option<&'a str> {
+    for id in ["ipset", "nft"] {
+        for name in found.get_strs(id).unwrap_or(&[]) {
+            if !is_set_name(name) {
+                return Some(*name);
+            }
+        }
+    }
+    None
 }
 
 /// What a command makes of its lists.
@@ -157,31 +207,47 @@ fn command_of(name: &str) -> Command {
 }
 
 /// Tells that a word is no address.
-fn no_address(alloc: Global, word: &str) -> Result<clap::Error, AllocError> {
+fn no_address(alloc: Global, name: &str, word: &str) -> Result<clap::Error, AllocError> {
     let message = format!(in alloc;
         "invalid value '{word}' for '<ADDRESS>...': expected an address"
     )?;
-    wrong(alloc, "has", ErrorKind::ValueValidation, message.as_str())
+    wrong(alloc, name, ErrorKind::ValueValidation, message.as_str())
 }
 
-fn address_of(alloc: Global, word: &str) -> Result<IpAddr, clap::Error> {
+fn address_of(alloc: Global, name: &str, word: &str) -> Result<IpAddr, clap::Error> {
     match word.parse::<IpAddr>() {
         Ok(address) => Ok(address),
-        Err(_) => Err(no_address(alloc, word)?),
+        Err(_) => Err(no_address(alloc, name, word)?),
     }
 }
 
 /// The addresses that the words are.
-fn addresses_of(alloc: Global, words: &[&str]) -> Result<Vec<IpAddr>, clap::Error> {
+fn addresses_of(alloc: Global, name: &str, words: &[&str]) -> Result<Vec<IpAddr>, clap::Error> {
     let mut addresses = Vec::new(alloc);
     for word in words {
-        addresses.push(address_of(alloc, word)?)?;
+        addresses.push(address_of(alloc, name, word)?)?;
     }
     Ok(addresses)
 }
 
+/// Tells that a word is no name of a set.
+fn no_name(alloc: Global, name: &str, word: &str) -> Result<clap::Error, AllocError> {
+    let message = format!(in alloc;
+        "invalid value '{word}' for a name: expected up to 28 letters, digits, '_', '-' and '.', \
+        a letter first"
+    )?;
+    wrong(alloc, name, ErrorKind::ValueValidation, message.as_str())
+}
+
 /// What is to be done with the lists that the arguments name.
-fn combined<'a>(alloc: Global, name: &str, found: &ArgMatches<'a>) -> Result<Task<'a>, AllocError> {
+fn combined<'a>(
+    alloc: Global,
+    name: &str,
+    found: &ArgMatches<'a>,
+) -> Result<Task<'a>, clap::Error> {
+    if let Some(word) = wrong_name(found) {
+        return Err(no_name(alloc, name, word)?);
+    }
     let files = names_of(alloc, found)?;
     let output = Output {
         only: family_of(found),
@@ -190,10 +256,11 @@ fn combined<'a>(alloc: Global, name: &str, found: &ArgMatches<'a>) -> Result<Tas
     Ok(Task::Combine(command_of(name), files, output))
 }
 
-fn sought_of(alloc: Global, words: &[&str]) -> Result<Sought, clap::Error> {
+/// The addresses that the command of this name is given.
+pub(crate) fn sought_of(alloc: Global, name: &str, words: &[&str]) -> Result<Sought, clap::Error> {
     match words {
         ["-"] => Ok(Sought::Lines),
-        _ => Ok(Sought::These(addresses_of(alloc, words)?)),
+        _ => Ok(Sought::These(addresses_of(alloc, name, words)?)),
     }
 }
 
@@ -220,16 +287,35 @@ fn search_of<'a>(
     Ok(Task::Search(list, texts_of(alloc, found)?, wanted))
 }
 
+/// What is to be done with tables, and how a list of their addresses is printed.
+fn table_task_of<'a>(alloc: Global, found: &ArgMatches<'a>) -> Result<Task<'a>, clap::Error> {
+    let asked = asked_of(found);
+    let output = Output {
+        only: family_of(asked),
+        form: form_of("select", asked),
+    };
+    Ok(Task::Table(table_request(alloc, found)?, output))
+}
+
+/// What the innermost command is given.
+fn asked_of<'f, 'a>(found: &'f ArgMatches<'a>) -> &'f ArgMatches<'a> {
+    match found.subcommand() {
+        Some((_, inner)) => inner,
+        None => found,
+    }
+}
+
 fn task_of<'a>(alloc: Global, name: &str, found: &ArgMatches<'a>) -> Result<Task<'a>, clap::Error> {
     let first = found.get_str("FILE").unwrap_or("-");
     match name {
         "compare" => Ok(Task::Compare(first, found.get_str("OTHER").unwrap_or("-"))),
         "has" => {
             let words = found.get_strs("ADDRESS").unwrap_or(&[]);
-            Ok(Task::LookUp(first, sought_of(alloc, words)?))
+            Ok(Task::LookUp(first, sought_of(alloc, name, words)?))
         }
         "grep" => Ok(search_of(alloc, first, found)?),
-        _ => Ok(combined(alloc, name, found)?),
+        "table" => table_task_of(alloc, found),
+        _ => combined(alloc, name, found),
     }
 }
 
@@ -283,11 +369,12 @@ pub fn read_request<'a>(alloc: Global, words: &'a [String]) -> Result<Request<'a
     if let Some(fault) = fault_of_names(alloc, name, found)? {
         return Err(wrong(alloc, name, ErrorKind::ArgumentConflict, fault)?);
     }
+    let asked = asked_of(found);
     Ok(Request {
         task: task_of(alloc, name, found)?,
-        is_strict: found.get_flag("strict"),
-        skips_bad_lines: found.get_flag("skip-bad"),
-        is_quiet: found.get_flag("quiet"),
+        is_strict: asked.get_flag("strict"),
+        skips_bad_lines: asked.get_flag("skip-bad"),
+        is_quiet: asked.get_flag("quiet"),
         is_old_form: found.contains_id("from"),
     })
 }

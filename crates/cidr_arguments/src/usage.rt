@@ -1,5 +1,6 @@
 //! What the program can be asked, as `clap` has it.
 
+use crate::table_usage::{TABLE_ABOUT, TABLE_COMMANDS, TABLE_EXAMPLES};
 use clap::error::ErrorKind;
 use clap::{self, Arg, ArgAction, value_parser};
 use std::alloc::{AllocError, Global};
@@ -19,13 +20,15 @@ Examples:
   cidr except blocked.txt --without exceptions.txt
   cidr invert allowed.txt
   cidr split --at 24 --v4 blocked.txt
+  cidr merge blocked.txt --ipset blocked | ipset restore
+  cidr merge blocked.txt --nft filter blocked | nft -f -
   cidr has blocked.txt 10.1.2.3 2001:db8::1
   cidr has blocked.txt - < addresses.txt
   cidr grep blocked.txt access.log";
 
 /// What a command takes.
 #[derive(Clone, Copy)]
-enum Kind {
+pub(crate) enum Kind {
     /// At least so many words, and at most so many.
     Words(usize, usize),
     /// A flag. Of those of a group at most one may be given.
@@ -38,58 +41,90 @@ enum Kind {
     List(ArgAction),
     /// An option that must be given, with the length of a prefix.
     Length,
+    /// An option with a text of any kind. Of the options of a group at most one may be given.
+    Text(&'static [&'static str]),
+    /// An option with names of these kinds. Of the options of a group at most one may be given.
+    Names(&'static [&'static str], &'static [&'static str]),
+    /// An option that must be given, with the name of a list.
+    NeededList,
+    /// An option with a text, which the help calls so.
+    Word(&'static str),
 }
 
 /// The name of what a command takes, its kind, and its help.
-type Taken = (&'static str, Kind, &'static str);
+pub(crate) type Taken = (&'static str, Kind, &'static str);
 
 /// A command.
-struct Usage {
-    name: &'static str,
-    about: &'static str,
-    takes: &'static [Taken],
+pub(crate) struct Usage {
+    pub(crate) name: &'static str,
+    pub(crate) about: &'static str,
+    pub(crate) takes: &'static [Taken],
 }
 
-const ONE_LIST: Taken = ("FILE", Kind::Words(1, 1), LIST_HELP);
+pub(crate) const ONE_LIST: Taken = ("FILE", Kind::Words(1, 1), LIST_HELP);
 
-const SECOND_LIST: Taken = ("OTHER", Kind::SecondList, LIST_HELP);
+pub(crate) const SECOND_LIST: Taken = ("OTHER", Kind::SecondList, LIST_HELP);
 
 const LISTS: Taken = ("FILE", Kind::Words(1, usize::MAX), LIST_HELP);
 
 const LIST_HELP: &str = "A list of addresses; - is standard input";
 
-const STRICT: Taken = (
+pub(crate) const STRICT: Taken = (
     "strict",
     Kind::Flag(&[]),
     "Refuse a prefix that has bits of 1 after its length",
 );
 
-const SKIP_BAD: Taken = (
+pub(crate) const SKIP_BAD: Taken = (
     "skip-bad",
     Kind::Flag(&[]),
     "Leave bad lines out, and count them on standard error",
 );
 
-const V4: Taken = ("v4", Kind::Flag(&["family"]), "Print IPv4 alone");
+pub(crate) const V4: Taken = ("v4", Kind::Flag(&["family"]), "Print IPv4 alone");
 
-const V6: Taken = ("v6", Kind::Flag(&["family"]), "Print IPv6 alone");
+pub(crate) const V6: Taken = ("v6", Kind::Flag(&["family"]), "Print IPv6 alone");
 
-const RANGES: Taken = (
+pub(crate) const RANGES: Taken = (
     "ranges",
     Kind::Flag(&["form"]),
     "Print ranges in place of prefixes",
 );
 
-const SINGLE: Taken = (
+pub(crate) const SINGLE: Taken = (
     "single",
     Kind::Flag(&["form"]),
     "Print each address on a line",
 );
 
-const JSON: Taken = (
+pub(crate) const JSON: Taken = (
     "json",
-    Kind::Flag(&["form"]),
+    Kind::Flag(&["form", "before", "behind"]),
     "Print a JSON object: the set of each family, as an array of ranges",
+);
+
+const PREFIX: Taken = (
+    "prefix",
+    Kind::Text(&["before"]),
+    "Print this text before what is on each line",
+);
+
+const SUFFIX: Taken = (
+    "suffix",
+    Kind::Text(&["behind"]),
+    "Print this text behind what is on each line",
+);
+
+const IPSET: Taken = (
+    "ipset",
+    Kind::Names(&["NAME"], &["form", "before", "behind"]),
+    "Print what ipset restore reads: the sets NAME_v4 and NAME_v6",
+);
+
+const NFT: Taken = (
+    "nft",
+    Kind::Names(&["TABLE", "NAME"], &["form", "before", "behind"]),
+    "Print what nft -f reads: the sets NAME_v4 and NAME_v6 of a table",
 );
 
 const WITHOUT: Taken = (
@@ -104,7 +139,7 @@ const FROM: Taken = (
     "The old way: the list from which all others are taken",
 );
 
-const QUIET: Taken = (
+pub(crate) const QUIET: Taken = (
     "quiet",
     Kind::Flag(&[]),
     "Print nothing: the exit status alone tells",
@@ -116,7 +151,7 @@ const AT: Taken = (
     "The length of the prefixes that shorter ones are divided into",
 );
 
-const ADDRESSES: Taken = (
+pub(crate) const ADDRESSES: Taken = (
     "ADDRESS",
     Kind::Words(1, usize::MAX),
     "An address that is looked up; - alone: each line of standard input",
@@ -171,7 +206,8 @@ const EXCEPT: Usage = Usage {
     name: "except",
     about: "Print those of a list that are in none of the lists after --without",
     takes: &[
-        LISTS, STRICT, SKIP_BAD, V4, V6, RANGES, SINGLE, JSON, WITHOUT, FROM,
+        LISTS, STRICT, SKIP_BAD, V4, V6, RANGES, SINGLE, JSON, PREFIX, SUFFIX, IPSET, NFT, WITHOUT,
+        FROM,
     ],
 };
 
@@ -179,17 +215,23 @@ static COMMANDS: [Usage; 10] = [
     Usage {
         name: "merge",
         about: "Print the addresses that are in any list",
-        takes: &[LISTS, STRICT, SKIP_BAD, V4, V6, RANGES, SINGLE, JSON],
+        takes: &[
+            LISTS, STRICT, SKIP_BAD, V4, V6, RANGES, SINGLE, JSON, PREFIX, SUFFIX, IPSET, NFT,
+        ],
     },
     Usage {
         name: "common",
         about: "Print those that are in all lists",
-        takes: &[LISTS, STRICT, SKIP_BAD, V4, V6, RANGES, SINGLE, JSON],
+        takes: &[
+            LISTS, STRICT, SKIP_BAD, V4, V6, RANGES, SINGLE, JSON, PREFIX, SUFFIX, IPSET, NFT,
+        ],
     },
     Usage {
         name: "invert",
         about: "Print those of both families that are in no list",
-        takes: &[LISTS, STRICT, SKIP_BAD, V4, V6, RANGES, SINGLE, JSON],
+        takes: &[
+            LISTS, STRICT, SKIP_BAD, V4, V6, RANGES, SINGLE, JSON, PREFIX, SUFFIX, IPSET, NFT,
+        ],
     },
     EXCEPT,
     Usage {
@@ -205,6 +247,10 @@ static COMMANDS: [Usage; 10] = [
             RANGES,
             SINGLE,
             JSON,
+            PREFIX,
+            SUFFIX,
+            IPSET,
+            NFT,
         ],
     },
     Usage {
@@ -215,7 +261,7 @@ static COMMANDS: [Usage; 10] = [
     Usage {
         name: "split",
         about: "Print those that are in any list, in prefixes of LENGTH where they would be shorter",
-        takes: &[LISTS, STRICT, SKIP_BAD, V4, V6, AT],
+        takes: &[LISTS, STRICT, SKIP_BAD, V4, V6, AT, PREFIX, SUFFIX],
     },
     Usage {
         name: "compare",
@@ -228,6 +274,12 @@ static COMMANDS: [Usage; 10] = [
 
 fn flag<'a>(arg: Arg<'a>, groups: &'a [&'a str]) -> Result<Arg<'a>, AllocError> {
     arg.action(ArgAction::SetTrue).groups(groups)
+}
+
+fn text<'a>(arg: Arg<'a>, groups: &'a [&'a str]) -> Result<Arg<'a>, AllocError> {
+    arg.value_name("TEXT")
+        .allow_hyphen_values(true)
+        .groups(groups)
 }
 
 fn length<'a>(arg: Arg<'a>) -> Arg<'a> {
@@ -244,6 +296,13 @@ fn argument<'a>((name, kind, help): Taken, alloc: Global) -> Result<Arg<'a>, All
         Kind::SecondList => Ok(arg.required(true).value_name("FILE")),
         Kind::List(action) => Ok(arg.long(name).action(action).value_name("FILE")),
         Kind::Length => Ok(length(arg.long(name).required(true))),
+        Kind::Text(groups) => text(arg.long(name), groups),
+        Kind::Names(names, groups) => {
+            let arg = arg.long(name).value_names(names);
+            arg.num_args(names.len()..=names.len()).groups(groups)
+        }
+        Kind::NeededList => Ok(arg.long(name).required(true).value_name("FILE")),
+        Kind::Word(called) => Ok(arg.long(name).value_name(called)),
     }
 }
 
@@ -288,6 +347,15 @@ fn commands<'a>(usages: &[Usage], alloc: Global) -> Result<Vec<clap::Command<'a>
     Ok(commands)
 }
 
+/// The commands over tables, as one.
+fn table<'a>(alloc: Global) -> Result<clap::Command<'a>, AllocError> {
+    clap::Command::new(alloc, "table")
+        .about(TABLE_ABOUT)
+        .after_help(TABLE_EXAMPLES)
+        .subcommand_required(true)
+        .subcommands(commands(&TABLE_COMMANDS, alloc)?)
+}
+
 /// The program without its commands.
 fn cidr<'a>(alloc: Global) -> clap::Command<'a> {
     clap::Command::new(alloc, "cidr")
@@ -299,18 +367,23 @@ fn cidr<'a>(alloc: Global) -> clap::Command<'a> {
 
 /// What the program can be asked.
 pub fn program<'a>(alloc: Global) -> Result<clap::Command<'a>, AllocError> {
-    let commands = commands(&COMMANDS, alloc)?;
+    let mut commands = commands(&COMMANDS, alloc)?;
+    commands.push(table(alloc)?)?;
     cidr(alloc).subcommands(commands)
 }
 
-/// The usage of a command; of none, that of `merge`.
+/// The usage of a command among these; of none, that of the first.
+fn usage_among(usages: &'static [Usage], name: &str) -> Option<&'static Usage> {
+    usages.iter().find(|usage| usage.name == name)
+}
+
+/// The usage of a command, by its name behind that of the program; of none, that of `merge`.
 fn usage_of(name: &str) -> &'static Usage {
-    for usage in &COMMANDS {
-        if usage.name == name {
-            return usage;
-        }
-    }
-    &COMMANDS[0]
+    let found = match name.strip_prefix("table ") {
+        Some(name) => usage_among(&TABLE_COMMANDS, name),
+        None => usage_among(&COMMANDS, name),
+    };
+    found.unwrap_or(&COMMANDS[0])
 }
 
 /// An error in what the command of this name is given, with its usage.
@@ -320,8 +393,7 @@ pub fn wrong<'a>(
     kind: ErrorKind,
     message: &str,
 ) -> Result<clap::Error, AllocError> {
-    let usage = usage_of(name);
-    let called = format!(in alloc; "cidr {}", usage.name)?;
-    let mut command = command(usage, alloc)?.bin_name(called.as_str())?;
+    let called = format!(in alloc; "cidr {name}")?;
+    let mut command = command(usage_of(name), alloc)?.bin_name(called.as_str())?;
     command.error(kind, message)
 }

@@ -1,0 +1,12 @@
+-- Lemmas.
+mod Added
+mod Found
+mod Framed
+mod Held
+mod Last
+mod ReadRows
+mod Selected
+mod Shown
+mod Stored
+mod TilesOf
+mod Told

@@ -1,0 +1,4 @@
+use Rattle.address_table_lists.proofs.table.table_of.Goals as goal
+
+pub returns : goal.returns
+returns c = record { v4 = c.in_ok-v4.ensures; v6 = c.in_ok-v6.ensures }
