@@ -5,7 +5,7 @@ built without a proof, which looks itself at what became of them. `rangerun` pla
 conversations of memory.txt. There the replies have to be those of the conversation without the line
 that was refused, with `memory` in the place of that line's, or those of the lines before it and
 `read error`, since to read a line may allocate too. `tokens` has to print the same, or a
-beginning of it and that it is out of memory; `cidr` the same, or nothing. The gate takes these three as they were proved.
+beginning of it and that it is out of memory; `cidr` the same, or nothing, and where it goes over lines a beginning. The gate takes these three as they were proved.
 """
 
 import atexit
@@ -132,8 +132,17 @@ def tokens_ends(_program, _talk):
     return met
 
 
-def cidr_ends(_program, _talk):
-    return lambda found, _: found if (found.out, found.status) == (b"", 1) and found.errors else None
+def goes_over_lines(words):
+    """Whether `cidr` prints while it reads: addresses that are lines looked up, or lines that hold some."""
+    return words[0] == b"grep" or (words[0] == b"has" and words[-1] == b"-")
+
+
+def cidr_ends(_program, talk):
+    def met(found, whole):
+        begins = whole.out.startswith(found.out) if goes_over_lines(talk.words) else not found.out
+        return found if begins and found.status == 1 and found.errors else None
+
+    return met
 
 
 PLAYERS = {"rangerun": rangerun_ends, "tokens": tokens_ends, "cidr": cidr_ends}

@@ -6,9 +6,9 @@ _cidr() {
     return
   fi
   case ${COMP_WORDS[1]} in
-    merge | common | invert | diff) options="$options --v4 --v6 --ranges --single --json" ;;
-    except) options="$options --v4 --v6 --ranges --single --json --without" ;;
-    split) options="$options --v4 --v6 --at" ;;
+    merge | common | invert | diff) options="$options --v4 --v6 --ranges --single --json --prefix --suffix --ipset --nft" ;;
+    except) options="$options --v4 --v6 --ranges --single --json --prefix --suffix --ipset --nft --without" ;;
+    split) options="$options --v4 --v6 --at --prefix --suffix" ;;
     count) options="$options --v4 --v6" ;;
     has) options="$options --quiet" ;;
     grep) options="$options --quiet --invert-match --count --line-number" ;;

@@ -12,7 +12,7 @@ use Rattle.line_program.proofs.Listing.{appends_none, appends_then}
 use Rattle.address_lists.specs.Lookups.{HasIp, IsTold}
 use Rattle.address_lists.specs.declared.addresses.Addresses.{Addresses}
 use Rattle.address_lists.specs.declared.read.ListError.{ListError}
-use Rattle.address_lists.specs.declared.read.ListError.TheVariants.{Unread}
+use Rattle.address_lists.specs.declared.read.ListError.TheVariants.{Memory, Unread}
 use Rattle.address_lines.specs.Sought.{AreSought, IsAddressLine, IsBlank, IsNoAddress, IsToldOf, IsUntold}
 use Rattle.address_lines.specs.Sought.AreSought.{Address, Blank, Ended}
 
@@ -199,7 +199,7 @@ module _ (list : Addresses) where
   pub unread_told : (input left before now : Option (List ℕ)) (number : ℕ) (has_all : Bool)
       (error : ListError)
       → IfSome input (λ bytes. IsToldTo bytes left before now number has_all)
-      → error ≡ Unread
+      → (error ≡ Unread) ⊎ (error ≡ Memory)
       → IfSome input (λ bytes. (addresses : List IpAddr) × (at : ℕ) × (rest : List ℕ)
       × AreSought 1 bytes addresses at rest × IsUntold at rest error
       × Writes before now (SpellsEach (IsTold list) addresses))

@@ -52,7 +52,7 @@ IsNoAddress number text (Json fault) = ⊥
 
 -- the rest is not told of: it cannot be read, or its first line, of this number, is no address
 abbrev pub IsUntold : ℕ → List ℕ → ListError → Type 0
-IsUntold number rest error = (error ≡ Unread)
+IsUntold number rest error = ((error ≡ Unread) ⊎ (error ≡ Memory))
     ⊎ ((rest ≢ []) × IsNoAddress number (take_through 10 rest) error)
 
 module _ (list : Addresses) (bytes : List ℕ) (before after : Option (List ℕ)) where

@@ -1,18 +1,18 @@
 //! The lines of a text that hold an address of a list.
 
-ghost use Rattle.std.specs.Prelude.{◌≡◌, ◌⊎◌, ◌↔◌, ℕ, List, [], if◌then◌else◌, IfErr, IfOk, IfSome, IsTrue, OnOk, length};
+ghost use Rattle.std.specs.Prelude.{◌≡◌, ◌≢◌, ◌⊎◌, ◌↔◌, ℕ, List, [], Err, if◌then◌else◌, IfErr, IfOk, IfSome, IsTrue, OnOk, length};
 ghost use Rattle.std.specs.Io.BufRead.{strip_last};
 ghost use Rattle.std.specs.Io.KnownBytes.{Appends};
-ghost use Rattle.address_lists.specs.declared.read.ListError.TheVariants.{Unread};
+ghost use Rattle.address_lists.specs.declared.read.ListError.TheVariants.{Memory, Unread};
 ghost use Rattle.address_lines.specs.Found.{AreAllFound, AreFound, AreFoundSoFar, IsSought, count_text, ended, line_text, lines_text};
 ghost use Rattle.address_lines.specs.declared.sought.Halt.TheVariants.{Bad, Unwritable};
 
-use crate::line::next_line;
 use crate::sought::Halt;
 use crate::words::holds_address;
 use address_lists::{Addresses, ListError};
+use line_program::read::LineRead;
 use std::alloc::Global;
-use std::io::{self, BufRead, Write};
+use std::io::{self, Write};
 
 /// What is written of the lines that are found.
 #[derive(Clone, Copy, PartialEq, Eq, Debug)]
@@ -115,7 +115,7 @@ fn search_line<W: Write>(
 }
 
 /// Writes what is shown of each line that is sought, and returns how many are.
-fn search_lines<R: BufRead, W: Write>(
+fn search_lines<R: LineRead, W: Write>(
     buffer: &mut Vec<u8>,
     list: &Addresses,
     search: Search,
@@ -129,24 +129,26 @@ fn search_lines<R: BufRead, W: Write>(
         × (count ≡ length found)
         × Appends (W.contents out.old) (W.contents out.new)
         (lines_text search.showing before.now found))) }
-    ensures unread { IfErr result (λ halt. halt ≡ Bad Unread → IfSome (R.remaining input.old)
+    ensures halted { IfErr result (λ halt. halt ≢ Unwritable → IfSome (R.remaining input.old)
         (λ bytes. AreFoundSoFar list.now search before.now bytes (W.contents out.old)
         (W.contents out.new))) }
-    ensures reason { IfErr result (λ halt. (halt ≡ Bad Unread) ⊎ (halt ≡ Unwritable)) }
+    ensures reason { IfErr result
+        (λ halt. (halt ≡ Bad Unread) ⊎ ((halt ≡ Bad Memory) ⊎ (halt ≡ Unwritable))) }
+    ensures unread { result ≡ Err (Bad Unread) → R.fails }
 {
     let mut count = 0;
     for number in 1..u64::MAX {
-        match next_line(buffer, input) {
+        match input.next_line(buffer) {
             Ok(true) => {}
             Ok(false) => return Ok(count),
-            Err(error) => return Err(Halt::Bad(error)),
+            Err(error) => return Err(Halt::Bad(ListError::from(error))),
         }
         match search_line(list, search, before, number, buffer.as_slice(), out) {
             Ok(found) => count += u64::from(found),
             Err(_) => return Err(Halt::Unwritable),
         }
     }
-    Err(Halt::Bad(ListError::Unread))
+    Err(Halt::Bad(ListError::Memory))
 }
 
 /// Writes the lines of a text that hold an address of the list, byte for byte and in order, and
@@ -159,9 +161,10 @@ fn search_lines<R: BufRead, W: Write>(
 ///
 /// # Errors
 ///
-/// `Bad` with `Unread` where the text cannot be read: what is sought of the lines before is written
-/// then. `Unwritable` where something cannot be written.
-pub fn write_found_lines<R: BufRead, W: Write>(
+/// `Bad` with `Unread` where a read of the text failed, and nowhere else, or with `Memory`: what is
+/// sought of the lines before is written then. `Unwritable` where something cannot be written; no
+/// contract tells how much of it is.
+pub fn write_found_lines<R: LineRead, W: Write>(
     alloc: Global,
     list: &Addresses,
     search: Search,
@@ -172,10 +175,12 @@ pub fn write_found_lines<R: BufRead, W: Write>(
     ensures found { IfOk result (λ count. IfSome (R.remaining input.old)
         (λ bytes. AreAllFound list.now search before.now bytes (W.contents out.old)
         (W.contents out.new) count)) }
-    ensures unread { IfErr result (λ halt. halt ≡ Bad Unread → IfSome (R.remaining input.old)
+    ensures halted { IfErr result (λ halt. halt ≢ Unwritable → IfSome (R.remaining input.old)
         (λ bytes. AreFoundSoFar list.now search before.now bytes (W.contents out.old)
         (W.contents out.new))) }
-    ensures reason { IfErr result (λ halt. (halt ≡ Bad Unread) ⊎ (halt ≡ Unwritable)) }
+    ensures reason { IfErr result
+        (λ halt. (halt ≡ Bad Unread) ⊎ ((halt ≡ Bad Memory) ⊎ (halt ≡ Unwritable))) }
+    ensures unread { result ≡ Err (Bad Unread) → R.fails }
 {
     let mut buffer = Vec::new(alloc);
     let count = match search_lines(&mut buffer, list, search, before, input, out) {

@@ -2,7 +2,6 @@
 //!
 //! Where to find what:
 //!
-//! - the next line of a text: `src/line.rt`
 //! - whether a line holds an address of a list, and which part of a line counts as an address:
 //!   `src/words.rt`, `specs/Words.antt`, `proofs/Pieces.antt`
 //! - the lines that hold one, and how they are written: `src/grep.rt`, `specs/Found.antt`,
@@ -12,7 +11,6 @@
 #![tactic(auto)]
 
 pub mod grep;
-mod line;
 pub mod sought;
 pub mod words;
 

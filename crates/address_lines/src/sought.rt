@@ -1,16 +1,17 @@
 //! Lines that are addresses, looked up in a list.
 
-ghost use Rattle.std.specs.Prelude.{◌≡◌, IfErr, IfOk, IfSome, MatchOption};
+ghost use Rattle.std.specs.Prelude.{◌≡◌, Err, IfErr, IfOk, IfSome, MatchOption};
 ghost use Rattle.address_lists.specs.declared.read.ListError.{ListError};
+ghost use Rattle.address_lists.specs.declared.read.ListError.TheVariants.{Unread};
 ghost use Rattle.line_program.specs.Listing.{Writes};
 ghost use Rattle.address_lines.specs.Sought.{AreTold, AreToldUntil, IsAddressLine, IsBlank, IsNoAddress, IsToldOf};
 ghost use Rattle.address_lines.specs.declared.sought.Halt.TheVariants.{Bad};
 
-use crate::line::next_line;
 use address_lists::{Addresses, ListError, write_told};
 use address_text::{Expected, content_of, excerpt_at};
+use line_program::read::LineRead;
 use std::alloc::Global;
-use std::io::{BufRead, Write};
+use std::io::Write;
 use std::net::IpAddr;
 
 /// Why no further line is gone over.
@@ -66,7 +67,7 @@ fn tell_line<W: Write>(
 }
 
 /// Tells of all lines, and returns whether the list has each of their addresses.
-fn tell_lines<R: BufRead, W: Write>(
+fn tell_lines<R: LineRead, W: Write>(
     buffer: &mut Vec<u8>,
     list: &Addresses,
     input: &mut R,
@@ -77,20 +78,21 @@ fn tell_lines<R: BufRead, W: Write>(
     ensures bad { IfErr result (λ halt. (error : ListError) → halt ≡ Bad error
         → IfSome (R.remaining input.old) (λ bytes. AreToldUntil list.now bytes
         (W.contents out.old) (W.contents out.new) error)) }
+    ensures unread { result ≡ Err (Bad Unread) → R.fails }
 {
     let mut has_all = true;
     for number in 1..u64::MAX {
-        match next_line(buffer, input) {
+        match input.next_line(buffer) {
             Ok(true) => {}
             Ok(false) => return Ok(has_all),
-            Err(error) => return Err(Halt::Bad(error)),
+            Err(error) => return Err(Halt::Bad(ListError::from(error))),
         }
         match tell_line(list, buffer.as_slice(), number, out) {
             Ok(has) => has_all &= has,
             Err(halt) => return Err(halt),
         }
     }
-    Err(Halt::Bad(ListError::Unread))
+    Err(Halt::Bad(ListError::Memory))
 }
 
 /// Tells of the address in each line whether the list has it, a line each, and returns whether the
@@ -102,9 +104,10 @@ fn tell_lines<R: BufRead, W: Write>(
 ///
 /// # Errors
 ///
-/// `Bad` with `Unread` where a line cannot be read, and with `BadLine` at the first that is no
-/// address: the lines before it are told of then. `Unwritable` where something cannot be written.
-pub fn write_told_lines<R: BufRead, W: Write>(
+/// `Bad` with `Unread` where a read of the lines failed, and nowhere else, with `Memory`, and with
+/// `BadLine` at the first line that is no address: the lines before it are told of then.
+/// `Unwritable` where something cannot be written.
+pub fn write_told_lines<R: LineRead, W: Write>(
     alloc: Global,
     list: &Addresses,
     input: &mut R,
@@ -115,6 +118,7 @@ pub fn write_told_lines<R: BufRead, W: Write>(
     ensures bad { IfErr result (λ halt. (error : ListError) → halt ≡ Bad error
         → IfSome (R.remaining input.old) (λ bytes. AreToldUntil list.now bytes
         (W.contents out.old) (W.contents out.new) error)) }
+    ensures unread { result ≡ Err (Bad Unread) → R.fails }
 {
     let mut buffer = Vec::new(alloc);
     tell_lines(&mut buffer, list, input, out)

@@ -1,21 +1,25 @@
 -- Lists as JSON: their texts, and what is read of texts.
-use Rattle.std.proofs.Common.{◌≡◌, ℕ, Bool, false, ◌||◌, List, [], ◌∷◌, Option, None, Some, IfSome, Result, Ok, Err, IfErr, IfOk, inl, inr, refl, sym, subst}
+use Rattle.std.proofs.Common.{◌≡◌, ℕ, Bool, false, ◌||◌, List, [], ◌∷◌, ◌++◌, map, Option, None, Some, IfSome, Result, Ok, Err, IfErr, IfOk, inl, inr, ap, refl, sym, subst, ◌∙◌, append_assoc, arith}
+use Rattle.std.proofs.lemmas.List.{append-nil, map-append}
 use Rattle.std.specs.declared.ops.Bound.{Bound}
 use Rattle.std.specs.declared.ops.Bound.TheVariants.{Included, Excluded, Unbounded}
 use Rattle.serde_json.specs.Data.{Data}
 use Rattle.serde_json.specs.Read.{read}
+use Rattle.serde_json.specs.View.{view}
 use Rattle.serde_json.specs.Written.{has_float}
+use Rattle.serde_json.specs.declared.value.Value.{Value}
 use Rattle.btree_range_map.specs.AnyRange.{AnyRange}
-use Rattle.btree_range_map.specs.Item.{Item}
-use Rattle.btree_range_map.specs.Shapes.{bound_shape, range_shape, set_shape}
-use Rattle.address_keys.specs.Json.{reads_ipv4, reads_ipv6}
+use Rattle.btree_range_map.specs.Names.{range_inclusive}
+use Rattle.btree_range_map.specs.Shapes.{bound_shape, range_shape}
+use Rattle.address_keys.specs.Addresses.{ipv4_at, ipv6_at}
+use Rattle.address_keys.specs.Json.{ipv4_shape, ipv6_shape, reads_ipv4, reads_ipv6}
+use Rattle.address_text.specs.declared.family.Family.{Family}
 use Rattle.address_text.specs.declared.family.Family.TheVariants.{V4, V6}
-use Rattle.address_lists.specs.Json.{IsDocument, IsJsonReason, IsListRead, IsValueReason, list_shape, member_of, IsSetReason}
+use Rattle.address_lists.specs.Json.{IsDocument, IsJsonReason, IsListRead, IsListShape, IsMemberReason, IsSetReason, IsSetShape, IsValueReason, member_of, runs_shape, span_shape}
 use Rattle.address_lists.specs.declared.addresses.Addresses.{Addresses}
 use Rattle.address_lists.specs.declared.json.JsonFault.TheVariants.{Members, Set, Text}
 use Rattle.address_lists.specs.declared.read.ListError.{ListError}
 use Rattle.address_lists.specs.declared.read.ListError.TheVariants.{BadLine, Json, Memory, Unread}
-use Rattle.std.proofs.Common.{arith}
 
 neither_true : (a b : Bool) → a ≡ false → b ≡ false → (a || b) ≡ false
 neither_true a b p q = rw (p, q) refl
@@ -30,15 +34,50 @@ module _ {K : Type 0} (shape : K → Data)
   range_has_no_float : (r : AnyRange K) → has_float (range_shape shape r) ≡ false
   range_has_no_float r = grind (arith, neither_true, bound_has_no_float)
 
-  set_has_no_float : (items : List (Item (AnyRange K) (Unit {0})))
-      → has_float (set_shape shape items) ≡ false
-  set_has_no_float [] = refl
-  set_has_no_float (i ∷ items) =
-      grind (arith, neither_true, range_has_no_float, set_has_no_float items)
+  runs_have_no_float : (at : ℕ → K) (runs : List (ℕ × ℕ))
+      → has_float (runs_shape shape at runs) ≡ false
+  runs_have_no_float at [] = refl
+  runs_have_no_float at (run ∷ runs) =
+      neither_true (has_float (span_shape shape at run)) (has_float (runs_shape shape at runs))
+      (range_has_no_float (range_inclusive (at run.0) (at run.1))) (runs_have_no_float at runs)
+
+set_has_no_float : (list : Addresses) (family : Family) (d : Data) → IsSetShape list family d
+    → has_float d ≡ false
+set_has_no_float list V4 d (runs, whole, is) =
+    ap has_float is ∙ runs_have_no_float ipv4_shape (λ key. refl) ipv4_at runs
+set_has_no_float list V6 d (runs, whole, is) =
+    ap has_float is ∙ runs_have_no_float ipv6_shape (λ key. refl) ipv6_at runs
 
 -- what a list is written as has no float, so its text is known
-pub list_has_no_float : (list : Addresses) → has_float (list_shape list) ≡ false
-list_has_no_float list = grind (arith, neither_true, set_has_no_float)
+pub list_has_no_float : (list : Addresses) (d : Data) → IsListShape list d → has_float d ≡ false
+list_has_no_float list d (v4, v6, first, second, is) =
+    ap has_float is
+    ∙ neither_true (has_float v4) (has_float v6 || false) (set_has_no_float list V4 v4 first)
+    (neither_true (has_float v6) false (set_has_no_float list V6 v6 second) refl)
+
+-- the values of the runs before those that are left
+abbrev pub AreValuesTo : {X : Type 0} → (X → Data) → List X → List X → List Value → Type 0
+AreValuesTo shape all left done = map view done ++ map shape left ≡ map shape all
+
+pub no_values : {X : Type 0} (shape : X → Data) (all : List X) (done : List Value) → done ≡ []
+    → AreValuesTo shape all all done
+no_values shape all done none = rw none refl
+
+pub one_value : {X : Type 0} (shape : X → Data) (all left rest : List X) (x : X) (value : Value)
+    (done new : List Value) → AreValuesTo shape all left done → left ≡ x ∷ rest
+    → view value ≡ shape x → new ≡ done ++ value ∷ [] → AreValuesTo shape all rest new
+one_value shape all left rest x value done new so_far steps is more =
+    ap (λ vs. map view vs ++ map shape rest) more
+    ∙ ap (λ ds. ds ++ map shape rest) (map-append view done (value ∷ []))
+    ∙ append_assoc (map view done) (view value ∷ []) (map shape rest)
+    ∙ ap (λ d. map view done ++ d ∷ map shape rest) is
+    ∙ ap (λ xs. map view done ++ map shape xs) (sym steps)
+    ∙ so_far
+
+pub all_values : {X : Type 0} (shape : X → Data) (all left : List X) (done : List Value)
+    → AreValuesTo shape all left done → left ≡ [] → map view done ≡ map shape all
+all_values shape all left done so_far none =
+    sym (append-nil (map view done)) ∙ ap (λ xs. map view done ++ map shape xs) (sym none) ∙ so_far
 
 pub if_ok_as : {A E : Type 0} (r : Result A E) (P Q : A → Type 0) → ((x : A) → P x → Q x) → IfOk r P
     → IfOk r Q
@@ -55,6 +94,16 @@ pub v6_unread : (d set : Data) (e : ListError) → member_of V6 d ≡ Some set
     → IsSetReason V6 reads_ipv6 set e → IsValueReason d e
 v6_unread d set e is (inl memory) = subst (IsValueReason d) (sym memory) tt
 v6_unread d set e is (inr (fault, same, found)) = grind arith
+
+pub v4_member_unread : (d : Data) (member : Option Data) (e : ListError)
+    → member ≡ member_of V4 d → IsMemberReason V4 reads_ipv4 member e → IsValueReason d e
+v4_member_unread d None e same why = absurd why
+v4_member_unread d (Some set) e same why = v4_unread d set e (sym same) why
+
+pub v6_member_unread : (d : Data) (member : Option Data) (e : ListError)
+    → member ≡ member_of V6 d → IsMemberReason V6 reads_ipv6 member e → IsValueReason d e
+v6_member_unread d None e same why = absurd why
+v6_member_unread d (Some set) e same why = v6_unread d set e (sym same) why
 
 -- why the value of a text is not read
 pub value_unread : (bytes : List ℕ) (d : Data) (e : ListError) → read bytes ≡ Some d

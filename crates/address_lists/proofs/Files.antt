@@ -1,5 +1,5 @@
 -- Lists of either form.
-use Rattle.std.proofs.Common.{◌≡◌, ◌⊎◌, ℕ, Bool, true, false, List, [], Option, None, Some, IfSome, Result, Ok, Err, IfErr, inl, refl, subst}
+use Rattle.std.proofs.Common.{◌≡◌, ◌⊎◌, ℕ, Bool, true, false, List, [], Option, None, Some, IfSome, Result, Ok, Err, IfErr, inl, inr, refl, subst, sym}
 use Rattle.std.specs.Io.KnownBytes.{Keeps}
 use Rattle.btree_range_map.specs.Holding.{box_items}
 use Rattle.btree_range_map.specs.KeySets.{HoldsKey}
@@ -8,7 +8,8 @@ use Rattle.address_text.specs.declared.family.Family.{Family}
 use Rattle.address_text.specs.declared.family.Family.TheVariants.{V4, V6}
 use Rattle.address_text.specs.declared.line.Line.{Line}
 use Rattle.address_lists.specs.Files.{IsFile, IsFileReason, IsReadAs, IsReasonAs, is_json}
-use Rattle.address_lists.specs.Json.{IsDocument}
+use Rattle.address_lists.proofs.Reading.{other_fault}
+use Rattle.address_lists.specs.Json.{IsDocument, IsJsonReason}
 use Rattle.address_lists.specs.Lists.{AreGood, Has, HasJust, IsListed}
 use Rattle.address_lists.specs.Lists.AreGood.{Ended}
 use Rattle.address_lists.specs.Reading.{HasFault}
@@ -78,13 +79,19 @@ module _ (strict : Bool) where
   lines_unread bad_lines input later told (Ok found) kept is lines why = tt
   lines_unread bad_lines input later told (Err error) kept is lines why = grind (arith, file_unread)
 
-  any_unread : (told : Bool) (bad_lines : BadLines) (bytes : List ℕ)
-      → IsReasonAs strict told bad_lines bytes Unread
-  any_unread true bad_lines bytes = tt
-  any_unread false bad_lines bytes = (([], bytes, Ended bytes, tt), λ skipped. inl refl)
+  any_reason : (told : Bool) (bad_lines : BadLines) (bytes : List ℕ) (error : ListError)
+      → (error ≡ Unread) ⊎ (error ≡ Memory) → IsReasonAs strict told bad_lines bytes error
+  any_reason true bad_lines bytes error (inl unread) = subst (IsJsonReason bytes) (sym unread) tt
+  any_reason true bad_lines bytes error (inr memory) = subst (IsJsonReason bytes) (sym memory) tt
+  any_reason false bad_lines bytes error other = (
+    other_fault strict (Some bytes) error other,
+    λ skipped. other,
+  )
 
   -- an input that cannot be looked at
-  pub none_seen : (bad_lines : BadLines) (input : Option (List ℕ))
-      → IfSome input (λ bytes. IsFileReason strict bad_lines bytes Unread)
-  none_seen bad_lines None = tt
-  none_seen bad_lines (Some bytes) = any_unread (is_json bytes) bad_lines bytes
+  pub none_seen : (bad_lines : BadLines) (input : Option (List ℕ)) (error : ListError)
+      → (error ≡ Unread) ⊎ (error ≡ Memory)
+      → IfSome input (λ bytes. IsFileReason strict bad_lines bytes error)
+  none_seen bad_lines None error other = tt
+  none_seen bad_lines (Some bytes) error other =
+      any_reason (is_json bytes) bad_lines bytes error other

@@ -37,11 +37,6 @@ read_more : (old : Addresses) (Before After : Family → ℕ → Type 0) (lines 
     → AreRead old After (lines ++ line ∷ [])
 read_more old Before After lines line read taken family n h = grind (arith, any_append)
 
--- bytes that begin with a line of some bytes
-not_empty : (bytes : List ℕ) → 0 < length (take_through 10 bytes) → bytes ≢ []
-not_empty [] some = grind arith
-not_empty (b ∷ bytes) some = λ none. cc
-
 module _ (strict : Bool) where
   -- the lines of the input before the one of this number are read
   pub record IsReadTo (input : List ℕ) (left : Option (List ℕ)) (number others : ℕ)
@@ -166,39 +161,48 @@ module _ (strict : Bool) where
         subst (λ k. IsBad strict read.remaining k error) place bad,
       )
 
-  bad_line : (line bytes text seen again found : List ℕ) (number column : ℕ)
-      (expected : Expected) → text ≡ line → line ≡ take_through 10 bytes → 0 < length text
-      → seen ≡ text → again ≡ text → SaysNothingKnown strict seen → 1 ≤ column
-      → column ≤ length again + 1 → IsFault again column expected → IsFoundAt again column found
+  bad_line : (bytes text seen again found : List ℕ) (number column : ℕ) (expected : Expected)
+      → bytes ≢ [] → text ≡ take_through 10 bytes → seen ≡ text → again ≡ text
+      → SaysNothingKnown strict seen → 1 ≤ column → column ≤ length again + 1
+      → IsFault again column expected → IsFoundAt again column found
       → IsBad strict bytes number (BadLine number column expected found)
-  bad_line line bytes text seen again found number column expected is read some one other
-      nothing first last wrong stands =
-      let last_line : again ≡ take_through 10 bytes = other ∙ is ∙ read in
-      let seen_line : seen ≡ take_through 10 bytes = one ∙ is ∙ read in
-      let long : length text ≡ length (take_through 10 bytes) = ap length (is ∙ read) in (
+  bad_line bytes text seen again found number column expected some is one other nothing first last
+      wrong stands =
+      let last_line : again ≡ take_through 10 bytes = other ∙ is in
+      let seen_line : seen ≡ take_through 10 bytes = one ∙ is in (
         refl,
         first,
         subst (λ l. column ≤ length l + 1) last_line last,
         subst (λ l. IsFault l column expected) last_line wrong,
         subst (λ l. IsFoundAt l column found) last_line stands,
-        not_empty bytes (omega (arith, long, some)),
+        some,
         subst (SaysNothingKnown strict) seen_line nothing,
       )
 
   -- the line that is read says nothing that is known
-  pub bad_found : (left : Option (List ℕ)) (start text seen again found : List ℕ)
-      (number column : ℕ) (expected : Expected) → start ≡ [] → 0 < length text → seen ≡ text → again ≡ text
-      → IfSome left (λ bytes. text ≡ start ++ take_through 10 bytes)
+  pub bad_found : (left later : Option (List ℕ)) (text seen again found : List ℕ)
+      (number column : ℕ) (expected : Expected) → seen ≡ text → again ≡ text
+      → IfSome left (λ bytes. (bytes ≢ []) × (later ≡ Some (drop_through 10 bytes))
+      × (text ≡ take_through 10 bytes))
       → SaysNothingKnown strict seen → 1 ≤ column → column ≤ length again + 1
       → IsFault again column expected → IsFoundAt again column found
       → IfSome left (λ bytes. IsBad strict bytes number (BadLine number column expected found))
-  bad_found None start text seen again found number column expected none some one other
-      read nothing first last wrong stands = tt
-  bad_found (Some bytes) start text seen again found number column expected none some one other
-      read nothing first last wrong stands =
-      bad_line (take_through 10 bytes) bytes text seen again found number column expected
-      (read ∙ ap (λ before. before ++ take_through 10 bytes) none) refl some one other nothing
-      first last wrong stands
+  bad_found None later text seen again found number column expected one other read nothing first
+      last wrong stands = tt
+  bad_found (Some bytes) later text seen again found number column expected one other
+      (some, later_is, is) nothing first last wrong stands =
+      bad_line bytes text seen again found number column expected some is one other nothing first
+      last wrong stands
+
+  -- a line that cannot be read
+  pub other_bad : (left : Option (List ℕ)) (number : ℕ) (error : ListError)
+      → (error ≡ Unread) ⊎ (error ≡ Memory)
+      → IfSome left (λ bytes. IsBad strict bytes number error)
+  other_bad None number error other = tt
+  other_bad (Some bytes) number error (inl unread) =
+      subst (IsBad strict bytes number) (sym unread) tt
+  other_bad (Some bytes) number error (inr memory) =
+      subst (IsBad strict bytes number) (sym memory) tt
 
   -- all lines before a bad one were good
   pub fault_read : (input left : Option (List ℕ)) (number others : ℕ) (old : Addresses)
@@ -225,11 +229,12 @@ module _ (strict : Bool) where
   -- all lines before a bad one were good, where bad ones are not left out
   pub fault_found : (bad_lines : BadLines) (input left : Option (List ℕ)) (number others : ℕ)
       (old : Addresses) (IsRead : Family → ℕ → Type 0) (error : ListError)
-      → (bad_lines ≡ Refused → others ≡ 0) → (bad_lines ≡ Skipped → error ≡ Unread)
+      → (bad_lines ≡ Refused → others ≡ 0)
+      → (bad_lines ≡ Skipped → (error ≡ Unread) ⊎ (error ≡ Memory))
       → IfSome input (λ bytes. IsReadTo bytes left number others old IsRead)
       → IfSome left (λ bytes. IsBad strict bytes number error)
       → IfSome input (λ bytes. HasFault strict bytes error)
   fault_found Refused input left number others old IsRead error none unread read bad =
       fault_read input left number others old IsRead error (none refl) read bad
   fault_found Skipped input left number others old IsRead error none unread read bad =
-      other_fault input error (inl (unread refl))
+      other_fault input error (unread refl)

@@ -1,10 +1,11 @@
 -- Lines of numbers at equal distances, written one after the other.
-use Rattle.std.proofs.Common.{◌≡◌, ℕ, zero, suc, ◌+◌, ◌-◌, ◌*◌, ◌^◌, ◌≤◌, ◌<◌, List, ◌++◌, Option, ap, sym, subst, ◌∙◌, append_assoc, arith}
+use Rattle.std.proofs.Common.{◌≡◌, ℕ, zero, suc, ◌+◌, ◌-◌, ◌*◌, ◌^◌, ◌≤◌, ◌<◌, List, ◌∷◌, ◌++◌, Option, ap, sym, subst, ◌∙◌, append_assoc, arith}
 use Rattle.std.proofs.Math.Pow.{pow-add}
 use Rattle.std.proofs.lemmas.Bool.{cases_lt}
 use Rattle.std.specs.Io.KnownBytes.{Appends}
 use Rattle.address_lists.specs.Series.{series}
-use Rattle.line_program.proofs.Listing.{append_nil, appends_none, appends_then}
+use Rattle.std.specs.List.{AllByRecursion}
+use Rattle.line_program.proofs.Listing.{HasShown, append_nil, appends_none, appends_then, shown_more}
 use Rattle.line_program.specs.Listing.{Writes}
 use Rattle.std.proofs.Common.{rules}
 
@@ -80,3 +81,14 @@ module _ (line : ℕ → List ℕ) (step : ℕ) where
       → Writes before next (λ text. text ≡ series line step count first)
   all_written count first last n others before now next so_far is few one =
       grind (arith, one_left, first_line, append_nil, appends_then)
+
+-- one range more is written
+pub one_range : (T : ℕ × ℕ → List ℕ → Type 0) (P : ℕ × ℕ → Type 0) (all left rest : List (ℕ × ℕ))
+    (range : ℕ × ℕ) (before now next : Option (List ℕ)) → left ≡ range ∷ rest
+    → HasShown T all left before now × AllByRecursion P left → Writes now next (T range)
+    → HasShown T all rest before next × AllByRecursion P rest
+one_range T P all left rest range before now next steps (shown, fit) written = (
+  shown_more T all rest range before now next
+      (subst (λ ranges. HasShown T all ranges before now) steps shown) written,
+  (subst (AllByRecursion P) steps fit).1,
+)

@@ -11,24 +11,26 @@ use Rattle.address_lists.specs.Split.{AreSplit, IsPrintedSplit, IsSplit, IsSplit
 use Rattle.address_lists.specs.declared.addresses.Addresses.{Addresses}
 use Rattle.std.proofs.Common.{rules}
 
-line_whole : (family : Family) (length network : ℕ) (text : List ℕ)
-    → IsSplitText family 0 length network text → text ≡ prefix_line family network length
-line_whole family length network text (inl divided) = grind arith
-line_whole family length network text (inr whole) = whole.1
+module _ (before after : List ℕ) where
+  line_whole : (family : Family) (length network : ℕ) (text : List ℕ)
+      → IsSplitText before after family 0 length network text
+      → text ≡ prefix_line before after family network length
+  line_whole family length network text (inl divided) = grind arith
+  line_whole family length network text (inr whole) = whole.1
 
-module _ {A : Type 0} (family : Family) (number : A → ℕ) where
-  lines_whole : (prefixes : List (Prefix A)) (text : List ℕ)
-      → SpellsEach (IsSplit family number 0) prefixes text
-      → SpellsEach (λ prefix line. line ≡ prefix_of family number prefix) prefixes text
-  lines_whole [] text none = none
-  lines_whole (prefix ∷ prefixes) text (line, lines, one, rest, is) =
-      grind (arith, line_whole, lines_whole prefixes lines rest)
+  module _ {A : Type 0} (family : Family) (number : A → ℕ) where
+    lines_whole : (prefixes : List (Prefix A)) (text : List ℕ)
+        → SpellsEach (IsSplit before after family number 0) prefixes text
+        → SpellsEach (λ prefix line. line ≡ prefix_of before after family number prefix) prefixes text
+    lines_whole [] text none = none
+    lines_whole (prefix ∷ prefixes) text (line, lines, one, rest, is) =
+        grind (arith, line_whole, lines_whole prefixes lines rest)
 
-  set_whole : (order : KeyOrder A) (width : ℕ) (ranges : List (AnyRange A)) (text : List ℕ)
-      → AreSplit family number 0 order width ranges text
-      → ArePrinted family number order width ranges text
-  set_whole order width ranges text split = grind (arith, lines_whole)
+    set_whole : (order : KeyOrder A) (width : ℕ) (ranges : List (AnyRange A)) (text : List ℕ)
+        → AreSplit before after family number 0 order width ranges text
+        → ArePrinted before after family number order width ranges text
+    set_whole order width ranges text split = grind (arith, lines_whole)
 
-pub printed_whole : (list : Addresses) (text : List ℕ) → IsPrintedSplit 0 list text
-    → IsPrinted list text
-printed_whole list text (first, second, v4, v6, is) = search (rules, set_whole)
+  pub printed_whole : (list : Addresses) (text : List ℕ) → IsPrintedSplit before after 0 list text
+      → IsPrinted before after list text
+  printed_whole list text (first, second, v4, v6, is) = search (rules, set_whole)

@@ -35,7 +35,7 @@ IsRunOf list address run =
 abbrev pub run_line : IpAddr → Option (ℕ × ℕ) → List ℕ
 run_line address None = ip_text address ++ codes " -" ++ 10 ∷ []
 run_line address (Some ends) =
-    (ip_text address ++ codes " ") ++ span_line (ip_family address) ends.0 ends.1
+    (ip_text address ++ codes " ") ++ span_line [] [] (ip_family address) ends.0 ends.1
 
 -- the line that tells where the list has the address
 abbrev pub IsLookup : Addresses → IpAddr → List ℕ → Type 0
@@ -46,7 +46,7 @@ IsLookup list address line =
 abbrev pub told_line : IpAddr → Option (ℕ × ℕ) → List ℕ
 told_line address None = ip_text address ++ codes " out" ++ 10 ∷ []
 told_line address (Some ends) =
-    (ip_text address ++ codes " in ") ++ span_line (ip_family address) ends.0 ends.1
+    (ip_text address ++ codes " in ") ++ span_line [] [] (ip_family address) ends.0 ends.1
 
 -- the line that tells whether the list has the address
 abbrev pub IsTold : Addresses → IpAddr → List ℕ → Type 0

@@ -14,6 +14,10 @@ use Rattle.address_lists.specs.declared.read.ListError.TheVariants.{BadLine, Jso
 abbrev pub IsFoundAt : List ℕ → ℕ → List ℕ → Type 0
 IsFoundAt line column found = found ≡ take 40 (content (drop (column - 1) line))
 
+-- no contract tells when a disk fails, or when an allocation is refused
+abbrev pub MayFail : Type 0
+MayFail = Unit {0}
+
 module _ (strict : Bool) where
   -- a line is read of the input, which goes on behind it
   abbrev pub IsNext : Option (List ℕ) → Option (List ℕ) → (List ℕ → Type 0) → Type 0
@@ -36,8 +40,8 @@ module _ (strict : Bool) where
       × IsFault (take_through 10 bytes) column expected
       × IsFoundAt (take_through 10 bytes) column found
       × (bytes ≢ []) × SaysNothingKnown strict (take_through 10 bytes)
-  IsBad bytes number Unread = Unit {0}
-  IsBad bytes number Memory = Unit {0}
+  IsBad bytes number Unread = MayFail
+  IsBad bytes number Memory = MayFail
   IsBad bytes number (Json fault) = ⊥
 
   -- all lines before a bad one say something, and it is counted from 1

@@ -15,42 +15,51 @@ use Rattle.address_text.specs.declared.family.Family.TheVariants.{V4, V6}
 use Rattle.address_lists.specs.Series.{series}
 use Rattle.address_lists.specs.declared.addresses.Addresses.{Addresses}
 
--- the lines of so many prefixes of a length, one after the other, from an address on
-abbrev pub part_lines : Family → ℕ → ℕ → ℕ → List ℕ
-part_lines family length count network =
-    series (λ n. prefix_line family n length) (2 ^ (width family - length)) count network
-
 -- a prefix of a length is shorter than another length, and addresses have so many bits
 abbrev pub IsDivisible : Family → ℕ → ℕ → Type 0
 IsDivisible family length prefix_length = (prefix_length < length) × (length ≤ width family)
 
--- the lines of the prefixes of the length that have the addresses of a prefix, or its own where it
--- is not divided
-abbrev pub IsSplitText : Family → ℕ → ℕ → ℕ → List ℕ → Type 0
-IsSplitText family length prefix_length network text =
-    (IsDivisible family length prefix_length
-    × (text ≡ part_lines family length (2 ^ (length - prefix_length)) network))
-    ⊎ ((¬ IsDivisible family length prefix_length)
-    × (text ≡ prefix_line family network prefix_length))
+-- of lines with a text before each and one behind it
+module _ (before after : List ℕ) where
+  -- the lines of so many prefixes of a length, one after the other, from an address on
+  abbrev pub part_lines : Family → ℕ → ℕ → ℕ → List ℕ
+  part_lines family length count network =
+      series (λ n. prefix_line before after family n length) (2 ^ (width family - length)) count
+      network
 
-module _ {A : Type 0} (family : Family) (number : A → ℕ) (length : ℕ) where
-  abbrev pub IsSplit : Prefix A → List ℕ → Type 0
-  IsSplit prefix text = IsSplitText family length prefix.length (number prefix.network) text
+  -- the lines of the prefixes of the length that have the addresses of a prefix, or its own where
+  -- it is not divided
+  abbrev pub IsSplitText : Family → ℕ → ℕ → ℕ → List ℕ → Type 0
+  IsSplitText family length prefix_length network text =
+      (IsDivisible family length prefix_length
+      × (text ≡ part_lines family length (2 ^ (length - prefix_length)) network))
+      ⊎ ((¬ IsDivisible family length prefix_length)
+      × (text ≡ prefix_line before after family network prefix_length))
 
-  -- the text is that of prefixes which have just the addresses of the ranges, ascending and as few
-  -- as can be, each of them split
-  pub record AreSplit (order : KeyOrder A) (bits : ℕ) (ranges : List (AnyRange A)) (text : List ℕ)
-      : Type 0 where
-    pub prefixes : List (Prefix A)
-    pub exact : HaveJust number order prefixes ranges
-    pub whole : AllByRecursion (IsPrefix number bits) prefixes
-    pub ascending : AreAscending number prefixes
-    pub fewest : AreFewest number order bits prefixes ranges
-    pub spelled : SpellsEach IsSplit prefixes text
+  module _ {A : Type 0} (family : Family) (number : A → ℕ) (length : ℕ) where
+    abbrev pub IsSplit : Prefix A → List ℕ → Type 0
+    IsSplit prefix text = IsSplitText family length prefix.length (number prefix.network) text
 
--- those of IPv4, and then those of IPv6
-abbrev pub IsPrintedSplit : ℕ → Addresses → List ℕ → Type 0
-IsPrintedSplit length list text = (first : List ℕ) × (second : List ℕ)
-    × AreSplit V4 ipv4_number length ipv4_order 32 (item_ranges (box_items list.v4)) first
-    × AreSplit V6 ipv6_number length ipv6_order 128 (item_ranges (box_items list.v6)) second
-    × (text ≡ first ++ second)
+    -- the text is that of prefixes which have just the addresses of the ranges, ascending and as
+    -- few as can be, each of them split
+    pub record AreSplit (order : KeyOrder A) (bits : ℕ) (ranges : List (AnyRange A))
+        (text : List ℕ) : Type 0 where
+      pub prefixes : List (Prefix A)
+      pub exact : HaveJust number order prefixes ranges
+      pub whole : AllByRecursion (IsPrefix number bits) prefixes
+      pub ascending : AreAscending number prefixes
+      pub fewest : AreFewest number order bits prefixes ranges
+      pub spelled : SpellsEach IsSplit prefixes text
+
+  -- those of one family
+  abbrev pub IsFamilySplit : Family → ℕ → Addresses → List ℕ → Type 0
+  IsFamilySplit V4 length list text =
+      AreSplit V4 ipv4_number length ipv4_order 32 (item_ranges (box_items list.v4)) text
+  IsFamilySplit V6 length list text =
+      AreSplit V6 ipv6_number length ipv6_order 128 (item_ranges (box_items list.v6)) text
+
+  -- those of IPv4, and then those of IPv6
+  abbrev pub IsPrintedSplit : ℕ → Addresses → List ℕ → Type 0
+  IsPrintedSplit length list text = (first : List ℕ) × (second : List ℕ)
+      × IsFamilySplit V4 length list first × IsFamilySplit V6 length list second
+      × (text ≡ first ++ second)

@@ -1,36 +1,41 @@
 //! A list as JSON: an object with the set of its addresses of either family.
 
-ghost use Rattle.std.specs.Prelude.{◌≡◌, Some, IfErr, IfOk, IfSome, string_bytes};
+ghost use Rattle.std.specs.Prelude.{◌≡◌, ◌≢◌, ◌<◌, ◌^◌, ℕ, List, Err, Some, IfErr, IfOk, IfSome, option_map, string_bytes};
+ghost use Rattle.std.specs.List.{AllByRecursion};
 ghost use Rattle.serde_json.specs.Read.{read};
 ghost use Rattle.serde_json.specs.View.{view};
 ghost use Rattle.btree_range_map.specs.Faults.{IsSetRead};
 ghost use Rattle.btree_range_map.specs.Holding.{box_items};
+ghost use Rattle.btree_range_map.specs.KeySets.{HoldsKey};
 ghost use Rattle.btree_range_map.specs.Range.{ClonesAreEqual};
-ghost use Rattle.btree_range_map.specs.Shapes.{set_shape};
-ghost use Rattle.address_lists.specs.Json.{IsDocument, IsJsonReason, IsListRead, IsSetReason, IsValueReason, list_shape, list_text};
+ghost use Rattle.address_prefixes.specs.Runs.{AreRuns, IsSpan};
+ghost use Rattle.address_lists.specs.Json.{IsDocument, IsJsonReason, IsListRead, IsListShape, IsListText, IsMemberRead, IsMemberReason, IsSetReason, IsValueReason, list_shape, runs_shape, span_shape};
+ghost use Rattle.address_lists.specs.declared.read.ListError.TheVariants.{Unread};
 
-use crate::addresses::Addresses;
+use crate::addresses::{Addresses, empty_set};
 use crate::print::FamilyAddress;
 use crate::read::ListError;
-use address_sets::{Address, AddressSet, Ipv4, Ipv6};
-use address_text::Family;
-use btree_range_map::json::{Json, JsonError, set_from_json, set_to_json};
+use address_sets::{Address, AddressSet, Ipv4, Ipv6, Runs, runs_of};
+use address_text::{Family, place_in};
+use btree_range_map::AnyRange;
+use btree_range_map::json::{Json, JsonError, range_to_json, set_from_json};
+use line_program::read::LineRead;
 use serde_json::{Map, Value};
 use std::alloc::{AllocError, Global};
 use std::fmt;
-use std::io::BufRead;
+use std::ops::Bound;
 
 /// Why a JSON text was not read as a list.
 #[derive(Clone, Copy, PartialEq, Eq, Debug)]
 pub enum JsonFault {
     /// The text is no JSON.
     Text {
-        /// The number of the line where this is seen, from 1.
+        /// The number of the line where the reader of JSON sees this, from 1.
         line: usize,
         /// The number of the byte in the line.
         column: usize,
     },
-    /// The value is no object with the members `IPv4` and `IPv6`.
+    /// The value is no object with a member `IPv4` or `IPv6`.
     Members,
     /// The member of this family is no set of its addresses.
     Set(Family, JsonError),
@@ -42,31 +47,74 @@ impl fmt::Display for JsonFault {
             JsonFault::Text { line, column } => {
                 write!(f, "line {line}, column {column}: expected JSON")
             }
-            JsonFault::Members => write!(f, "expected an object with the members IPv4 and IPv6"),
+            JsonFault::Members => write!(f, "expected an object with a member IPv4 or IPv6"),
             JsonFault::Set(Family::V4, fault) => write!(f, "IPv4: {fault}"),
             JsonFault::Set(Family::V6, fault) => write!(f, "IPv6: {fault}"),
         }
     }
 }
 
-/// The set of one family as a JSON value.
-fn set_value<A: Address + Json>(alloc: Global, set: &AddressSet<A>) -> Result<Value, AllocError>
-    ensures { IfOk result (λ value. view value ≡ set_shape A.shape (box_items set.now)) }
+/// The value of the addresses from the first to the last.
+fn span_value<A: Address + Json>(alloc: Global, ends: (u128, u128)) -> Result<Value, AllocError>
+    requires first { ends.0 < 2 ^ A.WIDTH }
+    requires last { ends.1 < 2 ^ A.WIDTH }
+    ensures { IfOk result (λ value. view value ≡ span_shape A.shape A.at ends) }
 {
-    set_to_json(alloc, set)
+    let (first, last) = ends;
+    let range = AnyRange {
+        start: Bound::Included(A::at(first)),
+        end: Bound::Included(A::at(last)),
+    };
+    range_to_json(alloc, &range)
 }
 
-/// The list as a JSON value. Allocates; fails where an allocation fails.
-pub fn list_to_json(alloc: Global, list: &Addresses) -> Result<Value, AllocError>
-    ensures { IfOk result (λ value. view value ≡ list_shape list.now) }
+fn runs_value<'a, A: Address + Json + 'a>(
+    alloc: Global,
+    mut runs: Runs<'a, A>,
+) -> Result<Value, AllocError>
+    requires { AllByRecursion (IsSpan A.WIDTH) runs }
+    ensures { IfOk result (λ value. view value ≡ runs_shape A.shape A.at runs.entry) }
+{
+    let mut written = Vec::new(alloc);
+    while let Some(ends) = runs.next() {
+        written.push(span_value::<A>(alloc, ends)?)?;
+    }
+    Ok(Value::Array(written))
+}
+
+/// The set of one family as a JSON value.
+fn set_value<A: Address + Json>(alloc: Global, set: &AddressSet<A>) -> Result<Value, AllocError>
+    ensures { IfOk result (λ value. (runs : List (ℕ × ℕ))
+        × AreRuns (λ n. HoldsKey A.order (box_items set.now) (A.at n)) (2 ^ A.WIDTH) runs
+        × (view value ≡ runs_shape A.shape A.at runs)) }
+{
+    runs_value(alloc, runs_of(set))
+}
+
+/// The object with the sets of both families.
+fn list_value(alloc: Global, v4: Value, v6: Value) -> Result<Value, AllocError>
+    ensures { IfOk result (λ value. view value ≡ list_shape (view v4) (view v6)) }
 {
     let mut members = Map::new(alloc);
-    serde_json::put(&mut members, alloc, "IPv4", set_value(alloc, &list.v4)?)?;
-    serde_json::put(&mut members, alloc, "IPv6", set_value(alloc, &list.v6)?)?;
+    serde_json::put(&mut members, alloc, "IPv4", v4)?;
+    serde_json::put(&mut members, alloc, "IPv6", v6)?;
     Ok(Value::Object(members))
 }
 
-/// The text of the list as JSON. Allocates; fails where an allocation fails.
+/// The list as a JSON value. Allocates; fails where an allocation fails.
+///
+/// Two lists with the same addresses have the same value: of each family the array of its ranges,
+/// each as wide as it goes, ascending, with its first and its last address.
+pub fn list_to_json(alloc: Global, list: &Addresses) -> Result<Value, AllocError>
+    ensures { IfOk result (λ value. IsListShape list.now (view value)) }
+{
+    let v4 = set_value(alloc, &list.v4)?;
+    let v6 = set_value(alloc, &list.v6)?;
+    list_value(alloc, v4, v6)
+}
+
+/// The text of the list as JSON, the same for all lists with its addresses. Allocates; fails where
+/// an allocation fails.
 ///
 /// ```
 /// // of a list of the addresses 10.0.0.0 to 10.0.0.5
@@ -75,7 +123,7 @@ pub fn list_to_json(alloc: Global, list: &Addresses) -> Result<Value, AllocError
 /// assert!(rt; text == format!(in rt.alloc(); "{{\"IPv4\":{v4},\"IPv6\":[]}}")?);
 /// ```
 pub fn list_to_text(alloc: Global, list: &Addresses) -> Result<String, AllocError>
-    ensures { IfOk result (λ text. string_bytes text ≡ list_text list.now) }
+    ensures { IfOk result (λ text. IsListText list.now (string_bytes text)) }
 {
     list_to_json(alloc, list)?.to_string(alloc)
 }
@@ -94,16 +142,35 @@ fn set_of<A: FamilyAddress + Json>(alloc: Global, value: &Value) -> Result<Addre
     }
 }
 
-/// The list that a JSON value is.
+/// The set of one family: of no member, no addresses.
+fn member_set<A: FamilyAddress + Json>(
+    alloc: Global,
+    member: Option<&Value>,
+) -> Result<AddressSet<A>, ListError>
+    requires { ClonesAreEqual A.is_clone A.eq }
+    ensures read { IfOk result (λ set. IsMemberRead A.is_read A.order
+        (option_map (λ v. view v.now) member.entry) (box_items set)) }
+    ensures fault { IfErr result (IsMemberReason A.its_family A.reads
+        (option_map (λ v. view v.now) member.entry)) }
+{
+    match member {
+        Some(value) => set_of(alloc, value),
+        None => Ok(empty_set(alloc)),
+    }
+}
+
+/// The list that a JSON value is. A family that has no member has no addresses.
 pub fn list_from_json(alloc: Global, value: &Value) -> Result<Addresses, ListError>
     ensures read { IfOk result (IsListRead (view value.now)) }
     ensures fault { IfErr result (IsValueReason (view value.now)) }
 {
-    let (Some(v4), Some(v6)) = (value.get("IPv4"), value.get("IPv6")) else {
+    let v4 = value.get("IPv4");
+    let v6 = value.get("IPv6");
+    if v4.is_none() && v6.is_none() {
         return Err(ListError::Json(JsonFault::Members));
-    };
-    let v4 = set_of::<Ipv4>(alloc, v4)?;
-    let v6 = set_of::<Ipv6>(alloc, v6)?;
+    }
+    let v4 = member_set::<Ipv4>(alloc, v4)?;
+    let v6 = member_set::<Ipv6>(alloc, v6)?;
     Ok(Addresses { v4, v6 })
 }
 
@@ -111,14 +178,15 @@ pub fn list_from_json(alloc: Global, value: &Value) -> Result<Addresses, ListErr
 fn value_of(alloc: Global, text: &[u8]) -> Result<Value, ListError>
     ensures read { IfOk result (λ value. read text.now ≡ Some (view value)) }
     ensures fault { IfErr result (IsJsonReason text.now) }
+    ensures in_memory { IfErr result (λ error. error ≢ Unread) }
 {
     match Value::from_slice(alloc, text) {
         Ok(value) => Ok(value),
         Err(error) if error.is_memory() => Err(ListError::Memory),
-        Err(error) => Err(ListError::Json(JsonFault::Text {
-            line: error.line(),
-            column: error.column(),
-        })),
+        Err(error) => {
+            let (line, column) = place_in(text, error.line(), error.column());
+            Err(ListError::Json(JsonFault::Text { line, column }))
+        }
     }
 }
 
@@ -126,16 +194,18 @@ fn value_of(alloc: Global, text: &[u8]) -> Result<Value, ListError>
 ///
 /// # Errors
 ///
-/// `Json` with the fault of the text, or of the first set that has one.
-pub fn read_json<R: BufRead>(alloc: Global, input: &mut R) -> Result<Addresses, ListError>
+/// `Json` with the fault of the text, or of the first set that has one. `Unread` where a read of
+/// the input failed, and nowhere else.
+pub fn read_json<R: LineRead>(alloc: Global, input: &mut R) -> Result<Addresses, ListError>
     ensures read { IfOk result (λ list. IfSome (R.remaining input.old)
         (λ bytes. IsDocument bytes list)) }
     ensures fault { IfErr result (λ error. IfSome (R.remaining input.old)
         (λ bytes. IsJsonReason bytes error)) }
+    ensures unread { result ≡ Err Unread → R.fails }
 {
     let mut text = Vec::new(alloc);
-    if input.read_to_end(&mut text).is_err() {
-        return Err(ListError::Unread);
+    if let Err(error) = input.read_rest(&mut text) {
+        return Err(ListError::from(error));
     }
     let value = value_of(alloc, text.as_slice())?;
     list_from_json(alloc, &value)

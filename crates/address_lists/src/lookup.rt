@@ -10,7 +10,7 @@ ghost use Rattle.line_program.specs.Listing.{SpellsEach, Writes};
 use crate::addresses::Addresses;
 use address_sets::{Ipv4, Ipv6, run_around};
 use address_text::Family;
-use address_text::write::write_span_line;
+use address_text::write::{Around, write_span_line};
 use std::io::{self, Write};
 use std::net::IpAddr;
 
@@ -51,7 +51,7 @@ fn write_run<W: Write>(address: IpAddr, run: Option<(u128, u128)>, out: &mut W) 
     match run {
         Some(ends) => {
             write!(out, "{address} ")?;
-            write_span_line(family_of(address), ends.0, ends.1, out)
+            write_span_line(Around::NONE, family_of(address), ends.0, ends.1, out)
         }
         None => writeln!(out, "{address} -"),
     }
@@ -80,7 +80,7 @@ fn write_told_run<W: Write>(
     match run {
         Some(ends) => {
             write!(out, "{address} in ")?;
-            write_span_line(family_of(address), ends.0, ends.1, out)
+            write_span_line(Around::NONE, family_of(address), ends.0, ends.1, out)
         }
         None => writeln!(out, "{address} out"),
     }

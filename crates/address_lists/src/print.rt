@@ -1,6 +1,6 @@
 //! The prefixes of a list, each on a line.
 
-ghost use Rattle.std.specs.Prelude.{◌≡◌, OnOk};
+ghost use Rattle.std.specs.Prelude.{◌≡◌, [], OnOk};
 ghost use Rattle.line_program.specs.Listing.{Writes};
 ghost use Rattle.address_lists.specs.Printed.{IsPrinted};
 ghost use Rattle.address_text.specs.Texts.{width};
@@ -10,6 +10,7 @@ use crate::addresses::Addresses;
 use crate::split::write_split_prefixes;
 use address_sets::{Address, Ipv4, Ipv6};
 use address_text::Family;
+use address_text::write::Around;
 use std::io::{self, Write};
 
 /// Addresses of one of the two families.
@@ -48,12 +49,27 @@ impl FamilyAddress for Ipv6 {
     ghost its_width = { refl };
 }
 
+/// Writes the prefixes of a list, those of IPv4 first, each on a line, with the same texts around
+/// each. Allocates nothing.
+///
+/// They are as few as can be, in ascending order, and have just the addresses of the list.
+pub fn write_prefixes_around<W: Write>(
+    list: &Addresses,
+    around: Around<'_>,
+    out: &mut W,
+) -> io::Result<()>
+    ensures { OnOk result (Writes (W.contents out.old) (W.contents out.new)
+        (IsPrinted around.entry.before.now around.entry.after.now list.now)) }
+{
+    write_split_prefixes(list, 0, around, out)
+}
+
 /// Writes the prefixes of a list, those of IPv4 first, each on a line. Allocates nothing.
 ///
 /// They are as few as can be, in ascending order, and have just the addresses of the list.
 pub fn write_prefixes<W: Write>(list: &Addresses, out: &mut W) -> io::Result<()>
     ensures { OnOk result (Writes (W.contents out.old) (W.contents out.new)
-        (IsPrinted list.now)) }
+        (IsPrinted [] [] list.now)) }
 {
-    write_split_prefixes(list, 0, out)
+    write_prefixes_around(list, Around::NONE, out)
 }

@@ -1,6 +1,6 @@
 //! Reading a list.
 
-ghost use Rattle.std.specs.Prelude.{◌⊎◌, ◌↔◌, ◌≡◌, ◌≢◌, ◌<◌, ◌^◌, ℕ, List, [], Ok, IfErr, IfOk, IfSome, OnOk};
+ghost use Rattle.std.specs.Prelude.{◌⊎◌, ◌↔◌, ◌≡◌, ◌≢◌, ◌<◌, ◌^◌, ℕ, List, [], Err, Ok, IfErr, IfOk, IfSome, OnOk};
 ghost use Rattle.address_text.specs.Lines.{AreAddresses};
 ghost use Rattle.address_text.specs.Texts.{width};
 ghost use Rattle.address_text.specs.declared.family.Family.{Family};
@@ -17,9 +17,9 @@ use crate::json::JsonFault;
 use crate::waiting::Waiting;
 use address_text::fault::fault_of;
 use address_text::{Excerpt, Expected, Line, excerpt_at, line_of};
+use line_program::read::{LineRead, ReadError};
 use std::alloc::Global;
 use std::fmt;
-use std::io::BufRead;
 
 /// Why a list was not read.
 #[derive(Debug, Drop)]
@@ -37,7 +37,7 @@ pub enum ListError {
     },
     /// The input cannot be read.
     Unread,
-    /// An allocation failed.
+    /// An allocation failed, or there are more lines than a `u64` counts.
     Memory,
     /// The list is JSON, and has this fault.
     Json(JsonFault),
@@ -62,6 +62,17 @@ impl fmt::Display for ListError {
     }
 }
 
+impl From<ReadError> for ListError {
+    ghost from_gives = { λ _ error. (error ≡ Unread) ⊎ (error ≡ Memory) };
+
+    fn from(error: ReadError) -> ListError {
+        match error {
+            ReadError::Unread => ListError::Unread,
+            ReadError::Memory => ListError::Memory,
+        }
+    }
+}
+
 /// What becomes of bad lines, which say nothing that is known.
 #[derive(Clone, Copy, PartialEq, Eq, Debug)]
 pub enum BadLines {
@@ -80,7 +91,7 @@ enum Found {
 }
 
 /// Reads the next line, of this number.
-fn read_line<R: BufRead>(
+fn read_line<R: LineRead>(
     buffer: &mut Vec<u8>,
     input: &mut R,
     number: u64,
@@ -91,14 +102,14 @@ fn read_line<R: BufRead>(
     ensures refused { bad_lines ≡ Refused → result ≢ Ok Other }
     ensures bad { IfErr result
         (λ error. IfSome (R.remaining input.old) (λ bytes. IsBad strict bytes number error)) }
-    ensures skipped { bad_lines ≡ Skipped → IfErr result (λ error. error ≡ Unread) }
+    ensures skipped { bad_lines ≡ Skipped
+        → IfErr result (λ error. (error ≡ Unread) ⊎ (error ≡ Memory)) }
+    ensures unread { result ≡ Err Unread → R.fails }
 {
-    buffer.clear();
-    let Ok(count) = input.read_until(b'\n', buffer) else {
-        return Err(ListError::Unread);
-    };
-    if count == 0 {
-        return Ok(Found::End);
+    match input.next_line(buffer) {
+        Ok(true) => {}
+        Ok(false) => return Ok(Found::End),
+        Err(error) => return Err(ListError::from(error)),
     }
     if let Some(line) = line_of(buffer.as_slice(), strict) {
         return Ok(Found::Good(line));
@@ -120,7 +131,7 @@ fn read_line<R: BufRead>(
 }
 
 /// Reads all lines: what they say is added, or waits. Returns how many lines were left out.
-fn read_all<R: BufRead>(
+fn read_all<R: LineRead>(
     buffer: &mut Vec<u8>,
     waiting: &mut Waiting,
     list: &mut Addresses,
@@ -142,6 +153,7 @@ fn read_all<R: BufRead>(
         (λ error. IfSome (R.remaining input.old) (λ bytes. HasFault strict bytes error)) }
     ensures skipped { bad_lines ≡ Skipped
         → IfErr result (λ error. (error ≡ Unread) ⊎ (error ≡ Memory)) }
+    ensures unread { result ≡ Err Unread → R.fails }
 {
     let mut others = 0;
     for number in 1..u64::MAX {
@@ -151,7 +163,7 @@ fn read_all<R: BufRead>(
             Found::End => return Ok(others),
         }
     }
-    Err(ListError::Unread)
+    Err(ListError::Memory)
 }
 
 /// Adds the addresses of a list, which is read to its end. Returns how many lines were left out.
@@ -160,6 +172,7 @@ fn read_all<R: BufRead>(
 /// family, with a comment after `#` or without. Where `strict` is set, a prefix whose address has
 /// more bits than its length is bad; else these bits are taken for 0. Another bad line says nothing
 /// that is known: it is left out, or ends the reading. After an error some addresses are added.
+/// `Unread` is answered where a read of the input failed, and nowhere else.
 ///
 /// One buffer holds a line. Ranges that do not follow each other are sorted before they are added,
 /// up to 8 MiB of either family at a time.
@@ -169,7 +182,7 @@ fn read_all<R: BufRead>(
 /// let mut input = "10.0.0.0/8\n".as_bytes();
 /// read_list(rt.alloc(), &mut list, &mut input, false, BadLines::Refused)?;
 /// ```
-pub fn read_list<R: BufRead>(
+pub fn read_list<R: LineRead>(
     alloc: Global,
     list: &mut Addresses,
     input: &mut R,
@@ -184,6 +197,7 @@ pub fn read_list<R: BufRead>(
         (λ error. IfSome (R.remaining input.old) (λ bytes. HasFault strict bytes error)) }
     ensures skipped { bad_lines ≡ Skipped
         → IfErr result (λ error. (error ≡ Unread) ⊎ (error ≡ Memory)) }
+    ensures unread { result ≡ Err Unread → R.fails }
 {
     let mut buffer = Vec::new(alloc);
     let mut waiting = Waiting::new(alloc);

@@ -7,18 +7,19 @@ ghost use Rattle.btree_range_map.specs.Holding.{box_items};
 ghost use Rattle.line_program.specs.Listing.{SpellsEach, Writes};
 ghost use Rattle.address_prefixes.specs.Prefixes.{IsPrefix};
 ghost use Rattle.address_text.specs.Texts.{width};
-ghost use Rattle.address_lists.specs.Split.{AreSplit, IsPrintedSplit, IsSplit, IsSplitText, part_lines};
+ghost use Rattle.address_lists.specs.Split.{AreSplit, IsFamilySplit, IsPrintedSplit, IsSplit, IsSplitText, part_lines};
 
 use crate::addresses::Addresses;
 use crate::print::FamilyAddress;
 use address_prefixes::prefix::greatest_of;
 use address_sets::{AddressSet, Prefix, PrefixSet, Prefixes};
 use address_text::Family;
-use address_text::write::write_prefix_line;
+use address_text::write::{Around, write_prefix_line};
 use std::io::{self, Write};
 
 /// Writes the prefixes of a length that have the addresses of a shorter one.
 fn write_parts<W: Write>(
+    around: Around<'_>,
     family: Family,
     shorter: u8,
     ends: (u128, u128),
@@ -30,21 +31,23 @@ fn write_parts<W: Write>(
     requires longer { shorter < length }
     requires short { length ≤ width family }
     ensures { OnOk result (Writes (W.contents out.old) (W.contents out.new)
-        (λ text. text ≡ part_lines family length (2 ^ (length - shorter)) ends.0)) }
+        (λ text. text ≡ part_lines around.entry.before.now around.entry.after.now family
+        length (2 ^ (length - shorter)) ends.0)) }
 {
     let (first, last) = ends;
     let others = greatest_of(family.width() - length);
     let mut network = first;
     while others < last - network {
-        write_prefix_line(family, network, length, out)?;
+        write_prefix_line(around, family, network, length, out)?;
         network += others + 1;
     }
-    write_prefix_line(family, network, length, out)
+    write_prefix_line(around, family, network, length, out)
 }
 
 /// Writes the prefixes of a length that have the addresses of another prefix, or this one where it
 /// is not shorter.
 fn write_split<W: Write>(
+    around: Around<'_>,
     family: Family,
     prefix_length: u8,
     ends: (u128, u128),
@@ -54,42 +57,54 @@ fn write_split<W: Write>(
     requires whole { ends.1 + 1 ≡ ends.0 + 2 ^ (width family - prefix_length) }
     requires fits { ends.1 < 2 ^ width family }
     ensures { OnOk result (Writes (W.contents out.old) (W.contents out.new)
-        (IsSplitText family length prefix_length ends.0)) }
+        (IsSplitText around.entry.before.now around.entry.after.now family length
+        prefix_length ends.0)) }
 {
     if prefix_length < length && length <= family.width() {
-        write_parts(family, prefix_length, ends, length, out)
+        write_parts(around, family, prefix_length, ends, length, out)
     } else {
-        write_prefix_line(family, ends.0, prefix_length, out)
+        write_prefix_line(around, family, ends.0, prefix_length, out)
     }
 }
 
 fn write_split_prefix<A: FamilyAddress, W: Write>(
+    around: Around<'_>,
     prefix: Prefix<A>,
     length: u8,
     out: &mut W,
 ) -> io::Result<()>
     requires { IsPrefix A.number A.WIDTH prefix }
     ensures { OnOk result (Writes (W.contents out.old) (W.contents out.new)
-        (IsSplit A.its_family A.number length prefix)) }
+        (IsSplit around.entry.before.now around.entry.after.now A.its_family A.number
+        length prefix)) }
 {
     prefix.network.known();
     prefix.last.known();
     let first = prefix.network.number();
     let last = prefix.last.number();
-    write_split(A::family(), prefix.length, (first, last), length, out)
+    write_split(
+        around,
+        A::family(),
+        prefix.length,
+        (first, last),
+        length,
+        out,
+    )
 }
 
 fn write_all<'a, A: FamilyAddress + 'a, W: Write>(
+    around: Around<'_>,
     mut prefixes: Prefixes<'a, A>,
     length: u8,
     out: &mut W,
 ) -> io::Result<()>
     requires { AllByRecursion (IsPrefix A.number A.WIDTH) prefixes }
     ensures { OnOk result (Writes (W.contents out.old) (W.contents out.new)
-        (SpellsEach (IsSplit A.its_family A.number length) prefixes.entry)) }
+        (SpellsEach (IsSplit around.entry.before.now around.entry.after.now A.its_family
+        A.number length) prefixes.entry)) }
 {
     while let Some(prefix) = prefixes.next() {
-        write_split_prefix(prefix, length, out)?;
+        write_split_prefix(around, prefix, length, out)?;
     }
     Ok(())
 }
@@ -97,13 +112,32 @@ fn write_all<'a, A: FamilyAddress + 'a, W: Write>(
 fn write_set<A: FamilyAddress, W: Write>(
     set: &AddressSet<A>,
     length: u8,
+    around: Around<'_>,
     out: &mut W,
 ) -> io::Result<()>
     ensures { OnOk result (Writes (W.contents out.old) (W.contents out.new)
-        (AreSplit A.its_family A.number length A.order A.WIDTH
-        (item_ranges (box_items set.now)))) }
+        (AreSplit around.entry.before.now around.entry.after.now A.its_family A.number
+        length A.order A.WIDTH (item_ranges (box_items set.now)))) }
 {
-    write_all(set.prefixes(), length, out)
+    write_all(around, set.prefixes(), length, out)
+}
+
+/// Writes the prefixes of one family of a list, each on a line, where each that is shorter than
+/// `length` is divided into prefixes of this length. Allocates nothing.
+pub fn write_family_prefixes<W: Write>(
+    list: &Addresses,
+    family: Family,
+    length: u8,
+    around: Around<'_>,
+    out: &mut W,
+) -> io::Result<()>
+    ensures { OnOk result (Writes (W.contents out.old) (W.contents out.new)
+        (IsFamilySplit around.entry.before.now around.entry.after.now family length list.now)) }
+{
+    match family {
+        Family::V4 => write_set(&list.v4, length, around, out),
+        Family::V6 => write_set(&list.v6, length, around, out),
+    }
 }
 
 /// Writes the prefixes of a list, those of IPv4 first, each on a line, where each that is shorter
@@ -111,10 +145,15 @@ fn write_set<A: FamilyAddress, W: Write>(
 ///
 /// Before they are divided they are as few as can be. Those of a family whose addresses have fewer
 /// bits stay whole. Allocates nothing, however many lines are written.
-pub fn write_split_prefixes<W: Write>(list: &Addresses, length: u8, out: &mut W) -> io::Result<()>
+pub fn write_split_prefixes<W: Write>(
+    list: &Addresses,
+    length: u8,
+    around: Around<'_>,
+    out: &mut W,
+) -> io::Result<()>
     ensures { OnOk result (Writes (W.contents out.old) (W.contents out.new)
-        (IsPrintedSplit length list.now)) }
+        (IsPrintedSplit around.entry.before.now around.entry.after.now length list.now)) }
 {
-    write_set(&list.v4, length, out)?;
-    write_set(&list.v6, length, out)
+    write_set(&list.v4, length, around, out)?;
+    write_set(&list.v6, length, around, out)
 }

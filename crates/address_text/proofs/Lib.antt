@@ -3,4 +3,5 @@ mod Blocks
 mod Excerpts
 mod Faults
 mod Masks
+mod Places
 mod Spans

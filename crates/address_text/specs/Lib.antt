@@ -1,4 +1,5 @@
 -- Texts of addresses, and lines of lists.
 pub mod Faults
 pub mod Lines
+pub mod Places
 pub mod Texts

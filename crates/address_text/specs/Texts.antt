@@ -24,21 +24,24 @@ abbrev pub address_text : Family → ℕ → List ℕ
 address_text V4 n = ipv4_text (to_be_bytes w32 n)
 address_text V6 n = ipv6_text (segments_of (to_be_bytes w128 n))
 
--- `network/length`
-abbrev pub prefix_line : Family → ℕ → ℕ → List ℕ
-prefix_line family network length =
-    address_text family network ++ codes "/" ++ decimal length ++ 10 ∷ []
+-- a line with a text before it and one behind it
+module _ (before after : List ℕ) where
+  -- `network/length`
+  abbrev pub prefix_line : Family → ℕ → ℕ → List ℕ
+  prefix_line family network length =
+      before ++ address_text family network ++ codes "/" ++ decimal length ++ after ++ 10 ∷ []
 
--- `first-last`
-abbrev pub range_line : Family → ℕ → ℕ → List ℕ
-range_line family first last =
-    address_text family first ++ codes "-" ++ address_text family last ++ 10 ∷ []
+  -- `first-last`
+  abbrev pub range_line : Family → ℕ → ℕ → List ℕ
+  range_line family first last =
+      before ++ address_text family first ++ codes "-" ++ address_text family last ++ after
+      ++ 10 ∷ []
 
--- an address alone
-abbrev pub address_line : Family → ℕ → List ℕ
-address_line family n = address_text family n ++ 10 ∷ []
+  -- an address alone
+  abbrev pub address_line : Family → ℕ → List ℕ
+  address_line family n = before ++ address_text family n ++ after ++ 10 ∷ []
 
--- `first-last`, or an address alone where both are the same
-abbrev pub span_line : Family → ℕ → ℕ → List ℕ
-span_line family first last =
-    if first == last then address_line family first else range_line family first last
+  -- `first-last`, or an address alone where both are the same
+  abbrev pub span_line : Family → ℕ → ℕ → List ℕ
+  span_line family first last =
+      if first == last then address_line family first else range_line family first last

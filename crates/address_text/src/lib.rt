@@ -7,6 +7,7 @@
 //!
 //! - what a line of a list says: `src/line.rt`, `specs/Lines.antt`; what is wrong with one that
 //!   says nothing: `src/fault.rt`, `specs/Faults.antt`; what stands there: `src/excerpt.rt`
+//! - a line and a column of a text: `src/place.rt`, `specs/Places.antt`
 //! - an address, prefix or range as it is printed: `src/write.rt`, `specs/Texts.antt`
 #![tactic(auto)]
 
@@ -14,9 +15,11 @@ pub mod excerpt;
 pub mod family;
 pub mod fault;
 pub mod line;
+pub mod place;
 pub mod write;
 
 pub use excerpt::{Excerpt, excerpt_at};
 pub use family::Family;
 pub use fault::{Expected, Fault};
 pub use line::{Line, content_of, line_of};
+pub use place::place_in;

@@ -12,6 +12,7 @@ use Rattle.address_lists.specs.Files.{IsFileReason}
 use Rattle.address_lists.specs.Lists.{Has, HasJust}
 use Rattle.address_lists.specs.declared.addresses.Addresses.{Addresses}
 use Rattle.address_lists.specs.declared.read.ListError.{ListError}
+use Rattle.address_lists.specs.declared.read.ListError.TheVariants.{Unread}
 use Rattle.cidr.specs.Commands.{AreKnown, AreLists, Asked, Combined, IsAnswer, IsList, IsStop, Put, left_out_of}
 use Rattle.line_program.specs.Listing.{Writes}
 use Rattle.cidr.specs.Shown.{IsShown}
@@ -369,19 +370,19 @@ other_answer reading task inputs before now list other asked files known =
 -- what is printed is what is kept of the answer
 pub answer_printed : {X : Type 0} (reading : Reading)
     (Answer : List (Addresses × ℕ) → Family → ℕ → Type 0) (form : Form)
-    (inputs all : List (Option (List ℕ))) (numbers later : List ℕ) (list : Addresses)
+    (only : Option Family) (inputs all : List (Option (List ℕ))) (numbers later : List ℕ) (list : Addresses)
     (before after : Option (List ℕ)) (result : Result X Stop) → inputs ≡ all
     → AreMade reading inputs numbers later (λ lists. HasJust list (Answer lists))
-    → OnOk result (Writes before after (IsShown form list))
+    → OnOk result (Writes before after (IsShown form only list))
     → OnOk result ((files : List (List ℕ)) → AreKnown all files → (lists : List (Addresses × ℕ))
     × (list : Addresses) × AreLists reading files lists × (later ≡ numbers ++ left_out_of lists)
-    × HasJust list (Answer lists) × Writes before after (IsShown form list))
-answer_printed reading Answer form inputs all numbers later list before after (Ok done) same made
+    × HasJust list (Answer lists) × Writes before after (IsShown form only list))
+answer_printed reading Answer form only inputs all numbers later list before after (Ok done) same made
     printed = λ files known.
     let (lists, said, counted, answer) =
     made files (subst (λ one. AreKnown one files) (sym same) known) in
     (lists, list, said, counted, answer, printed)
-answer_printed reading Answer form inputs all numbers later list before after (Err stop) same made
+answer_printed reading Answer form only inputs all numbers later list before after (Err stop) same made
     printed = tt
 
 -- printing fails where memory does not suffice or nothing can be written
@@ -402,6 +403,13 @@ unprinted reading inputs names (Ok done) failed = tt
 unprinted reading inputs names (Err stop) failed =
     λ files known. stops_unprinted reading names files stop failed
 
+-- printing does not read
+pub nothing_unread : {X : Type 0} (Fails : Type 0) (result : Result X Stop)
+    → IfErr result IsUnprinted
+    → IfErr result (λ stop. (name : String Global) → stop ≡ Bad name Unread → Fails)
+nothing_unread Fails (Ok done) failed = tt
+nothing_unread Fails (Err stop) failed = λ name same. grind arith
+
 -- printing fails where nothing can be written, and for no other reason
 pub fails_unwritable : {X : Type 0} (P : Type 0) (result : Result X Stop)
     → IfErr result (λ stop. stop ≡ Unwritable) → result ≢ Err Unwritable → OnErr result P
@@ -414,3 +422,9 @@ pub unwritable : {X : Type 0} (reading : Reading) (inputs : List (Option (List �
 unwritable reading inputs names (Ok done) failed = tt
 unwritable reading inputs names (Err stop) failed =
     λ files known. stops_unprinted reading names files stop (inr failed)
+
+pub unwritable_unread : {X : Type 0} (Fails : Type 0) (result : Result X Stop)
+    → IfErr result (λ stop. stop ≡ Unwritable)
+    → IfErr result (λ stop. (name : String Global) → stop ≡ Bad name Unread → Fails)
+unwritable_unread Fails (Ok done) failed = tt
+unwritable_unread Fails (Err stop) failed = λ name same. grind arith

@@ -1,15 +1,18 @@
 -- Lines that are told of and searched, also where what is written is flushed then.
-use Rattle.std.proofs.Common.{◌≡◌, ℕ, ◌⊎◌, Bool, List, [], ◌∷◌, ◌++◌, Option, None, Some, IfSome, Result, Ok, Err, IfErr, IfOk, inl, inr, refl, sym, subst, ◌∙◌, arith}
+use Rattle.std.proofs.Common.{◌≡◌, ◌≢◌, ℕ, ◌⊎◌, Bool, List, [], ◌∷◌, ◌++◌, Option, None, Some, IfSome, Result, Ok, Err, IfErr, IfOk, inl, inr, refl, sym, subst, ◌∙◌, arith}
 use Rattle.std.specs.Prelude.{String, nat_lt}
 use Rattle.std.specs.Io.KnownBytes.{Appends, Keeps}
 use Rattle.std.specs.declared.alloc.Global.{Global}
+use Rattle.address_lines.specs.Found.{AreFoundSoFar}
 use Rattle.address_lines.specs.Sought.{AreTold, AreToldUntil}
+use Rattle.address_lines.specs.declared.grep.Search.{Search}
 use Rattle.address_lines.specs.declared.sought.Halt.{Halt}
 use Rattle.address_lines.specs.declared.sought.Halt.TheVariants as Halts
 use Rattle.address_lists.specs.declared.addresses.Addresses.{Addresses}
 use Rattle.address_lists.specs.declared.read.ListError.{ListError}
+use Rattle.address_lists.specs.declared.read.ListError.TheVariants.{Memory, Unread}
 use Rattle.cidr.specs.Commands.{IsList, IsStop}
-use Rattle.cidr.specs.Lines.{IsHalted, IsStopOf}
+use Rattle.cidr.specs.Lines.{IsHalted, IsSearchHalted, IsStopOf}
 use Rattle.cidr.specs.declared.serve.Reading.{Reading}
 use Rattle.cidr.specs.declared.serve.Stop.{Stop}
 use Rattle.cidr.specs.declared.serve.Stop.TheVariants.{Bad, Unwritable}
@@ -76,11 +79,21 @@ module _ (list : Addresses) (before mid after : Option (List ℕ)) (name : Strin
       subst (AreHalted list lines before after name) (sym same)
       (unwritable_told list lines before after name)
 
--- a stop has the name of the text
-pub named_stop : (name bad : String Global) (halt : Halt) (stop : Stop) (error : ListError)
-    → IsStopOf name halt stop → stop ≡ Bad bad error → bad ≡ name
-named_stop name bad (Halts.Bad found) stop error same is = grind arith
-named_stop name bad Halts.Unwritable stop error same is = absurd (grind arith)
+module _ (list : Addresses) (search : Search) (start : List ℕ) (name : String Global)
+    (before after : Option (List ℕ)) where
+  -- a search that is halted at
+  pub search_halted : (text : Option (List ℕ)) (halt : Halt) (stop : Stop)
+      → IsStopOf name halt stop
+      → (halt ≢ Halts.Unwritable
+      → IfSome text (λ bytes. AreFoundSoFar list search start bytes before after))
+      → (halt ≡ Halts.Bad Unread) ⊎ ((halt ≡ Halts.Bad Memory) ⊎ (halt ≡ Halts.Unwritable))
+      → IfSome text (λ bytes. IsSearchHalted list search start bytes name before after stop)
+  search_halted None halt stop same found why = tt
+  search_halted (Some bytes) (Halts.Bad error) stop same found why =
+      subst (IsSearchHalted list search start bytes name before after) (sym same)
+      (refl, grind arith, found (λ unwritable. cc))
+  search_halted (Some bytes) Halts.Unwritable stop same found why =
+      subst (IsSearchHalted list search start bytes name before after) (sym same) tt
 
 -- so many lines are found
 pub found_some : (text : Option (List ℕ)) (IsFound : List ℕ → ℕ → Type 0) (count : ℕ)

@@ -1,6 +1,7 @@
 -- Lemmas.
 mod Commands
 mod Compared
+mod Firewalls
 mod Halted
 mod Kept
 mod LookedUp

@@ -4,6 +4,7 @@ use Rattle.std.specs.declared.alloc.Global.{Global}
 use Rattle.address_text.specs.declared.family.Family.{Family}
 use Rattle.address_lists.specs.Files.{IsFile, IsFileReason}
 use Rattle.address_lists.specs.Lists.{Has}
+use Rattle.address_lists.specs.Reading.{MayFail}
 use Rattle.address_lists.specs.declared.addresses.Addresses.{Addresses}
 use Rattle.address_lists.specs.declared.read.ListError.{ListError}
 use Rattle.cidr_arguments.specs.declared.request.Command.{Command}
@@ -48,8 +49,8 @@ IsBadAmong reading (first ∷ names) (bytes ∷ files) name error =
 -- the commands stop for this reason
 abbrev pub IsStop : Reading → List (String Global) → List (List ℕ) → Stop → Type 0
 IsStop reading names files (Bad name error) = IsBadAmong reading names files name error
-IsStop reading names files Memory = Unit {0}
-IsStop reading names files Unwritable = Unit {0}
+IsStop reading names files Memory = MayFail
+IsStop reading names files Unwritable = MayFail
 
 -- some addresses, put together with those of one list more
 abbrev pub Combined : Command → (Family → ℕ → Type 0) → (Family → ℕ → Type 0) → Family → ℕ

@@ -1,5 +1,6 @@
 -- What the commands make of lists.
 pub mod Commands
+pub mod Firewalls
 pub mod Lines
 pub mod Relations
 pub mod Shown

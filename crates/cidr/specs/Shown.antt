@@ -3,16 +3,18 @@ use Rattle.std.specs.Prelude.{◌≡◌, ℕ, List, [], ◌∷◌, ◌++◌, Opt
 use Rattle.address_text.specs.declared.family.Family.{Family}
 use Rattle.address_text.specs.declared.family.Family.TheVariants.{V4, V6}
 use Rattle.address_lists.specs.Counted.{IsCounted}
-use Rattle.address_lists.specs.Json.{list_text}
+use Rattle.address_lists.specs.Json.{IsListText}
 use Rattle.address_lists.specs.Printed.{IsPrinted}
 use Rattle.address_lists.specs.Ranges.{IsPrintedAs}
 use Rattle.address_lists.specs.Split.{IsPrintedSplit}
 use Rattle.address_lists.specs.declared.ranges.Spelling.TheVariants as Spelled
 use Rattle.address_lists.specs.declared.addresses.Addresses.{Addresses}
 use Rattle.cidr_arguments.specs.declared.request.Form.{Form}
-use Rattle.cidr_arguments.specs.declared.request.Form.TheVariants.{Json, Lines as LinesOf}
+use Rattle.cidr_arguments.specs.declared.request.Form.TheVariants.{Ipset, Json, Lines as LinesOf, Nft}
 use Rattle.cidr_arguments.specs.declared.request.Lines.{Lines}
 use Rattle.cidr_arguments.specs.declared.request.Lines.TheVariants.{Count, Prefixes, Ranges, Singles, Split}
+use Rattle.cidr.specs.Firewalls.{IsFirewallFile}
+use Rattle.cidr.specs.declared.firewall.Firewall.TheVariants as Sets
 
 -- addresses of this family are printed: those of one alone, or of both
 abbrev pub IsKept : Option Family → Family → Type 0
@@ -26,15 +28,19 @@ IsKept (Some V6) V6 = Unit {0}
 abbrev pub Kept : Option Family → (Family → ℕ → Type 0) → Family → ℕ → Type 0
 Kept only P family n = IsKept only family × P family n
 
--- the lines of a list
-abbrev pub AreShown : Lines → Addresses → List ℕ → Type 0
-AreShown Prefixes list text = IsPrinted list text
-AreShown Ranges list text = IsPrintedAs Spelled.Ends list text
-AreShown Singles list text = IsPrintedAs Spelled.Singles list text
-AreShown Count list text = IsCounted [] list text
-AreShown (Split length) list text = IsPrintedSplit length list text
+-- the lines of a list, with a text before what is on each and one behind it
+abbrev pub AreShown : List ℕ → List ℕ → Lines → Addresses → List ℕ → Type 0
+AreShown before after Prefixes list text = IsPrinted before after list text
+AreShown before after Ranges list text = IsPrintedAs before after Spelled.Ends list text
+AreShown before after Singles list text = IsPrintedAs before after Spelled.Singles list text
+AreShown before after Count list text = IsCounted [] list text
+AreShown before after (Split length) list text = IsPrintedSplit before after length list text
 
--- the text of a list in this form
-abbrev pub IsShown : Form → Addresses → List ℕ → Type 0
-IsShown (LinesOf lines) list text = AreShown lines list text
-IsShown Json list text = text ≡ list_text list ++ 10 ∷ []
+-- the text of a list in this form, of one family or both
+abbrev pub IsShown : Form → Option Family → Addresses → List ℕ → Type 0
+IsShown (LinesOf lines around) only list text =
+    AreShown around.before.now around.after.now lines list text
+IsShown Json only list text =
+    (json : List ℕ) × IsListText list json × (text ≡ json ++ 10 ∷ [])
+IsShown (Ipset name) only list text = IsFirewallFile (Sets.Ipset name) only list text
+IsShown (Nft table name) only list text = IsFirewallFile (Sets.Nft table name) only list text

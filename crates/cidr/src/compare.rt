@@ -1,17 +1,20 @@
 //! How two lists lie to each other.
 
-ghost use Rattle.std.specs.Prelude.{◌≡◌, ◌≢◌, ◌++◌, ◌∷◌, ℕ, List, [], Err, IfErr, IfSome, OnErr, OnOk};
+ghost use Rattle.std.specs.Prelude.{◌≡◌, ◌≢◌, ◌++◌, ◌∷◌, ℕ, List, String, [], Err, IfErr, IfSome, OnErr, OnOk};
 ghost use Rattle.std.specs.Io.KnownBytes.{Appends};
+ghost use Rattle.std.specs.declared.alloc.Global.{Global};
 ghost use Rattle.address_lists.specs.declared.addresses.Addresses.{Addresses};
+ghost use Rattle.address_lists.specs.declared.read.ListError.TheVariants.{Unread};
 ghost use Rattle.line_program.specs.Listing.{Writes};
 ghost use Rattle.cidr.specs.Commands.{AreKnown, IsList, IsStop};
 ghost use Rattle.cidr.specs.Relations.{IsCompared, IsRelation, relation_text};
-ghost use Rattle.cidr.specs.declared.serve.Stop.TheVariants.{Unwritable};
+ghost use Rattle.cidr.specs.declared.serve.Stop.TheVariants.{Bad, Unwritable};
 
 use crate::serve::{Reading, Source, Stop, read_source};
 use address_lists::{Addresses, write_counts};
+use line_program::read::LineRead;
 use std::alloc::Global;
-use std::io::{self, BufRead, Write};
+use std::io::{self, Write};
 
 /// How the addresses of a list lie to those of another.
 #[derive(Clone, Copy)]
@@ -83,7 +86,7 @@ fn print<W: Write>(first: &Addresses, second: &Addresses, out: &mut W) -> Result
 /// addresses of each family each list has, such as `first IPv4 256`, a line each. `out` is
 /// flushed. Nothing is printed where a list cannot be read or an allocation fails. Adds to
 /// `left_out` how many bad lines are left out of each list.
-pub fn compare<R: BufRead + Drop, W: Write>(
+pub fn compare<R: LineRead + Drop, W: Write>(
     alloc: Global,
     first: Source<R>,
     second: Source<R>,
@@ -101,6 +104,8 @@ pub fn compare<R: BufRead + Drop, W: Write>(
     ensures bad { IfErr result (λ stop. (files : List (List ℕ))
         → AreKnown (R.remaining first.reader ∷ R.remaining second.reader ∷ []) files
         → IsStop reading (first.name ∷ second.name ∷ []) files stop) }
+    ensures unread { IfErr result (λ stop. (name : String Global)
+        → stop ≡ Bad name Unread → R.fails) }
 {
     let first = read_source(alloc, first, reading, left_out)?;
     let second = read_source(alloc, second, reading, left_out)?;

@@ -5,16 +5,17 @@ ghost use Rattle.std.specs.declared.alloc.Global.{Global};
 ghost use Rattle.address_lines.specs.Found.{AreAllFound};
 ghost use Rattle.address_lines.specs.Sought.{AreTold, AreToldUntil};
 ghost use Rattle.address_lists.specs.declared.addresses.Addresses.{Addresses};
-ghost use Rattle.address_lists.specs.declared.read.ListError.{ListError};
+ghost use Rattle.address_lists.specs.declared.read.ListError.TheVariants.{Unread};
 ghost use Rattle.cidr.specs.Commands.{IsList, IsStop};
-ghost use Rattle.cidr.specs.Lines.{IsHalted, IsStopOf};
+ghost use Rattle.cidr.specs.Lines.{IsHalted, IsSearchHalted, IsStopOf};
 ghost use Rattle.cidr.specs.declared.serve.Stop.TheVariants.{Bad};
 
 use crate::serve::{Reading, Source, Stop, read_source};
 use address_lines::{Halt, Search, write_found_lines, write_told_lines};
 use address_lists::Addresses;
+use line_program::read::LineRead;
 use std::alloc::Global;
-use std::io::{BufRead, Write};
+use std::io::Write;
 
 /// Why the lines of the text of this name are not gone over to their end.
 fn stop_of(name: String, halt: Halt) -> Stop
@@ -27,7 +28,7 @@ fn stop_of(name: String, halt: Halt) -> Stop
 }
 
 /// Tells of the address in each line whether the list has it, and returns whether it has them all.
-fn tell<R: BufRead + Drop, W: Write>(
+fn tell<R: LineRead + Drop, W: Write>(
     alloc: Global,
     list: &Addresses,
     lines: Source<R>,
@@ -37,6 +38,8 @@ fn tell<R: BufRead + Drop, W: Write>(
         (λ text. AreTold list.now text (W.contents out.old) (W.contents out.new) all)) }
     ensures bad { IfErr result (λ stop. IfSome (R.remaining lines.reader)
         (λ text. IsHalted list.now text lines.name (W.contents out.old) (W.contents out.new) stop)) }
+    ensures unread { IfErr result (λ stop. (name : String Global)
+        → stop ≡ Bad name Unread → R.fails) }
 {
     let Source { name, mut reader } = lines;
     match write_told_lines(alloc, list, &mut reader, out) {
@@ -57,7 +60,7 @@ fn tell<R: BufRead + Drop, W: Write>(
 /// Of a line that is blank or a comment nothing is told. The first that is no address ends this;
 /// the lines before it are told of. `out` is flushed. Adds to `left_out` how many bad lines are
 /// left out of the list. One buffer holds a line.
-pub fn look_up_lines<R: BufRead + Drop, W: Write>(
+pub fn look_up_lines<R: LineRead + Drop, W: Write>(
     alloc: Global,
     source: Source<R>,
     lines: Source<R>,
@@ -75,14 +78,17 @@ pub fn look_up_lines<R: BufRead + Drop, W: Write>(
         ⊎ ((list : Addresses × ℕ) × IsList reading bytes list
         × IfSome (R.remaining lines.reader) (λ text. IsHalted list.0 text lines.name
         (W.contents out.old) (W.contents out.new) stop)))) }
+    ensures unread { IfErr result (λ stop. (name : String Global)
+        → stop ≡ Bad name Unread → R.fails) }
 {
     let list = read_source(alloc, source, reading, left_out)?;
     tell(alloc, &list, lines, out)
 }
 
 /// Writes the lines of a text that hold an address of the list, as the search says, and returns
-/// whether there is one. `before` stands before each.
-pub fn search_text<R: BufRead + Drop, W: Write>(
+/// whether there is one. `before` stands before each. Where the text cannot be read to its end, the
+/// lines before are written.
+pub fn search_text<R: LineRead + Drop, W: Write>(
     alloc: Global,
     list: &Addresses,
     search: Search,
@@ -93,8 +99,11 @@ pub fn search_text<R: BufRead + Drop, W: Write>(
     ensures found { IfOk result (λ found. IfSome (R.remaining text.reader)
         (λ bytes. (count : ℕ) × (found ≡ nat_lt 0 count) × AreAllFound list.now search before.now
         bytes (W.contents out.old) (W.contents out.new) count)) }
-    ensures named { IfErr result (λ stop. (name : String Global) (error : ListError)
-        → stop ≡ Bad name error → name ≡ text.name) }
+    ensures bad { IfErr result (λ stop. IfSome (R.remaining text.reader)
+        (λ bytes. IsSearchHalted list.now search before.now bytes text.name (W.contents out.old)
+        (W.contents out.new) stop)) }
+    ensures unread { IfErr result (λ stop. (name : String Global)
+        → stop ≡ Bad name Unread → R.fails) }
 {
     let Source { name, mut reader } = text;
     match write_found_lines(alloc, list, search, before, &mut reader, out) {

@@ -1,17 +1,20 @@
 //! Addresses looked up in a list.
 
-ghost use Rattle.std.specs.Prelude.{◌≡◌, ◌≢◌, ◌↔◌, ◌++◌, ◌∷◌, ℕ, List, [], Err, IfErr, IfOk, IfSome, IsTrue, OnErr, OnOk};
+ghost use Rattle.std.specs.Prelude.{◌≡◌, ◌≢◌, ◌↔◌, ◌++◌, ◌∷◌, ℕ, List, String, [], Err, IfErr, IfOk, IfSome, IsTrue, OnErr, OnOk};
 ghost use Rattle.std.specs.List.{AllByRecursion};
+ghost use Rattle.std.specs.declared.alloc.Global.{Global};
 ghost use Rattle.address_lists.specs.Lookups.{HasIp, IsLookup};
 ghost use Rattle.address_lists.specs.declared.addresses.Addresses.{Addresses};
+ghost use Rattle.address_lists.specs.declared.read.ListError.TheVariants.{Unread};
 ghost use Rattle.line_program.specs.Listing.{SpellsEach, Writes};
 ghost use Rattle.cidr.specs.Commands.{AreKnown, IsList, IsStop};
-ghost use Rattle.cidr.specs.declared.serve.Stop.TheVariants.{Unwritable};
+ghost use Rattle.cidr.specs.declared.serve.Stop.TheVariants.{Bad, Unwritable};
 
 use crate::serve::{Reading, Source, Stop, read_source};
 use address_lists::{Addresses, write_lookups};
+use line_program::read::LineRead;
 use std::alloc::Global;
-use std::io::{BufRead, Write};
+use std::io::Write;
 use std::net::IpAddr;
 
 fn print<W: Write>(list: &Addresses, addresses: &[IpAddr], out: &mut W) -> Result<bool, Stop>
@@ -36,7 +39,7 @@ fn print<W: Write>(list: &Addresses, addresses: &[IpAddr], out: &mut W) -> Resul
 /// around it in the list, or `-` where it is not there. `out` is flushed. Nothing is printed where
 /// the list cannot be read or an allocation fails. Adds to `left_out` how many bad lines are left
 /// out of the list.
-pub fn look_up<R: BufRead + Drop, W: Write>(
+pub fn look_up<R: LineRead + Drop, W: Write>(
     alloc: Global,
     source: Source<R>,
     reading: Reading,
@@ -54,6 +57,8 @@ pub fn look_up<R: BufRead + Drop, W: Write>(
     ensures bad { IfErr result (λ stop. (files : List (List ℕ))
         → AreKnown (R.remaining source.reader ∷ []) files
         → IsStop reading (source.name ∷ []) files stop) }
+    ensures unread { IfErr result (λ stop. (name : String Global)
+        → stop ≡ Bad name Unread → R.fails) }
 {
     let list = read_source(alloc, source, reading, left_out)?;
     print(&list, addresses, out)

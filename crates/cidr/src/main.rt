@@ -8,10 +8,12 @@
 //!   `specs/{Commands,Shown}.antt`, `proofs/{Commands,Kept}.antt`; of `compare`,
 //!   `src/compare.rt`, `specs/Relations.antt`, `proofs/Compared.antt`; of `has`, `src/lookup.rt`,
 //!   `proofs/LookedUp.antt`; of `has` over lines and of `grep`, `src/lines.rt`, `specs/Lines.antt`
+//! - files of firewalls: `src/firewall.rt`, `specs/Firewalls.antt`
 //! - what is written, and why that failed: `src/output.rt`
 #![tactic(auto)]
 
 mod compare;
+mod firewall;
 mod inputs;
 mod lines;
 mod lookup;
@@ -75,7 +77,7 @@ fn combine_files<W: Write>(
     command: Command,
     files: &[&str],
     reading: Reading,
-    output: Output,
+    output: Output<'_>,
     left_out: &mut Vec<u64>,
     out: &mut W,
 ) -> anyhow::Result<Result<bool, Stop>> {

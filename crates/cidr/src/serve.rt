@@ -1,24 +1,32 @@
 //! The commands, over any readers and writer.
 
-ghost use Rattle.std.specs.Prelude.{◌≡◌, ◌≢◌, ◌⊎◌, ◌++◌, ◌∷◌, ℕ, List, [], Err, length, map, IfErr, IfOk, IfSome, OnErr, OnOk};
+ghost use Rattle.std.specs.Prelude.{◌≡◌, ◌≢◌, ◌⊎◌, ◌++◌, ◌∷◌, ℕ, List, String, [], Err, length, map, IfErr, IfOk, IfSome, OnErr, OnOk};
+ghost use Rattle.std.specs.declared.alloc.Global.{Global};
 ghost use Rattle.std.specs.Vec.Iter.{into_iter_items, into_iter_len};
 ghost use Rattle.std.specs.Io.KnownBytes.{Appends};
 ghost use Rattle.address_lists.specs.Lists.{Has, HasJust};
 ghost use Rattle.address_lists.specs.declared.addresses.Addresses.{Addresses};
+ghost use Rattle.address_lists.specs.declared.read.ListError.TheVariants.{Unread};
+ghost use Rattle.address_text.specs.declared.family.Family.TheVariants.{V4, V6};
 ghost use Rattle.line_program.specs.Listing.{Writes};
 ghost use Rattle.cidr.specs.Commands.{AreKnown, AreLists, Asked, Combined, IsAnswer, IsList, IsStop, Put, left_out_of};
+ghost use Rattle.cidr.specs.Firewalls.{IsFirewallFile, IsSetText};
 ghost use Rattle.cidr.specs.Shown.{AreShown, IsShown, Kept};
-ghost use Rattle.cidr.specs.declared.serve.Stop.TheVariants.{Memory, Unwritable};
+ghost use Rattle.cidr.specs.declared.firewall.Firewall.{Firewall};
+ghost use Rattle.cidr.specs.declared.serve.Stop.TheVariants.{Bad, Memory, Unwritable};
 
+use crate::firewall::{Firewall, SetText, set_text, write_sets};
 use address_lists::{
     Addresses, BadLines, ListError, empty_set, list_to_text, read_addresses, write_counts,
-    write_prefixes, write_ranges, write_singles, write_split_prefixes,
+    write_prefixes_around, write_ranges, write_singles, write_split_prefixes,
 };
 use address_text::Family;
+use address_text::write::Around;
 use btree_range_map::MapError;
 use cidr_arguments::{Command, Form, Lines, Output};
+use line_program::read::LineRead;
 use std::alloc::Global;
-use std::io::{self, BufRead, Write};
+use std::io::{self, Write};
 use std::vec::IntoIter;
 
 /// How lists are read.
@@ -61,7 +69,7 @@ fn counted(found: (Addresses, u64), left_out: &mut Vec<u64>) -> Result<Addresses
 }
 
 /// The addresses of a list. Adds how many bad lines are left out of it.
-pub fn read_source<R: BufRead + Drop>(
+pub fn read_source<R: LineRead + Drop>(
     alloc: Global,
     source: Source<R>,
     reading: Reading,
@@ -72,6 +80,8 @@ pub fn read_source<R: BufRead + Drop>(
         × (left_out.new.items ≡ left_out.old.items ++ others ∷ []))) }
     ensures bad { IfErr result (λ stop. IfSome (R.remaining source.reader)
         (λ bytes. IsStop reading (source.name ∷ []) (bytes ∷ []) stop)) }
+    ensures unread { IfErr result (λ stop. (name : String Global)
+        → stop ≡ Bad name Unread → R.fails) }
 {
     let Source { name, mut reader } = source;
     let Reading { strict, bad_lines } = reading;
@@ -98,7 +108,7 @@ fn combine(command: Command, list: &mut Addresses, other: &Addresses) -> Result<
 }
 
 /// Puts some addresses together with those of one source more, as the command says.
-fn add_source<R: BufRead + Drop>(
+fn add_source<R: LineRead + Drop>(
     alloc: Global,
     command: Command,
     list: &mut Addresses,
@@ -112,6 +122,8 @@ fn add_source<R: BufRead + Drop>(
         × HasJust list.new (Combined command (Has list.old) (Has other))) }
     ensures bad { IfErr result (λ stop. IfSome (R.remaining source.reader)
         (λ bytes. IsStop reading (source.name ∷ []) (bytes ∷ []) stop)) }
+    ensures unread { IfErr result (λ stop. (name : String Global)
+        → stop ≡ Bad name Unread → R.fails) }
 {
     let other = read_source(alloc, source, reading, left_out)?;
     match combine(command, list, &other) {
@@ -121,7 +133,7 @@ fn add_source<R: BufRead + Drop>(
 }
 
 /// What the command makes of some addresses and those of the sources.
-fn gathered<R: BufRead + Drop>(
+fn gathered<R: LineRead + Drop>(
     alloc: Global,
     command: Command,
     mut list: Addresses,
@@ -138,6 +150,8 @@ fn gathered<R: BufRead + Drop>(
     ensures bad { IfErr result (λ stop. (files : List (List ℕ))
         → AreKnown (map (λ s. R.remaining s.reader) (into_iter_items sources)) files
         → IsStop reading (map (λ s. s.name) (into_iter_items sources)) files stop) }
+    ensures unread { IfErr result (λ stop. (name : String Global)
+        → stop ≡ Bad name Unread → R.fails) }
 {
     while let Some(source) = sources.next() {
         add_source(alloc, command, &mut list, source, reading, left_out)?;
@@ -146,7 +160,7 @@ fn gathered<R: BufRead + Drop>(
 }
 
 /// What the command makes of the addresses of the sources, before `invert` turns it round.
-fn asked<R: BufRead + Drop>(
+fn asked<R: LineRead + Drop>(
     alloc: Global,
     command: Command,
     mut sources: IntoIter<Source<R>>,
@@ -162,6 +176,8 @@ fn asked<R: BufRead + Drop>(
     ensures bad { IfErr result (λ stop. (files : List (List ℕ))
         → AreKnown (map (λ s. R.remaining s.reader) (into_iter_items sources)) files
         → IsStop reading (map (λ s. s.name) (into_iter_items sources)) files stop) }
+    ensures unread { IfErr result (λ stop. (name : String Global)
+        → stop ≡ Bad name Unread → R.fails) }
 {
     match sources.next() {
         Some(source) => {
@@ -173,7 +189,7 @@ fn asked<R: BufRead + Drop>(
 }
 
 /// What the command says of the addresses of the sources.
-fn answered<R: BufRead + Drop>(
+fn answered<R: LineRead + Drop>(
     alloc: Global,
     command: Command,
     sources: IntoIter<Source<R>>,
@@ -189,6 +205,8 @@ fn answered<R: BufRead + Drop>(
     ensures bad { IfErr result (λ stop. (files : List (List ℕ))
         → AreKnown (map (λ s. R.remaining s.reader) (into_iter_items sources)) files
         → IsStop reading (map (λ s. s.name) (into_iter_items sources)) files stop) }
+    ensures unread { IfErr result (λ stop. (name : String Global)
+        → stop ≡ Bad name Unread → R.fails) }
 {
     let list = asked(alloc, command, sources, reading, left_out)?;
     match command {
@@ -218,25 +236,35 @@ fn kept(alloc: Global, list: Addresses, only: Option<Family>) -> Addresses
     }
 }
 
-fn write_lines<W: Write>(lines: Lines, list: &Addresses, out: &mut W) -> io::Result<()>
+fn write_lines<W: Write>(
+    lines: Lines,
+    around: Around<'_>,
+    list: &Addresses,
+    out: &mut W,
+) -> io::Result<()>
     ensures { OnOk result (Writes (W.contents out.old) (W.contents out.new)
-        (AreShown lines list.now)) }
+        (AreShown around.entry.before.now around.entry.after.now lines list.now)) }
 {
     match lines {
-        Lines::Prefixes => write_prefixes(list, out),
-        Lines::Ranges => write_ranges(list, out),
-        Lines::Singles => write_singles(list, out),
+        Lines::Prefixes => write_prefixes_around(list, around, out),
+        Lines::Ranges => write_ranges(list, around, out),
+        Lines::Singles => write_singles(list, around, out),
         Lines::Count => write_counts("", list, out),
-        Lines::Split(length) => write_split_prefixes(list, length, out),
+        Lines::Split(length) => write_split_prefixes(list, length, around, out),
     }
 }
 
-fn print_lines<W: Write>(lines: Lines, list: &Addresses, out: &mut W) -> Result<(), Stop>
+fn print_lines<W: Write>(
+    lines: Lines,
+    around: Around<'_>,
+    list: &Addresses,
+    out: &mut W,
+) -> Result<(), Stop>
     ensures printed { OnOk result (Writes (W.contents out.old) (W.contents out.new)
-        (AreShown lines list.now)) }
+        (AreShown around.entry.before.now around.entry.after.now lines list.now)) }
     ensures failed { IfErr result (λ stop. stop ≡ Unwritable) }
 {
-    match write_lines(lines, list, out) {
+    match write_lines(lines, around, list, out) {
         Ok(()) => {}
         Err(_) => return Err(Stop::Unwritable),
     }
@@ -261,18 +289,74 @@ fn print_text<W: Write>(text: &str, out: &mut W) -> Result<(), Stop>
     }
 }
 
-fn print<W: Write>(alloc: Global, form: Form, list: &Addresses, out: &mut W) -> Result<(), Stop>
+fn print_sets<W: Write>(
+    v4: &SetText,
+    v6: &SetText,
+    only: Option<Family>,
+    list: &Addresses,
+    out: &mut W,
+) -> Result<(), Stop>
+    ensures printed { (firewall : Firewall) → IsSetText firewall V4 v4.now
+        → IsSetText firewall V6 v6.now
+        → OnOk result (Writes (W.contents out.old) (W.contents out.new)
+        (IsFirewallFile firewall only list.now)) }
+    ensures failed { IfErr result (λ stop. stop ≡ Unwritable) }
+{
+    match write_sets(v4, v6, only, list, out) {
+        Ok(()) => {}
+        Err(_) => return Err(Stop::Unwritable),
+    }
+    match out.flush() {
+        Ok(()) => Ok(()),
+        Err(_) => Err(Stop::Unwritable),
+    }
+}
+
+/// Prints a file of a firewall.
+fn print_firewall<W: Write>(
+    alloc: Global,
+    firewall: Firewall<'_>,
+    only: Option<Family>,
+    list: &Addresses,
+    out: &mut W,
+) -> Result<(), Stop>
     ensures printed { OnOk result (Writes (W.contents out.old) (W.contents out.new)
-        (IsShown form list.now)) }
+        (IsFirewallFile firewall.entry only list.now)) }
     ensures failed { IfErr result (λ stop. (stop ≡ Memory) ⊎ (stop ≡ Unwritable)) }
     ensures silent { result ≢ Err Unwritable → OnErr result (out.new ≡ out.old) }
 {
-    match form {
-        Form::Lines(lines) => print_lines(lines, list, out),
+    match (
+        set_text(alloc, firewall, Family::V4),
+        set_text(alloc, firewall, Family::V6),
+    ) {
+        (Ok(v4), Ok(v6)) => print_sets(&v4, &v6, only, list, out),
+        _ => Err(Stop::Memory),
+    }
+}
+
+fn print<W: Write>(
+    alloc: Global,
+    output: Output<'_>,
+    list: &Addresses,
+    out: &mut W,
+) -> Result<(), Stop>
+    ensures printed { OnOk result (Writes (W.contents out.old) (W.contents out.new)
+        (IsShown output.entry.form output.entry.only list.now)) }
+    ensures failed { IfErr result (λ stop. (stop ≡ Memory) ⊎ (stop ≡ Unwritable)) }
+    ensures silent { result ≢ Err Unwritable → OnErr result (out.new ≡ out.old) }
+{
+    match output.form {
+        Form::Lines(lines, around) => print_lines(lines, around, list, out),
         Form::Json => match list_to_text(alloc, list) {
             Ok(text) => print_text(text.as_str(), out),
             Err(_) => Err(Stop::Memory),
         },
+        Form::Ipset(name) => {
+            print_firewall(alloc, Firewall::Ipset(name), output.only, list, out)
+        }
+        Form::Nft(table, name) => {
+            print_firewall(alloc, Firewall::Nft(table, name), output.only, list, out)
+        }
     }
 }
 
@@ -281,12 +365,12 @@ fn print<W: Write>(alloc: Global, form: Form, list: &Addresses, out: &mut W) -> 
 /// Prefixes are as few as can be, ascending, those of IPv4 first, each on a line; `out` is
 /// flushed. Nothing is printed where a source cannot be read or an allocation fails. One list is
 /// held beside the answer. Adds to `left_out` how many bad lines are left out of each source.
-pub fn serve<R: BufRead + Drop, W: Write>(
+pub fn serve<R: LineRead + Drop, W: Write>(
     alloc: Global,
     command: Command,
     sources: Vec<Source<R>>,
     reading: Reading,
-    output: Output,
+    output: Output<'_>,
     left_out: &mut Vec<u64>,
     out: &mut W,
 ) -> Result<(), Stop>
@@ -294,13 +378,16 @@ pub fn serve<R: BufRead + Drop, W: Write>(
         → AreKnown (map (λ s. R.remaining s.reader) sources.items) files
         → (lists : List (Addresses × ℕ)) × (list : Addresses) × AreLists reading files lists
         × (left_out.new.items ≡ left_out.old.items ++ left_out_of lists)
-        × HasJust list (Kept output.only (IsAnswer command lists))
-        × Writes (W.contents out.old) (W.contents out.new) (IsShown output.form list)) }
+        × HasJust list (Kept output.entry.only (IsAnswer command lists))
+        × Writes (W.contents out.old) (W.contents out.new)
+        (IsShown output.entry.form output.entry.only list)) }
     ensures silent { result ≢ Err Unwritable → OnErr result (out.new ≡ out.old) }
     ensures bad { IfErr result (λ stop. (files : List (List ℕ))
         → AreKnown (map (λ s. R.remaining s.reader) sources.items) files
         → IsStop reading (map (λ s. s.name) sources.items) files stop) }
+    ensures unread { IfErr result (λ stop. (name : String Global)
+        → stop ≡ Bad name Unread → R.fails) }
 {
     let list = answered(alloc, command, sources.into_iter(), reading, left_out)?;
-    print(alloc, output.form, &kept(alloc, list, output.only), out)
+    print(alloc, output, &kept(alloc, list, output.only), out)
 }

@@ -2,6 +2,7 @@
 
 use crate::usage::{program, wrong};
 use address_text::Family;
+use address_text::write::Around;
 use clap::ArgMatches;
 use clap::error::ErrorKind;
 use std::alloc::{AllocError, Global};
@@ -39,25 +40,30 @@ pub enum Lines {
 
 /// What is printed of addresses.
 #[derive(Clone, Copy)]
-pub enum Form {
-    Lines(Lines),
+pub enum Form<'a> {
+    /// Lines, with the same texts around what is on each.
+    Lines(Lines, Around<'a>),
     /// An object with the set of either family, as the library writes it as JSON.
     Json,
+    /// A file that `ipset restore` reads, with sets whose names begin with this one.
+    Ipset(&'a str),
+    /// A file that `nft -f` reads, with sets of a table, whose names begin with the other name.
+    Nft(&'a str, &'a str),
 }
 
 /// What is printed of an answer.
 #[derive(Clone, Copy)]
-pub struct Output {
+pub struct Output<'a> {
     /// The family whose addresses alone are printed; `None` for both.
     pub only: Option<Family>,
-    pub form: Form,
+    pub form: Form<'a>,
 }
 
 /// What is to be done with the lists of these names.
 #[derive(Drop)]
 pub enum Task<'a> {
     /// They are put together, that from which others are taken first, and printed.
-    Combine(Command, Vec<&'a str>, Output),
+    Combine(Command, Vec<&'a str>, Output<'a>),
     /// The first is compared with the second.
     Compare(&'a str, &'a str),
     /// The addresses are looked up in it.
@@ -134,15 +140,55 @@ fn family_of(found: &ArgMatches<'_>) -> Option<Family> {
     }
 }
 
-fn form_of(name: &str, found: &ArgMatches<'_>) -> Form {
+fn lines_of(name: &str, found: &ArgMatches<'_>) -> Lines {
     match name {
-        "count" => Form::Lines(Lines::Count),
-        "split" => Form::Lines(Lines::Split(found.get_one("at").unwrap_or(Family::V6.width()))),
-        _ if found.get_flag("json") => Form::Json,
-        _ if found.get_flag("ranges") => Form::Lines(Lines::Ranges),
-        _ if found.get_flag("single") => Form::Lines(Lines::Singles),
-        _ => Form::Lines(Lines::Prefixes),
+        "count" => Lines::Count,
+        "split" => Lines::Split(found.get_one("at").unwrap_or(Family::V6.width())),
+        _ if found.get_flag("ranges") => Lines::Ranges,
+        _ if found.get_flag("single") => Lines::Singles,
+        _ => Lines::Prefixes,
     }
+}
+
+/// What is printed of addresses, but for a file of a firewall.
+fn plain_form<'a>(name: &str, found: &ArgMatches<'a>) -> Form<'a> {
+    if found.get_flag("json") {
+        return Form::Json;
+    }
+    let around = Around {
+        before: found.get_str("prefix").unwrap_or(""),
+        after: found.get_str("suffix").unwrap_or(""),
+    };
+    Form::Lines(lines_of(name, found), around)
+}
+
+fn form_of<'a>(name: &str, found: &ArgMatches<'a>) -> Form<'a> {
+    match (found.get_strs("ipset"), found.get_strs("nft")) {
+        (Some([set]), _) => Form::Ipset(set),
+        (_, Some([table, set])) => Form::Nft(table, set),
+        _ => plain_form(name, found),
+    }
+}
+
+/// Whether `ipset` and `nft` take the text as the beginning of a name: letters, digits, `_`, `-` and
+/// `.`, a letter first, and no more bytes than leave room for the name of a family.
+fn is_set_name(text: &str) -> bool {
+    text.len() <= 28
+        && text.starts_with(|first: char| first.is_ascii_alphabetic())
+        && text.bytes().all(|byte| byte.is_ascii_alphanumeric()
+            || matches!(byte, b'_' | b'-' | b'.'))
+}
+
+/// The first of the names that is none of a set or of a table.
+fn wrong_name<'a>(found: &ArgMatches<'a>) -> Option<&'a str> {
+    for id in ["ipset", "nft"] {
+        for name in found.get_strs(id).unwrap_or(&[]) {
+            if !is_set_name(name) {
+                return Some(*name);
+            }
+        }
+    }
+    None
 }
 
 /// What a command makes of its lists.
@@ -180,8 +226,24 @@ fn addresses_of(alloc: Global, words: &[&str]) -> Result<Vec<IpAddr>, clap::Erro
     Ok(addresses)
 }
 
+/// Tells that a word is no name of a set.
+fn no_name(alloc: Global, name: &str, word: &str) -> Result<clap::Error, AllocError> {
+    let message = format!(in alloc;
+        "invalid value '{word}' for a name: expected up to 28 letters, digits, '_', '-' and '.', \
+        a letter first"
+    )?;
+    wrong(alloc, name, ErrorKind::ValueValidation, message.as_str())
+}
+
 /// What is to be done with the lists that the arguments name.
-fn combined<'a>(alloc: Global, name: &str, found: &ArgMatches<'a>) -> Result<Task<'a>, AllocError> {
+fn combined<'a>(
+    alloc: Global,
+    name: &str,
+    found: &ArgMatches<'a>,
+) -> Result<Task<'a>, clap::Error> {
+    if let Some(word) = wrong_name(found) {
+        return Err(no_name(alloc, name, word)?);
+    }
     let files = names_of(alloc, found)?;
     let output = Output {
         only: family_of(found),
@@ -229,7 +291,7 @@ fn task_of<'a>(alloc: Global, name: &str, found: &ArgMatches<'a>) -> Result<Task
             Ok(Task::LookUp(first, sought_of(alloc, words)?))
         }
         "grep" => Ok(search_of(alloc, first, found)?),
-        _ => Ok(combined(alloc, name, found)?),
+        _ => combined(alloc, name, found),
     }
 }
 

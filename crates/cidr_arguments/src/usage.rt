@@ -19,6 +19,8 @@ Examples:
   cidr except blocked.txt --without exceptions.txt
   cidr invert allowed.txt
   cidr split --at 24 --v4 blocked.txt
+  cidr merge blocked.txt --ipset blocked | ipset restore
+  cidr merge blocked.txt --nft filter blocked | nft -f -
   cidr has blocked.txt 10.1.2.3 2001:db8::1
   cidr has blocked.txt - < addresses.txt
   cidr grep blocked.txt access.log";
@@ -38,6 +40,10 @@ enum Kind {
     List(ArgAction),
     /// An option that must be given, with the length of a prefix.
     Length,
+    /// An option with a text of any kind. Of the options of a group at most one may be given.
+    Text(&'static [&'static str]),
+    /// An option with names of these kinds. Of the options of a group at most one may be given.
+    Names(&'static [&'static str], &'static [&'static str]),
 }
 
 /// The name of what a command takes, its kind, and its help.
@@ -88,8 +94,32 @@ const SINGLE: Taken = (
 
 const JSON: Taken = (
     "json",
-    Kind::Flag(&["form"]),
+    Kind::Flag(&["form", "before", "behind"]),
     "Print a JSON object: the set of each family, as an array of ranges",
+);
+
+const PREFIX: Taken = (
+    "prefix",
+    Kind::Text(&["before"]),
+    "Print this text before what is on each line",
+);
+
+const SUFFIX: Taken = (
+    "suffix",
+    Kind::Text(&["behind"]),
+    "Print this text behind what is on each line",
+);
+
+const IPSET: Taken = (
+    "ipset",
+    Kind::Names(&["NAME"], &["form", "before", "behind"]),
+    "Print what ipset restore reads: the sets NAME_v4 and NAME_v6",
+);
+
+const NFT: Taken = (
+    "nft",
+    Kind::Names(&["TABLE", "NAME"], &["form", "before", "behind"]),
+    "Print what nft -f reads: the sets NAME_v4 and NAME_v6 of a table",
 );
 
 const WITHOUT: Taken = (
@@ -171,7 +201,8 @@ const EXCEPT: Usage = Usage {
     name: "except",
     about: "Print those of a list that are in none of the lists after --without",
     takes: &[
-        LISTS, STRICT, SKIP_BAD, V4, V6, RANGES, SINGLE, JSON, WITHOUT, FROM,
+        LISTS, STRICT, SKIP_BAD, V4, V6, RANGES, SINGLE, JSON, PREFIX, SUFFIX, IPSET, NFT, WITHOUT,
+        FROM,
     ],
 };
 
@@ -179,17 +210,23 @@ static COMMANDS: [Usage; 10] = [
     Usage {
         name: "merge",
         about: "Print the addresses that are in any list",
-        takes: &[LISTS, STRICT, SKIP_BAD, V4, V6, RANGES, SINGLE, JSON],
+        takes: &[
+            LISTS, STRICT, SKIP_BAD, V4, V6, RANGES, SINGLE, JSON, PREFIX, SUFFIX, IPSET, NFT,
+        ],
     },
     Usage {
         name: "common",
         about: "Print those that are in all lists",
-        takes: &[LISTS, STRICT, SKIP_BAD, V4, V6, RANGES, SINGLE, JSON],
+        takes: &[
+            LISTS, STRICT, SKIP_BAD, V4, V6, RANGES, SINGLE, JSON, PREFIX, SUFFIX, IPSET, NFT,
+        ],
     },
     Usage {
         name: "invert",
         about: "Print those of both families that are in no list",
-        takes: &[LISTS, STRICT, SKIP_BAD, V4, V6, RANGES, SINGLE, JSON],
+        takes: &[
+            LISTS, STRICT, SKIP_BAD, V4, V6, RANGES, SINGLE, JSON, PREFIX, SUFFIX, IPSET, NFT,
+        ],
     },
     EXCEPT,
     Usage {
@@ -205,6 +242,10 @@ static COMMANDS: [Usage; 10] = [
             RANGES,
             SINGLE,
             JSON,
+            PREFIX,
+            SUFFIX,
+            IPSET,
+            NFT,
         ],
     },
     Usage {
@@ -215,7 +256,7 @@ static COMMANDS: [Usage; 10] = [
     Usage {
         name: "split",
         about: "Print those that are in any list, in prefixes of LENGTH where they would be shorter",
-        takes: &[LISTS, STRICT, SKIP_BAD, V4, V6, AT],
+        takes: &[LISTS, STRICT, SKIP_BAD, V4, V6, AT, PREFIX, SUFFIX],
     },
     Usage {
         name: "compare",
@@ -228,6 +269,12 @@ static COMMANDS: [Usage; 10] = [
 
 fn flag<'a>(arg: Arg<'a>, groups: &'a [&'a str]) -> Result<Arg<'a>, AllocError> {
     arg.action(ArgAction::SetTrue).groups(groups)
+}
+
+fn text<'a>(arg: Arg<'a>, groups: &'a [&'a str]) -> Result<Arg<'a>, AllocError> {
+    arg.value_name("TEXT")
+        .allow_hyphen_values(true)
+        .groups(groups)
 }
 
 fn length<'a>(arg: Arg<'a>) -> Arg<'a> {
@@ -244,6 +291,11 @@ fn argument<'a>((name, kind, help): Taken, alloc: Global) -> Result<Arg<'a>, All
         Kind::SecondList => Ok(arg.required(true).value_name("FILE")),
         Kind::List(action) => Ok(arg.long(name).action(action).value_name("FILE")),
         Kind::Length => Ok(length(arg.long(name).required(true))),
+        Kind::Text(groups) => text(arg.long(name), groups),
+        Kind::Names(names, groups) => {
+            let arg = arg.long(name).value_names(names);
+            arg.num_args(names.len()..=names.len()).groups(groups)
+        }
     }
 }
 

@@ -19,14 +19,14 @@ module _ {S T : Type 0} (Answers : S → List ℕ → List ℕ → S → Type 0)
       (conversation_seen next _ more rest last held) is
 
 -- what stopped with one kind of answers stopped with another that follows
-pub stopped_as : (Silent : Type 0) (input before after : Option (List ℕ))
+pub stopped_as : (Silent : Type 0) (IsWrong : List ℕ → Type 0) (input before after : Option (List ℕ))
     (Talks Answers : List ℕ → List ℕ → List ℕ → Type 0)
     → ((bytes text rest : List ℕ) → Talks bytes text rest → Answers bytes text rest)
-    → Silent ⊎ IfSome input (λ bytes. (rest : List ℕ)
+    → Silent ⊎ IfSome input (λ bytes. (rest : List ℕ) × IsWrong rest
     × Writes before after (λ text. Talks bytes text rest))
-    → Silent ⊎ IfSome input (λ bytes. (rest : List ℕ)
+    → Silent ⊎ IfSome input (λ bytes. (rest : List ℕ) × IsWrong rest
     × Writes before after (λ text. Answers bytes text rest))
-stopped_as Silent input before after Talks Answers follows stopped = grind (arith, follows)
+stopped_as Silent IsWrong input before after Talks Answers follows stopped = grind (arith, follows)
 
 -- and what was answered
 pub answered_as : (input before after : Option (List ℕ)) (Talks Answers : List ℕ → List ℕ → Type 0)

@@ -1,11 +1,12 @@
 -- The first line of bytes of which a front is shown that has the line's end.
-use Rattle.std.proofs.Common.{◌≡◌, ◌≢◌, ℕ, zero, suc, ◌+◌, ◌<◌, List, [], ◌∷◌, length, take, drop, get_or, Option, None, IfSome, ap, ◌∙◌, arith, eq-eqb, eqb-true, Some, ◌≤◌, add-one, refl, rules}
+use Rattle.std.proofs.Common.{◌≡◌, ◌≢◌, ℕ, zero, suc, ◌+◌, ◌<◌, List, [], ◌∷◌, length, take, drop, get_or, Option, None, IfSome, ap, inl, subst, ◌∙◌, arith, eq-eqb, eqb-true, Some, ◌≤◌, add-one, refl, rules}
 use Rattle.std.proofs.lemmas.Bool.Decides.{nat_tests}
 use Rattle.std.proofs.lemmas.Option.{IfSome_then}
 use Rattle.std.specs.Io.{StartsWith}
 use Rattle.std.specs.Io.BufRead.{DropsConsumable, first_line, take_through, drop_through}
 use Rattle.std.specs.Io.KnownBytes.{Keeps}
 use Rattle.std.specs.Str.{IsUtf8}
+use Rattle.line_program.specs.Conversation.{IsUnreadable}
 use Rattle.line_program.specs.Lines.{line_content}
 use Rattle.line_program.specs.Listing.{Writes}
 use Rattle.memchr.specs.Find.{IsFirst, Passes, is_byte}
@@ -54,3 +55,16 @@ first_answered Answers (Some bytes) (Some held) new before after limit shown at 
       rw (← is_first) is_text,
       (text, rw (← is_first, ← same) answers, appended),
     )
+
+-- and where it is no text, the first of the bytes is none
+pub first_refused : (Fails : Type 0) (old : Option (List ℕ)) (shown : List ℕ) (at : ℕ)
+    → IfSome old (λ bytes. StartsWith bytes shown)
+    → IsFirst (Passes (is_byte 10) shown) 0 (length shown) (Some at)
+    → ¬ IsUtf8 (line_content (take (at + 1) shown)) → IfSome old (IsUnreadable Fails)
+first_refused Fails None shown at starts first other = tt
+first_refused Fails (Some bytes) shown at starts (none_before, found) other =
+    let (taken, left, some) = first_shown 10 bytes shown at starts none_before.high
+    (eqb-true _ _ found) (λ k less is. none_before.before k (omega arith) less (eq-eqb _ _ is)) in
+    let is_first : line_content (take (at + 1) shown) ≡ first_line bytes =
+    ap line_content taken in
+    inl (some, subst (λ line. ¬ IsUtf8 line) is_first other)

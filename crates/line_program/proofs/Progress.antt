@@ -62,11 +62,14 @@ module _ {S : Type 0} (Answers : S → List ℕ → List ℕ → S → Type 0) (
       let (empty, later_is) = rw answered.left_is at ended in
       (rw (same, silent, ← empty) (answered_so_far bytes left before now state answered), later_is)
 
-  pub stopped_at : (input left before now next : Option (List ℕ)) (state last : S)
-      → IfSome input (λ bytes. HasAnswered bytes left before now state)
-      → (last ≡ state) × (next ≡ now)
-      → IfSome input (λ bytes. (rest : List ℕ)
+  pub stopped_at : (IsWrong : List ℕ → Type 0) (input left before now next : Option (List ℕ))
+      (state last : S) → IfSome input (λ bytes. HasAnswered bytes left before now state)
+      → (last ≡ state) × (next ≡ now) → IfSome left IsWrong
+      → IfSome input (λ bytes. (rest : List ℕ) × IsWrong rest
       × Writes before next (λ text. Conversation Answers first bytes text rest last))
-  stopped_at None left before now next state last answered unchanged = tt
-  stopped_at (Some bytes) left before now next state last answered (same, silent) =
-      (answered.remaining, rw (same, silent) (answered_so_far bytes left before now state answered))
+  stopped_at IsWrong None left before now next state last answered unchanged wrong = tt
+  stopped_at IsWrong (Some bytes) left before now next state last answered (same, silent) wrong = (
+    answered.remaining,
+    rw answered.left_is at wrong,
+    rw (same, silent) (answered_so_far bytes left before now state answered),
+  )

@@ -1,5 +1,5 @@
 -- What a program answers to lines of text, from the first to the last.
-use Rattle.std.specs.Prelude.{◌≡◌, ◌≢◌, ℕ, List, [], ◌++◌}
+use Rattle.std.specs.Prelude.{◌≡◌, ◌≢◌, ◌⊎◌, ℕ, List, [], ◌++◌}
 use Rattle.std.specs.Io.BufRead.{first_line, drop_through}
 use Rattle.std.specs.Str.{IsUtf8}
 
@@ -13,3 +13,7 @@ module _ {S : Type 0} (Answers : S → List ℕ → List ℕ → S → Type 0) w
         → input ≢ [] → IsUtf8 (first_line input) → Answers state (first_line input) answer next
         → Conversation next (drop_through 10 input) more rest last → text ≡ answer ++ more
         → Conversation state input text rest last
+
+-- the next line of the rest is no text, or a read fails
+abbrev pub IsUnreadable : Type 0 → List ℕ → Type 0
+IsUnreadable Fails rest = ((rest ≢ []) × ¬ IsUtf8 (first_line rest)) ⊎ Fails

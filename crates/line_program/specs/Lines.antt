@@ -1,5 +1,5 @@
 -- Bytes round a separator, and at the end of a line.
-use Rattle.std.specs.Prelude.{◌≡◌, ◌≢◌, ℕ, ◌<◌, List, ◌∷◌, ◌++◌, length, if◌then◌else◌}
+use Rattle.std.specs.Prelude.{◌≡◌, ◌≢◌, ℕ, ◌<◌, List, [], ◌∷◌, ◌++◌, Option, None, Some, length, if◌then◌else◌}
 use Rattle.std.specs.Io.BufRead.{ends_with_byte, strip_last}
 use lib.ListN.{get_or}
 
@@ -15,3 +15,7 @@ IsSplitAt byte bs front back = (bs ≡ front ++ byte ∷ back) × Lacks byte fro
 abbrev pub line_content : List ℕ → List ℕ
 line_content line =
     if ends_with_byte 10 line then strip_last 13 (strip_last 10 line) else strip_last 10 line
+
+abbrev pub first_byte : List ℕ → Option ℕ
+first_byte [] = None
+first_byte (byte ∷ bytes) = Some byte

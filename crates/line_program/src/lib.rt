@@ -5,6 +5,7 @@
 //! - a program that answers lines, and how one is served: each line is read where it lies in the
 //!   reader's buffer: `src/program.rt`, `specs/Conversation.antt`,
 //!   `proofs/{FirstLine,Progress}.antt`
+//! - readers of lines, and what is known where they fail: `src/read.rt`
 //! - a conversation seen in other states, as a program's in the lists that it stores:
 //!   `proofs/Conversations.antt`
 //! - lines cut at a byte, numbers written in digits, a line for each element of a list:
@@ -14,4 +15,5 @@
 
 pub mod line;
 pub mod program;
+pub mod read;
 pub mod streams;

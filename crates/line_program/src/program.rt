@@ -3,15 +3,16 @@
 ghost use Rattle.std.specs.Prelude.{◌≡◌, ◌≢◌, ◌≤◌, ◌⊎◌, ℕ, List, [], Ok, Err, OnOk, OnSome, IfSome, Some, true, false};
 ghost use Rattle.std.specs.Io.BufRead.{first_line, drop_through};
 ghost use Rattle.std.specs.Str.{IsUtf8};
-ghost use Rattle.line_program.specs.Conversation.{Conversation};
+ghost use Rattle.line_program.specs.Conversation.{Conversation, IsUnreadable};
 ghost use Rattle.line_program.specs.Lines.{line_content};
 ghost use Rattle.line_program.specs.Listing.{Writes};
 ghost use Rattle.line_program.specs.declared.program.Stop.TheVariants.{Unreadable};
 
 use crate::line::without_line_end;
+use crate::read::LineRead;
 use memchr::memchr;
 use std::alloc::Global;
-use std::io::{self, BufRead, ErrorKind, Write};
+use std::io::{self, Write};
 
 /// A program that answers each line by a text.
 pub trait LineProgram<W: Write> {
@@ -29,7 +30,7 @@ pub trait LineProgram<W: Write> {
 pub enum Stop {
     /// A line cannot be read, or is no text in UTF-8.
     Unreadable,
-    /// An answer cannot be written.
+    /// An answer cannot be written, or there are more lines than a `u64` counts.
     Unwritable,
 }
 
@@ -42,8 +43,8 @@ fn answer_line<P: LineProgram<W>, W: Write>(
     ensures answered { OnOk result (Writes (W.contents out.old) (W.contents out.new)
         (λ text. IsUtf8 (line_content line.now)
         × P.answers program.old (line_content line.now) text program.new)) }
-    ensures unread { result ≡ Err Unreadable
-        → (program.new ≡ program.old) × (out.new ≡ out.old) }
+    ensures unread { result ≡ Err Unreadable → (program.new ≡ program.old) × (out.new ≡ out.old)
+        × ¬ IsUtf8 (line_content line.now) }
 {
     let Ok(text) = str::from_utf8(without_line_end(line)) else {
         return Err(Stop::Unreadable);
@@ -55,7 +56,7 @@ fn answer_line<P: LineProgram<W>, W: Write>(
 }
 
 // Answers the next line and returns whether there was one, through the buffer.
-fn answer_gathered<P: LineProgram<W>, R: BufRead, W: Write>(
+fn answer_gathered<P: LineProgram<W>, R: LineRead, W: Write>(
     program: &mut P,
     line: &mut Vec<u8>,
     input: &mut R,
@@ -69,15 +70,13 @@ fn answer_gathered<P: LineProgram<W>, R: BufRead, W: Write>(
         × (R.remaining input.new ≡ Some (drop_through 10 bytes)) × IsUtf8 (first_line bytes)
         × Writes (W.contents out.old) (W.contents out.new)
         (λ text. P.answers program.old (first_line bytes) text program.new)) }
-    ensures unread { result ≡ Err Unreadable
-        → (program.new ≡ program.old) × (out.new ≡ out.old) }
+    ensures unread { result ≡ Err Unreadable → (program.new ≡ program.old) × (out.new ≡ out.old)
+        × IfSome (R.remaining input.old) (IsUnreadable R.fails) }
 {
-    line.clear();
-    let Ok(count) = input.read_until(b'\n', line) else {
-        return Err(Stop::Unreadable);
-    };
-    if count == 0 {
-        return Ok(false);
+    match input.next_line(line) {
+        Ok(true) => {}
+        Ok(false) => return Ok(false),
+        Err(_) => return Err(Stop::Unreadable),
     }
     answer_line(program, line.as_slice(), out)?;
     Ok(true)
@@ -85,7 +84,7 @@ fn answer_gathered<P: LineProgram<W>, R: BufRead, W: Write>(
 
 // Answers the next line and returns whether there was one: where it lies in the reader's buffer, or
 // through a buffer of its own where it reaches beyond that.
-fn answer_next<P: LineProgram<W>, R: BufRead, W: Write>(
+fn answer_next<P: LineProgram<W>, R: LineRead, W: Write>(
     program: &mut P,
     line: &mut Vec<u8>,
     input: &mut R,
@@ -99,21 +98,15 @@ fn answer_next<P: LineProgram<W>, R: BufRead, W: Write>(
         × (R.remaining input.new ≡ Some (drop_through 10 bytes)) × IsUtf8 (first_line bytes)
         × Writes (W.contents out.old) (W.contents out.new)
         (λ text. P.answers program.old (first_line bytes) text program.new)) }
-    ensures unread { result ≡ Err Unreadable
-        → (program.new ≡ program.old) × (out.new ≡ out.old) }
+    ensures unread { result ≡ Err Unreadable → (program.new ≡ program.old) × (out.new ≡ out.old)
+        × IfSome (R.remaining input.old) (IsUnreadable R.fails) }
 {
-    match input.fill_buf() {
-        Ok(available) => {
-            if let Some(at) = memchr(b'\n', available) {
-                answer_line(program, &available[..at + 1], out)?;
-                input.consume(at + 1);
-                return Ok(true);
-            }
-        }
-        Err(error) => {
-            if error.kind() != ErrorKind::Interrupted {
-                return Err(Stop::Unreadable);
-            }
+    // A read that fails here is tried again below.
+    if let Ok(available) = input.fill_buf() {
+        if let Some(at) = memchr(b'\n', available) {
+            answer_line(program, &available[..at + 1], out)?;
+            input.consume(at + 1);
+            return Ok(true);
         }
     }
     answer_gathered(program, line, input, out)
@@ -124,8 +117,8 @@ fn answer_next<P: LineProgram<W>, R: BufRead, W: Write>(
 /// A line ends at `\n` or `\r\n`, or with the input. It is answered where it lies in the reader's
 /// buffer. Only one that reaches beyond it is copied, into one buffer for all such lines. So this
 /// allocates only where such a line is longer than each before it. An error says why no further
-/// line is answered.
-pub fn answer_lines<P: LineProgram<W>, R: BufRead, W: Write>(
+/// line is answered: at `Unreadable` the next one is no text, or a read fails.
+pub fn answer_lines<P: LineProgram<W>, R: LineRead, W: Write>(
     alloc: Global,
     program: &mut P,
     input: &mut R,
@@ -136,7 +129,8 @@ pub fn answer_lines<P: LineProgram<W>, R: BufRead, W: Write>(
         (λ bytes. Writes (W.contents out.old) (W.contents out.new)
         (λ text. Conversation P.answers program.old bytes text [] program.new))) }
     ensures unread { result ≡ Err Unreadable → IfSome (R.remaining input.old)
-        (λ bytes. (rest : List ℕ) × Writes (W.contents out.old) (W.contents out.new)
+        (λ bytes. (rest : List ℕ) × IsUnreadable R.fails rest
+        × Writes (W.contents out.old) (W.contents out.new)
         (λ text. Conversation P.answers program.old bytes text rest program.new)) }
 {
     let mut line = Vec::new(alloc);
@@ -145,15 +139,15 @@ pub fn answer_lines<P: LineProgram<W>, R: BufRead, W: Write>(
             return Ok(());
         }
     }
-    Err(Stop::Unreadable)
+    Err(Stop::Unwritable)
 }
 
 /// Serves a program to the end of the input, and returns the exit status.
 ///
 /// The status is 0 at the end of the input, and 1 where a line cannot be read or an answer cannot
 /// be written. `out` is flushed before this returns and before `read error` goes to `err`, which
-/// says that a line cannot be read; all lines before it are answered then.
-pub fn serve<P: LineProgram<W>, R: BufRead, W: Write, E: Write>(
+/// says that a line cannot be read; all lines before that very line are answered then.
+pub fn serve<P: LineProgram<W>, R: LineRead, W: Write, E: Write>(
     alloc: Global,
     program: &mut P,
     input: &mut R,
@@ -166,7 +160,8 @@ pub fn serve<P: LineProgram<W>, R: BufRead, W: Write, E: Write>(
         (λ bytes. Writes (W.contents out.old) (W.contents out.new)
         (λ text. Conversation P.answers program.old bytes text [] program.new)) }
     ensures unread { result ≡ 1 → (err.new ≡ err.old) ⊎ IfSome (R.remaining input.old)
-        (λ bytes. (rest : List ℕ) × Writes (W.contents out.old) (W.contents out.new)
+        (λ bytes. (rest : List ℕ) × IsUnreadable R.fails rest
+        × Writes (W.contents out.old) (W.contents out.new)
         (λ text. Conversation P.answers program.old bytes text rest program.new)) }
 {
     let served = answer_lines(alloc, program, input, out);

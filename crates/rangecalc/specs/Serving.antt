@@ -3,6 +3,7 @@ use Rattle.std.specs.Prelude.{◌≡◌, ℕ, List, [], ◌∷◌, ◌⊎◌, co
 use Rattle.btree_range_map.specs.Signed.{signed_order}
 use Rattle.btree_range_map.specs.Unsigned.{unsigned_order}
 use Rattle.rangecalc.specs.Conversation.{IsConversation}
+use Rattle.line_program.specs.Conversation.{IsUnreadable}
 use Rattle.line_program.specs.Listing.{Writes}
 
 -- the arguments are the one word `u8` or the one word `i32`
@@ -23,8 +24,9 @@ abbrev pub IsServed : List (List ℕ) → Option (List ℕ) → Option (List ℕ
 IsServed words input before after =
     IfSome input (λ bytes. Writes before after (λ text. IsAnswered words bytes text []))
 
--- known input was answered up to some line, and no further
-abbrev pub IsStopped : List (List ℕ) → Option (List ℕ) → Option (List ℕ) → Option (List ℕ) → Type 0
-IsStopped words input before after =
-    IfSome input (λ bytes. (rest : List ℕ)
+-- known input was answered up to a line that is no text, or at which a read failed, and no further
+abbrev pub IsStopped : List (List ℕ) → Type 0 → Option (List ℕ) → Option (List ℕ) → Option (List ℕ)
+    → Type 0
+IsStopped words Fails input before after =
+    IfSome input (λ bytes. (rest : List ℕ) × IsUnreadable Fails rest
     × Writes before after (λ text. IsAnswered words bytes text rest))

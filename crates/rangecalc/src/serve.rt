@@ -2,14 +2,16 @@
 
 ghost use Rattle.std.specs.Prelude.{◌≡◌, ◌≤◌, ◌↔◌, ◌⊎◌, ℕ, List, Err, OnOk, OnSome, IfSome, Some, [], map, string_bytes};
 ghost use Rattle.rangecalc.specs.Conversation.{AnswersLine, IsConversation, stored_in};
+ghost use Rattle.line_program.specs.Conversation.{IsUnreadable};
 ghost use Rattle.line_program.specs.Listing.{Writes};
 ghost use Rattle.rangecalc.specs.Serving.{IsServed, IsStopped, NamesKeys};
 
 use crate::maps::{Maps, answer_line, no_maps};
 use crate::number::MapKey;
 use line_program::program::LineProgram;
+use line_program::read::LineRead;
 use std::alloc::Global;
-use std::io::{self, BufRead, Write};
+use std::io::{self, Write};
 
 /// Four maps, which the lines name.
 #[derive(Drop)]
@@ -27,7 +29,7 @@ impl<K: MapKey, W: Write> LineProgram<W> for MapsProgram<K> {
     }
 }
 
-fn serve_keys<K: MapKey, R: BufRead, W: Write, E: Write>(
+fn serve_keys<K: MapKey, R: LineRead, W: Write, E: Write>(
     alloc: Global,
     input: &mut R,
     out: &mut W,
@@ -42,7 +44,7 @@ fn serve_keys<K: MapKey, R: BufRead, W: Write, E: Write>(
     ensures unread { result ≡ 1
         → (err.new ≡ err.old)
         ⊎ IfSome (R.remaining input.old)
-        (λ bytes. (rest : List ℕ)
+        (λ bytes. (rest : List ℕ) × IsUnreadable R.fails rest
         × Writes (W.contents out.old) (W.contents out.new)
         (λ text. IsConversation K.order bytes text rest)) }
 {
@@ -59,7 +61,7 @@ fn serve_keys<K: MapKey, R: BufRead, W: Write, E: Write>(
 /// which is flushed before the call ends; the usage line and `read error` go to `err`. The status
 /// is 0 at the end of the input, and 1 where a line cannot be read or a reply cannot be written. It
 /// is 2 where the words name no keys. A line that is no text in UTF-8 cannot be read.
-pub fn serve<R: BufRead + Drop, W: Write, E: Write>(
+pub fn serve<R: LineRead + Drop, W: Write, E: Write>(
     alloc: Global,
     words: &[String],
     mut input: R,
@@ -72,7 +74,7 @@ pub fn serve<R: BufRead + Drop, W: Write, E: Write>(
     ensures silent { result ≡ 0 → err.new ≡ err.old }
     ensures unread { result ≡ 1
         → (err.new ≡ err.old)
-        ⊎ IsStopped (map string_bytes words.now) (R.remaining input) (W.contents out.old)
+        ⊎ IsStopped (map string_bytes words.now) R.fails (R.remaining input) (W.contents out.old)
         (W.contents out.new) }
     ensures served { result ≡ 0
         → IsServed (map string_bytes words.now) (R.remaining input) (W.contents out.old)

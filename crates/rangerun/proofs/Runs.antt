@@ -16,7 +16,7 @@ use Rattle.rangerun.specs.declared.command_line.CommandLine.TheVariants.{Run, Sh
 use Rattle.rangerun.specs.declared.tag.Tag.{Tag}
 use Rattle.line_program.specs.Conversation.{Conversation}
 use Rattle.line_program.specs.Conversation.Conversation.{Ended, Answered}
-use Rattle.rangerun.specs.Conversation.{AnswersLine, AnswersStored, IsConversation}
+use Rattle.rangerun.specs.Conversation.{AnswersLine, AnswersStored, IsConversation, Kept}
 use Rattle.line_program.specs.Listing.{Writes}
 use Rattle.rangerun.specs.Runs.{Commands, no_commands, with_line, AreOneRun, AreRuns, AnswersRuns}
 use Rattle.rangerun.specs.Tags.{IsAnswerOf}
@@ -39,20 +39,20 @@ module _ {K : Type 0} (order : KeyOrder K) (as_number : K → ℤ) (shape : K �
   abbrev IsChain : Commands K → List (Item (AnyRange K) ℤ) → Type 0
   IsChain done last = AreSteps order int_eq IsAnswerOf done.first done.commands done.replies last
 
-  chain_after : (done : Commands K) (items : List (Item (AnyRange K) ℤ)) (levels : ℕ)
-      (line answer : List ℕ) (next : List (Item (AnyRange K) ℤ))
-      (said : AnswersLine order as_number shape reads is_read items levels line answer next)
-      → IsChain done items
-      → IsChain (with_line order as_number shape reads is_read done items levels line answer next
-      said) next
-  chain_after done items levels line answer next (inl (json, is, inl loaded)) chain = refl
-  chain_after done items levels line answer next
+  chain_after : (done : Commands K) (kept : Kept K) (line answer : List ℕ) (next : Kept K)
+      (said : AnswersLine order as_number shape reads is_read kept line answer next)
+      → IsChain done kept.items
+      → IsChain (with_line order as_number shape reads is_read done kept line answer next said)
+      next.items
+  chain_after done kept line answer next (inl (json, is, inl loaded)) chain = refl
+  chain_after done kept line answer next
       (inr (none, Some (Run command), read, (reply, step, text_is))) chain =
-      one_more order done.first items next done.commands done.replies command reply chain step
-  chain_after done items levels line answer next (inr (none, other, read, said)) chain =
-      subst (IsChain done) (sym said.1) chain
-  chain_after done items levels line answer next (inl (json, is, inr (cause, why, text_is, same)))
-      chain = subst (IsChain done) (sym same) chain
+      one_more order done.first kept.items next.items done.commands done.replies command reply chain
+      step
+  chain_after done kept line answer next (inr (none, other, read, said)) chain =
+      subst (λ (one : Kept K). IsChain done one.items) (sym said.1) chain
+  chain_after done kept line answer next (inl (json, is, inr (cause, why, text_is, same))) chain =
+      subst (IsChain done) (sym same) chain
 
   module _ (lawful : IsLawful order) where
     one_run : (done : Commands K) (items : List (Item (AnyRange K) ℤ)) → IsChain done items
@@ -65,19 +65,19 @@ module _ {K : Type 0} (order : KeyOrder K) (as_number : K → ℤ) (shape : K �
           done.commands done.replies chain b h;
     }
 
-    conversation_is_runs : (done : Commands K) (items : List (Item (AnyRange K) ℤ))
-        (input text rest : List ℕ) (last : List (Item (AnyRange K) ℤ)) → IsChain done items
-        → (talk : Conversation (AnswersStored order as_number shape reads is_read) items input text
+    conversation_is_runs : (done : Commands K) (kept : Kept K) (input text rest : List ℕ)
+        (last : Kept K) → IsChain done kept.items
+        → (talk : Conversation (AnswersStored order as_number shape reads is_read) kept input text
         rest last)
-        → AreRuns order as_number shape reads is_read done items input text rest last talk
-    conversation_is_runs done items input text rest last chain (Ended _ _) =
-        one_run done items chain
-    conversation_is_runs done items input text rest last chain
-        (Answered _ next _ _ _ answer more _ some is_text (levels, may_have, said) talk is) = (
-          one_run done items chain,
-          conversation_is_runs (with_line order as_number shape reads is_read done items levels
+        → AreRuns order as_number shape reads is_read done kept input text rest last talk
+    conversation_is_runs done kept input text rest last chain (Ended _ _) =
+        one_run done kept.items chain
+    conversation_is_runs done kept input text rest last chain
+        (Answered _ next _ _ _ answer more _ some is_text (may_have, said) talk is) = (
+          one_run done kept.items chain,
+          conversation_is_runs (with_line order as_number shape reads is_read done kept
               (first_line input) answer next said) next (drop_through 10 input) more rest last
-              (chain_after done items levels (first_line input) answer next said chain) talk,
+              (chain_after done kept (first_line input) answer next said chain) talk,
         )
 
     -- so what answers input answers it by runs
@@ -85,7 +85,10 @@ module _ {K : Type 0} (order : KeyOrder K) (as_number : K → ℤ) (shape : K �
         → IsConversation order as_number shape reads is_read input text rest
         → AnswersRuns order as_number shape reads is_read input text rest
     answers_runs input text rest said = (
+      said.first,
       said.last,
+      said.empty,
       said.talk,
-      conversation_is_runs (no_commands []) [] input text rest said.last refl said.talk,
+      conversation_is_runs (no_commands said.first.items) said.first input text rest said.last refl
+          said.talk,
     )

@@ -16,6 +16,14 @@ use Rattle.rangerun.specs.Replies.{SpellsReply, SpellsAll, SpellsGaps, SpellsLen
 use Rattle.rangerun.specs.Saving.{load_line, SpellsSaved, AnswersLoad}
 use Rattle.rangerun.specs.Tags.{IsAnswerOf}
 
+-- the list that a map stores, and the levels of the tree that keeps it
+pub record Kept (K : Type 0) : Type 0 where
+  pub items : List (Item (AnyRange K) ℤ)
+  pub levels : ℕ
+
+abbrev pub kept_as : {K : Type 0} → List (Item (AnyRange K) ℤ) → ℕ → Kept K
+kept_as items levels = record { items = items; levels = levels }
+
 -- of keys, each with its number, with the JSON value that it is written as, and with those that it
 -- is read of
 module _ {K : Type 0} (order : KeyOrder K) (as_number : K → ℤ) (shape : K → Data)
@@ -25,38 +33,38 @@ module _ {K : Type 0} (order : KeyOrder K) (as_number : K → ℤ) (shape : K �
   IsRead line None = (known : CommandLine K) → SpellsLine order.is_key as_number line known → ⊥
   IsRead line (Some known) = SpellsLine order.is_key as_number line known
 
-  -- the text that may answer a command over the stored list, kept in a tree of so many levels, and
-  -- the list that is stored then
-  abbrev pub Answers : List (Item (AnyRange K) ℤ) → ℕ → Option (CommandLine K) → List ℕ
-      → List (Item (AnyRange K) ℤ) → Type 0
-  Answers items levels None text next = (text ≡ codes "bad line\n") × (next ≡ items)
-  Answers items levels (Some Show) text next = SpellsAll order as_number items text × (next ≡ items)
-  Answers items levels (Some Gaps) text next =
-      SpellsGaps order as_number items text × (next ≡ items)
-  Answers items levels (Some Len) text next = SpellsLen order as_number items text × (next ≡ items)
-  Answers items levels (Some Levels) text next = (text ≡ levels_text levels) × (next ≡ items)
-  Answers items levels (Some Save) text next = SpellsSaved shape items text × (next ≡ items)
-  Answers items levels (Some (Run command)) text next =
-      (reply : Reply K ℤ ℤ) × IsStep order int_eq IsAnswerOf items command reply next
+  -- the text that may answer a command over what is kept, and what is kept then: the same list in
+  -- the same tree, but where a command is done
+  abbrev pub Answers : Kept K → Option (CommandLine K) → List ℕ → Kept K → Type 0
+  Answers kept None text next = (text ≡ codes "bad line\n") × (next ≡ kept)
+  Answers kept (Some Show) text next =
+      SpellsAll order as_number kept.items text × (next ≡ kept)
+  Answers kept (Some Gaps) text next =
+      SpellsGaps order as_number kept.items text × (next ≡ kept)
+  Answers kept (Some Len) text next = SpellsLen order as_number kept.items text × (next ≡ kept)
+  Answers kept (Some Levels) text next = (text ≡ levels_text kept.levels) × (next ≡ kept)
+  Answers kept (Some Save) text next = SpellsSaved shape kept.items text × (next ≡ kept)
+  Answers kept (Some (Run command)) text next =
+      (reply : Reply K ℤ ℤ) × IsStep order int_eq IsAnswerOf kept.items command reply next.items
       × SpellsReply order as_number reply text
 
   -- the text that may answer a line: one that loads a text, or any other
-  abbrev pub AnswersLine : List (Item (AnyRange K) ℤ) → ℕ → List ℕ → List ℕ
-      → List (Item (AnyRange K) ℤ) → Type 0
-  AnswersLine items levels line text next =
+  abbrev pub AnswersLine : Kept K → List ℕ → List ℕ → Kept K → Type 0
+  AnswersLine kept line text next =
       ((json : List ℕ) × (line ≡ load_line json)
-      × AnswersLoad order reads is_read items json text next)
+      × AnswersLoad order reads is_read kept.items json text next.items)
       ⊎ (((json : List ℕ) → line ≢ load_line json)
       × (command : Option (CommandLine K)) × IsRead line command
-      × Answers items levels command text next)
+      × Answers kept command text next)
 
-  -- the same over a stored list, which is kept in a tree of as many levels as it may have
-  abbrev pub AnswersStored : List (Item (AnyRange K) ℤ) → List ℕ → List ℕ
-      → List (Item (AnyRange K) ℤ) → Type 0
-  AnswersStored items line text next =
-      (levels : ℕ) × HasLevels (length items) levels × AnswersLine items levels line text next
+  -- the same where the tree has no more and no fewer levels than one that keeps the list may have
+  abbrev pub AnswersStored : Kept K → List ℕ → List ℕ → Kept K → Type 0
+  AnswersStored kept line text next =
+      HasLevels (length kept.items) kept.levels × AnswersLine kept line text next
 
   -- the text may answer the lines of the input before the rest of it, over an empty map
   pub record IsConversation (input text rest : List ℕ) : Type 0 where
-    pub last : List (Item (AnyRange K) ℤ)
-    pub talk : Conversation AnswersStored [] input text rest last
+    pub first : Kept K
+    pub last : Kept K
+    pub empty : first.items ≡ []
+    pub talk : Conversation AnswersStored first input text rest last

@@ -1,4 +1,5 @@
-use Rattle.std.proofs.Common.{ap, Ok, subst, sym, arith}
+use Rattle.std.proofs.Common.{ap, Ok, subst, sym, arith, ◌≡◌, ℕ, List, [], Some}
+use Rattle.std.proofs.lemmas.Option.{IfSome_then}
 use Rattle.address_lines.specs.Found.{IsSought}
 use Rattle.address_lines.proofs.Found.{IsLineRead, all_searched, line_searched, one_at_most, searched_so_far}
 use Rattle.address_lines.proofs.grep.search_lines.Goals as goal
@@ -7,7 +8,7 @@ pub loop-number-preserved : goal.loop-number-preserved
 loop-number-preserved g c =
     let IsSuch = IsSought c.args.list.now c.args.search.is_inverted in
     let left = g.R.Read.remaining c.loop-number.input in
-    let later = g.R.Read.remaining c.next_line.new.input in (
+    let later = g.R.Read.remaining c.next_line.new.self in (
       let few = c.loop-number.invariant.0 in
           let added = c.from-count.ensures in
           omega (arith, few, added, one_at_most c.in-Ok.found),
@@ -28,18 +29,21 @@ returns-in-Ok-false-clause-found g c =
     c.args.before.now (g.R.Read.remaining c.args.input.now)
     (g.R.Read.remaining c.loop-number.input) (g.W.Write.contents c.args.out.now)
     (g.W.Write.contents c.loop-number.out) c.loop-number.number c.loop-number.count
-    c.loop-number.invariant.1 (c.in-Ok-false.ensures.ended (ap Ok c.in-Ok-false.field-0-test))
+    c.loop-number.invariant.1
+    (IfSome_then _ (c.in-Ok-false.ensures.ended (ap Ok c.in-Ok-false.field-0-test))
+    (λ (bytes : List ℕ) (none : (bytes ≡ []) × (g.R.Read.remaining c.next_line.new.self ≡ Some [])).
+    none.0))
 
-pub returns-in-Err-clause-unread : goal.returns-in-Err-clause-unread
-returns-in-Err-clause-unread g c = λ unread.
+pub returns-in-Err-clause-halted : goal.returns-in-Err-clause-halted
+returns-in-Err-clause-halted g c = λ other.
     searched_so_far (IsSought c.args.list.now c.args.search.is_inverted) c.args.search.showing
     c.args.before.now (g.R.Read.remaining c.args.input.now)
     (g.R.Read.remaining c.loop-number.input) (g.W.Write.contents c.args.out.now)
     (g.W.Write.contents c.loop-number.out) c.loop-number.number c.loop-number.count
     c.loop-number.invariant.1
 
-pub returns-clause-unread : goal.returns-clause-unread
-returns-clause-unread g c = λ unread.
+pub returns-clause-halted : goal.returns-clause-halted
+returns-clause-halted g c = λ other.
     searched_so_far (IsSought c.args.list.now c.args.search.is_inverted) c.args.search.showing
     c.args.before.now (g.R.Read.remaining c.args.input.now)
     (g.R.Read.remaining c.loop-number.input) (g.W.Write.contents c.args.out.now)

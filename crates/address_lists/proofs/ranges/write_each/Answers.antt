@@ -13,7 +13,7 @@ write_address_line-requires g c = grind (arith, within)
 pub loop-number-preserved : goal.loop-number-preserved
 loop-number-preserved g c =
     let more = c.loop-number-test.true in
-    one_written (address_line c.args.family) 1 (lit< tt) _ _ c.args.last c.loop-number.number 0
+    one_written (address_line c.args.around.before.now c.args.around.after.now c.args.family) 1 (lit< tt) _ _ c.args.last c.loop-number.number 0
     (g.W.Write.contents c.args.out.now) (g.W.Write.contents c.loop-number.out)
     (g.W.Write.contents c.write_address_line.new.out) c.loop-number.invariant refl
     (omega (arith, more)) c.in_ok-write_address_line.ensures
@@ -25,7 +25,7 @@ pub returns : goal.returns
 returns g c =
     let last = c.loop-number-test.false in
     on_ok_as c.write_address_line-2.result _ _
-    (all_written (address_line c.args.family) 1 _ _ c.args.last c.loop-number.number 0
+    (all_written (address_line c.args.around.before.now c.args.around.after.now c.args.family) 1 _ _ c.args.last c.loop-number.number 0
     (g.W.Write.contents c.args.out.now) (g.W.Write.contents c.loop-number.out)
     (g.W.Write.contents c.write_address_line-2.new.out) c.loop-number.invariant refl
     (omega (arith, last))) c.write_address_line-2.ensures

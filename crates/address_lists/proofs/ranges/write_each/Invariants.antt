@@ -5,7 +5,7 @@ use Rattle.address_lists.proofs.ranges.write_each.Given as goal
 
 abbrev pub invariant-loop-number : goal.invariant-loop-number
 invariant-loop-number g l =
-    AreWritten (address_line l.family) 1 (l.last + 1 - l.first) l.first l.last l.number
+    AreWritten (address_line l.around.before.now l.around.after.now l.family) 1 (l.last + 1 - l.first) l.first l.last l.number
     (g.W.Write.contents l.fn.out) (g.W.Write.contents l.out)
 
 abbrev pub decreases-loop-number : goal.decreases-loop-number

@@ -15,7 +15,7 @@ loop-network-preserved g c =
     let step : ℕ = 2 ^ (width c.args.family - length) in
     let size : c.greatest_of-others.result + 1 ≡ step =
     c.greatest_of-others.ensures ∙ ap (λ bits. 2 ^ (bits - length)) c.width.ensures in
-    one_written (λ n. prefix_line c.args.family n length) step
+    one_written (λ n. prefix_line c.args.around.before.now c.args.around.after.now c.args.family n length) step
     (pow_pos (width c.args.family - length)) _ _ c.args.ends.1 c.loop-network.network
     c.greatest_of-others.result (g.W.Write.contents c.args.out.now)
     (g.W.Write.contents c.loop-network.out) (g.W.Write.contents c.write_prefix_line.new.out)
@@ -29,7 +29,7 @@ returns g c =
     c.greatest_of-others.ensures ∙ ap (λ bits. 2 ^ (bits - length)) c.width.ensures in
     let last = c.loop-network-test.false in
     on_ok_as c.write_prefix_line-2.result _ _
-    (all_written (λ n. prefix_line c.args.family n length) step _ _ c.args.ends.1
+    (all_written (λ n. prefix_line c.args.around.before.now c.args.around.after.now c.args.family n length) step _ _ c.args.ends.1
     c.loop-network.network c.greatest_of-others.result (g.W.Write.contents c.args.out.now)
     (g.W.Write.contents c.loop-network.out) (g.W.Write.contents c.write_prefix_line-2.new.out)
     c.loop-network.invariant size (omega (arith, last))) c.write_prefix_line-2.ensures

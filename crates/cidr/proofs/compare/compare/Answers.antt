@@ -1,6 +1,6 @@
 use Rattle.std.proofs.Common.{[], ◌∷◌}
 use Rattle.std.proofs.lemmas.Result.{err_from_is_err_and}
-use Rattle.cidr.proofs.Commands.{fails_unwritable, first_unread, later_unread, unwritable}
+use Rattle.cidr.proofs.Commands.{fails_unwritable, first_unread, later_unread, unwritable, unwritable_unread}
 use Rattle.cidr.proofs.Compared.{both_compared}
 use Rattle.cidr.proofs.compare.compare.Goals as goal
 
@@ -40,3 +40,7 @@ returns-in_err-second-clause-bad g c =
     c.in_err-second.field-0.0 c.in_ok-first.ensures.read
     (first_unread c.args.reading (g.R.Read.remaining c.args.second.reader) [] c.args.second.name []
     c.in_err-second.field-0.0 c.in_err-second.ensures.bad))
+
+pub returns-clause-unread : goal.returns-clause-unread
+returns-clause-unread g c =
+    unwritable_unread g.R.LineRead.fails c.print.result c.print.ensures.failed

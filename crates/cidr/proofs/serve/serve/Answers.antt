@@ -4,7 +4,7 @@ use Rattle.std.specs.Prelude.{map}
 use Rattle.cidr.specs.Commands.{IsAnswer}
 use Rattle.cidr.specs.Shown.{Kept}
 use Rattle.cidr.specs.declared.serve.Source.{Source}
-use Rattle.cidr.proofs.Commands.{AreUnread, answer_printed, unprinted}
+use Rattle.cidr.proofs.Commands.{AreUnread, answer_printed, nothing_unread, unprinted}
 use Rattle.cidr.proofs.Kept.{kept_answer}
 use Rattle.cidr.proofs.serve.serve.Goals as goal
 
@@ -13,7 +13,7 @@ returns-clause-printed g c =
     let numbers = c.args.left_out.now.items in
     let later = c.answered.new.left_out.items in
     answer_printed c.args.reading (λ lists. Kept c.args.output.only (IsAnswer c.args.command lists))
-    c.args.output.form _ _ numbers later c.kept.result (g.W.Write.contents c.args.out.now)
+    c.args.output.form c.args.output.only _ _ numbers later c.kept.result (g.W.Write.contents c.args.out.now)
     (g.W.Write.contents c.print.new.out) c.print.result
     (ap (map (λ (s : Source _). g.R.Read.remaining s.reader)) c.into_iter.ensures.rest)
     (kept_answer c.args.reading c.args.command c.args.output.only _ numbers later c.in_ok-list.list
@@ -34,3 +34,6 @@ returns-in_err-list-clause-bad g c =
     (map (λ (s : Source _). g.R.Read.remaining s.reader) all) (map (λ (s : Source _). s.name) all)
     c.in_err-list.field-0.0)
     c.into_iter.ensures.rest c.in_err-list.ensures.bad)
+
+pub returns-clause-unread : goal.returns-clause-unread
+returns-clause-unread g c = nothing_unread g.R.LineRead.fails c.print.result c.print.ensures.failed

@@ -16,10 +16,5 @@ returns-then-not-branch g c =
 
 pub returns-in_err-answer_next-clause-unread : goal.returns-in_err-answer_next-clause-unread
 returns-in_err-answer_next-clause-unread g c = λ e.
-    stopped_at g.P.LineProgram.answers c.args.program.now _ _ _ _ _ _ _ c.loop.invariant
-    (search rules)
-
-pub returns-clause-unread : goal.returns-clause-unread
-returns-clause-unread g c = λ e.
-    stopped_at g.P.LineProgram.answers c.args.program.now _ _ _ _ _ _ _ c.loop.invariant
-    (refl, refl)
+    stopped_at g.P.LineProgram.answers c.args.program.now _ _ _ _ _ _ _ _ c.loop.invariant
+    (search rules) (search rules)

@@ -6,7 +6,7 @@ use Rattle.rangecalc.proofs.serve.serve.Goals as goal
 
 pub returns-in-u8-clause-unread : goal.returns-in-u8-clause-unread
 returns-in-u8-clause-unread g c = λ failed.
-    stopped_as _ _ _ _ _ _ (λ bytes text rest talk. inl (grind (arith, common_steps), talk))
+    stopped_as _ _ _ _ _ _ _ (λ bytes text rest talk. inl (grind (arith, common_steps), talk))
     (c.serve_keys.ensures.unread failed)
 
 pub returns-in-u8-clause-served : goal.returns-in-u8-clause-served
@@ -17,7 +17,7 @@ returns-in-u8-clause-usage g c = grind (arith, common_steps)
 
 pub returns-in-i32-clause-unread : goal.returns-in-i32-clause-unread
 returns-in-i32-clause-unread g c = λ failed.
-    stopped_as _ _ _ _ _ _ (λ bytes text rest talk. inr (grind (arith, common_steps), talk))
+    stopped_as _ _ _ _ _ _ _ (λ bytes text rest talk. inr (grind (arith, common_steps), talk))
     (c.serve_keys-in-i32.ensures.unread failed)
 
 pub returns-in-i32-clause-served : goal.returns-in-i32-clause-served

@@ -12,7 +12,7 @@ returns-clause-answered g c = λ ended.
 
 pub returns-clause-unread : goal.returns-clause-unread
 returns-clause-unread g c = λ failed.
-    stopped_as _ _ _ _ _ _ (λ bytes text rest.
+    stopped_as _ _ _ _ _ _ _ (λ bytes text rest.
     conversation_served g.K.MaybeBounded.order (λ program. stored_in program.maps)
     c.no_maps.ensures)
     (c.serve.ensures.unread failed)

@@ -8,7 +8,7 @@ pub returns-in-u8-clause-unread : goal.returns-in-u8-clause-unread
 returns-in-u8-clause-unread g c = λ failed.
     let words_are : map string_bytes c.args.words.now ≡ codes "u8" ∷ [] =
     grind (arith, common_steps) in
-    stopped_as _ _ _ _ _ _ (λ bytes text rest talk. inl (words_are, talk))
+    stopped_as _ _ _ _ _ _ _ (λ bytes text rest talk. inl (words_are, talk))
     (c.serve_keys.ensures.unread failed)
 
 pub returns-in-u8-clause-served : goal.returns-in-u8-clause-served
@@ -24,7 +24,7 @@ pub returns-in-i32-clause-unread : goal.returns-in-i32-clause-unread
 returns-in-i32-clause-unread g c = λ failed.
     let words_are : map string_bytes c.args.words.now ≡ codes "i32" ∷ [] =
     grind (arith, common_steps) in
-    stopped_as _ _ _ _ _ _ (λ bytes text rest talk. inr (words_are, talk))
+    stopped_as _ _ _ _ _ _ _ (λ bytes text rest talk. inr (words_are, talk))
     (c.serve_keys-in-i32.ensures.unread failed)
 
 pub returns-in-i32-clause-served : goal.returns-in-i32-clause-served
