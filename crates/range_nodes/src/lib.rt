@@ -3,8 +3,8 @@
 //! Where to find what:
 //!
 //! - what the slab keeps of a node: `src/node.rt`
-//! - the items of all nodes, in a row of cells for each number: how one is put, taken and moved:
-//!   `src/rows.rt`, `specs/Rows.antt`, `proofs/{Cells,RowItems,RowMoves,Halves}.antt`
+//! - the items of one node: `src/row.rt`; of all nodes, in a row for each number: `src/rows.rt`,
+//!   `specs/Rows.antt`, `proofs/{RowMoves,Halves}.antt`
 //! - the nodes by their numbers in a slab, with spares that an insertion takes, and how items
 //!   move between nodes: `src/nodes.rt`, `specs/{Heap,Spares}.antt`,
 //!   `proofs/{Heaps,Siblings,Spares}.antt`
@@ -12,4 +12,5 @@
 
 pub mod node;
 pub mod nodes;
+pub mod row;
 pub mod rows;

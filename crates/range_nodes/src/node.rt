@@ -65,23 +65,19 @@ impl Node {
         }
     }
 
-    /// Counts one more item, with a child, if there is one, before the one at `place`, and returns
-    /// how many there were.
-    pub fn add(&mut self, place: usize, child: Option<usize>) -> usize
+    /// Counts one more item, with a child, if there is one, before the one at `place`.
+    pub fn add(&mut self, place: usize, child: Option<usize>)
         requires room { self.old.len < CAPACITY }
         requires near { place ≤ self.old.len + 1 }
         requires child { FitsCount child self.old.len self.old.children.items }
-        ensures before { result ≡ self.old.len }
         ensures len { self.new.len ≡ self.old.len + 1 }
         ensures children { self.new.children.items
             ≡ with_child self.old.children.items place child }
     {
-        let len = self.len;
         if let Some(child) = child {
             self.children.insert(place, child);
         }
-        self.len = len + 1;
-        len
+        self.len += 1;
     }
 
     /// Counts one item less, and takes the child at `place`, if there is one.
@@ -116,22 +112,18 @@ impl Node {
         upper
     }
 
-    /// Counts one item more and all that another node has, of which it takes the children, and
-    /// returns how many there were.
-    pub fn absorb(&mut self, upper: &Node) -> usize
+    /// Counts one item more and all that another node has, of which it takes the children.
+    pub fn absorb(&mut self, upper: &Node)
         requires room { self.old.len + 1 + upper.now.len ≤ CAPACITY }
         requires places { length self.old.children.items + length upper.now.children.items
             ≤ CHILD_PLACES }
-        ensures before { result ≡ self.old.len }
         ensures len { self.new.len ≡ self.old.len + 1 + upper.now.len }
         ensures children { self.new.children.items
             ≡ self.old.children.items ++ upper.now.children.items }
     {
-        let len = self.len;
-        self.len = len + 1 + upper.len;
+        self.len += 1 + upper.len;
         self.children
             .try_extend_from_slice(upper.children.as_slice())
             .unwrap();
-        len
     }
 }

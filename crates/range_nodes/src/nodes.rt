@@ -3,7 +3,6 @@ ghost use Rattle.std.specs.Prelude.{◌≡◌, ◌≢◌, ◌⊎◌, ◌+◌, �
 ghost use Rattle.std.specs.Borrow.{Lends, sem};
 ghost use Rattle.std.specs.Vec.Iter.{into_iter_items};
 ghost use Rattle.std.specs.VecDeque.{deque_capacity};
-ghost use Rattle.range_nodes.specs.Rows.{HoldsItems};
 ghost use Rattle.range_nodes.specs.Heap.{HasNode, node_count, HasRoomFor, SameNodes, with_child, with_item, FitsChild, Writes, Stores, Removes, Divides, left_items, right_items, HasPair, RotatesLeft, RotatesRight, Merges, Absorbs, node_items, node_children, node_child};
 
 use crate::node::Node;
@@ -115,10 +114,13 @@ impl<T: Drop> Nodes<T> {
             return Ok(());
         }
         self.slab.reserve(missing)?;
-        self.rows.reserve(self.slab.capacity())?;
+        // For the proof: numbers are below the capacity, which is a `usize`.
+        let _capacity = self.slab.capacity();
         self.spares
             .reserve(self.slab.len() - self.spares.len() + missing)?;
         for _ in 0..missing {
+            self.rows
+                .reserve(alloc, self.slab.vacant_key().saturating_add(1))?;
             let number = self.slab.insert_reserved(Node::new());
             self.spares.push_back_reserved(number);
         }
@@ -130,17 +132,17 @@ impl<T: Drop> Nodes<T> {
         requires { HasNode self.now number }
         ensures { result ≡ length (node_items self.now number) }
     {
-        self.slab[number].len
+        self.items(number).len()
     }
 
-    /// The cells of a node that has an item, of which the first have its items.
+    /// The items of a node.
     #[inline(always)]
-    pub fn cells(&self, number: usize) -> &[Option<T>]
-        requires present { HasNode self.now number }
-        requires some { 0 < length (node_items self.now number) }
-        ensures { HoldsItems result.now (node_items self.now number) }
+    pub fn items(&self, number: usize) -> &[T]
+        requires { HasNode self.now number }
+        ensures items { result.now ≡ node_items self.now number }
+        ensures fits { length result.now ≤ CAPACITY }
     {
-        self.rows.cells(number)
+        self.rows.items(number)
     }
 
     /// The item of a node at an index.
@@ -149,7 +151,7 @@ impl<T: Drop> Nodes<T> {
         requires within { index < length (node_items self.now number) }
         ensures { result.now ≡ slice_index_or (node_items self.now number) index result.now }
     {
-        self.rows.item_at(number, index)
+        &self.items(number)[index]
     }
 
     /// The child of a node at an index.
@@ -194,8 +196,8 @@ impl<T: Drop> Nodes<T> {
         ensures { Writes self.old self.new number (insert (node_items self.old number) index item)
             (with_child (node_children self.old number) place child) }
     {
-        let len = self.slab[number].add(place, child);
-        self.rows.put(number, len, index, item);
+        self.slab[number].add(place, child);
+        self.rows.put(number, index, item);
     }
 
     /// Puts an item before the one at `index` of a full node, and a child, if there is one, after the
@@ -226,7 +228,7 @@ impl<T: Drop> Nodes<T> {
     {
         let number = next_spare(&mut self.spares);
         self.slab[number].len = 1;
-        self.rows.put(number, 0, 0, item);
+        self.rows.put(number, 0, item);
         number
     }
 
@@ -333,9 +335,8 @@ impl<T: Drop> Nodes<T> {
         ensures rest { Writes self.old self.new number (remove (node_items self.old number) index)
             (remove (node_children self.old number) place) }
     {
-        let len = self.item_count(number);
         let child = self.slab[number].take(place);
-        (self.rows.take(number, len, index), child)
+        (self.rows.take(number, index), child)
     }
 
     // Moves all that a node has to the end of another, with an item between.
@@ -352,8 +353,8 @@ impl<T: Drop> Nodes<T> {
         ensures { Absorbs self.old self.new left middle right }
     {
         let upper = mem::replace(&mut self.slab[right], Node::new());
-        let len = self.slab[left].absorb(&upper);
-        self.rows.absorb(left, len, middle, right, upper.len);
+        self.slab[left].absorb(&upper);
+        self.rows.absorb(left, middle, right);
         self.spares.push_front_reserved(right);
     }
 }

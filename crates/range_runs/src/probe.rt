@@ -41,6 +41,11 @@ impl<'a, K: PartialEnum, V> Probe<Item<AnyRange<K>, V>> for EndsBefore<'a, K> {
     fn steps(&self) -> &Steps {
         &self.steps
     }
+
+    #[inline(always)]
+    fn mark(&self, item: &Item<AnyRange<K>, V>) -> bool {
+        matches!(item.key.end, Bound::Unbounded)
+    }
 }
 
 /// Asks whether a range starts at most at a bound.
@@ -69,5 +74,10 @@ impl<'a, K: PartialEnum, V> Probe<Item<AnyRange<K>, V>> for StartsBy<'a, K> {
 
     fn steps(&self) -> &Steps {
         &self.steps
+    }
+
+    #[inline(always)]
+    fn mark(&self, item: &Item<AnyRange<K>, V>) -> bool {
+        matches!(item.key.start, Bound::Unbounded)
     }
 }

@@ -1,4 +1,3 @@
-pub mod Cells
 pub mod Counting
 pub mod ListRanks
 pub mod Rewriting

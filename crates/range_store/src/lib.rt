@@ -5,8 +5,8 @@
 //! - the container's contract: `src/storage.rt`
 //! - a sorted vector: `src/vec_storage.rt`; a B-tree: the crate `range_tree`
 //! - a run of items that others replace: `src/inner/cursor.rt`
-//! - the items after a position that lie together: `Run` and `chunk_from` in `src/storage.rt`,
-//!   `specs/Cells.antt`; the iterator `range_reads/src/iter.rt`
+//! - the items after a position that lie together: `Run` and `chunk_from` in `src/storage.rt`;
+//!   the iterator `range_reads/src/iter.rt`
 //! - what a step is, and who counts it: `specs/Counting.antt`; a search by its probe, a
 //!   comparison in `{range_runs/src/window,range_edit/src/{reach,borders}}.rt`
 #![tactic(auto)]

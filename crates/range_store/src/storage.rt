@@ -5,7 +5,6 @@ ghost use Rattle.std.specs.List.Sorted.{IsPartitionedBy, IsPartitionPoint};
 ghost use Rattle.std.specs.List.{AllZip};
 ghost use Rattle.std.specs.Option.{ForSome};
 ghost use Rattle.std.specs.Borrow.{Lends, sem};
-ghost use Rattle.range_store.specs.Cells.{items_in, AreFull};
 ghost use Rattle.range_store.specs.Counting.{one_step_after, AddsSteps, greatest_count};
 ghost use Rattle.range_store.specs.ListRanks.{rank_or_len, IsAt, IsFrontOf};
 
@@ -81,24 +80,18 @@ impl<K, V> Item<K, V> {
     }
 }
 
-/// Items that lie together, in a slice of items or of full cells, which can be taken from both ends.
-/// A contract sees their list.
+/// Items that lie together, which can be taken from both ends. A contract sees their list.
 #[derive(Drop)]
 pub struct Run<'a, T> {
-    // Full cells, whose items come first, and items.
-    cells: &'a [Option<T>],
     items: &'a [T],
 }
 
 impl<'a, T> Model for Run<'a, T> {
-    ghost use Rattle.std.specs.Prelude.{List, ◌++◌};
-    ghost use Rattle.range_store.specs.Cells.{items_in, AreFull};
+    ghost use Rattle.std.specs.Prelude.{List};
 
     ghost Value = { List T };
 
-    ghost view = { λ run. items_in run.cells.now ++ run.items.now };
-
-    ghost invariant = { λ run. AreFull run.cells.now };
+    ghost view = { λ run. run.items.now };
 }
 
 impl<'a, T> Run<'a, T> {
@@ -106,15 +99,7 @@ impl<'a, T> Run<'a, T> {
     pub fn of_items(items: &'a [T]) -> Self
         ensures { result ≡ items.now }
     {
-        Run { cells: &[], items }
-    }
-
-    /// The items in cells, each of which has one. Allocates nothing.
-    pub fn of_cells(cells: &'a [Option<T>]) -> Self
-        requires { AreFull cells.now }
-        ensures { result ≡ items_in cells.now }
-    {
-        Run { cells, items: &[] }
+        Run { items }
     }
 
     /// The first item, which is taken from the run, or none where no item is left.
@@ -123,13 +108,6 @@ impl<'a, T> Run<'a, T> {
         ensures { MatchOption result ((self.old ≡ []) × (self.new ≡ []))
             (λ item. self.old ≡ item.now ∷ self.new) }
     {
-        if let Some((cell, rest)) = self.cells.split_first() {
-            self.cells = rest;
-            return match cell {
-                Some(item) => Some(item),
-                None => unreachable!(),
-            };
-        }
         let (item, rest) = self.items.split_first()?;
         self.items = rest;
         Some(item)
@@ -140,16 +118,9 @@ impl<'a, T> Run<'a, T> {
         ensures { MatchOption result ((self.old ≡ []) × (self.new ≡ []))
             (λ item. self.old ≡ self.new ++ item.now ∷ []) }
     {
-        if let Some((item, rest)) = self.items.split_last() {
-            self.items = rest;
-            return Some(item);
-        }
-        let (cell, rest) = self.cells.split_last()?;
-        self.cells = rest;
-        match cell {
-            Some(item) => Some(item),
-            None => unreachable!(),
-        }
+        let (item, rest) = self.items.split_last()?;
+        self.items = rest;
+        Some(item)
     }
 }
 
@@ -160,10 +131,7 @@ impl<'a, T> Clone for Run<'a, T> {
     ghost is_infallible = { λ _. ⊤ };
 
     fn clone(&self) -> Result<Self, AllocError> {
-        Ok(Run {
-            cells: self.cells,
-            items: self.items,
-        })
+        Ok(Run { items: self.items })
     }
 }
 
@@ -195,6 +163,13 @@ pub trait Probe<T> {
     /// The steps that were counted so far.
     fn steps(&self) -> &Steps
         ensures { result.now ≡ steps_taken self.now };
+
+    /// A bit of the item, whichever it is. A container may ask for it so that an item's memory is
+    /// read before the probe is asked: no result depends on it, and no step is counted.
+    #[inline(always)]
+    fn mark(&self, _item: &T) -> bool {
+        false
+    }
 }
 
 /// An ordered container: a list of items, and capacity for more.

@@ -1,9 +1,8 @@
 -- The edges before all items and after them, by the leaves at the ends.
-use Rattle.std.proofs.Common.{◌≡◌, ◌≢◌, ℕ, zero, suc, ◌+◌, ◌-◌, ◌/◌, ◌%◌, ◌<◌, ◌≤◌, ◌++◌, [], List, length, refl, sym, ap, ◌∙◌, arith, inl, inr}
+use Rattle.std.proofs.Common.{◌≡◌, ℕ, zero, suc, ◌+◌, ◌-◌, ◌<◌, ◌≤◌, ◌++◌, List, length, refl, sym, ap, ◌∙◌, arith, inl, inr}
 use Rattle.std.proofs.lemmas.Bool.{cases_eq, cases_lt}
 use Rattle.std.proofs.lemmas.List.{length-append}
 use Rattle.range_nodes.specs.Heap.{Heap, Writes, children_of, node_items, node_children, node_child}
-use Rattle.range_nodes.specs.declared.nodes.TheConstants.{CAPACITY}
 use Rattle.range_tree.specs.declared.btree.BoxStorage.{BoxStorage}
 use Rattle.range_tree.specs.declared.btree.path.Edge.{Edge}
 use Rattle.range_tree.specs.declared.btree.path.EndLeaves.{EndLeaves}
@@ -13,7 +12,7 @@ use Rattle.range_tree.specs.Holding.{box_items, box_levels, box_offset, IsBoxEdg
 use Rattle.range_tree.specs.Nodes.{items_below, ShapedBut, before_child, after_child}
 use Rattle.range_tree.specs.Written.{place_of_start, root_shaped}
 use Rattle.range_tree.proofs.Below.{items_below_at, items_below_leaf, length-before_more, none_after_last}
-use Rattle.range_tree.proofs.Edges.{edge_inside, leaf_index, leaf_is, leaf_place, place_inside, place_within, turn_within}
+use Rattle.range_tree.proofs.Edges.{edge_inside, leaf_is, leaf_place, place_inside, place_within, turn_within}
 use Rattle.range_tree.proofs.InLeaf.{leaf_beside}
 use Rattle.range_tree.proofs.Rank.{kid_shaped}
 

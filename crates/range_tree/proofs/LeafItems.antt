@@ -1,33 +1,11 @@
--- The items after an edge in its leaf, and the cells that have them.
-use Rattle.std.proofs.Common.{◌≡◌, ℕ, ◌+◌, ◌-◌, ◌<◌, ◌≤◌, List, length, take, drop, Option, refl, ap, ◌∙◌, arith}
-use Rattle.std.proofs.lemmas.List.{get_or-drop, get_or-take, length-drop, length-take, same_lists, take_all, take-append-le, drop-append-le, drop-map}
-use Rattle.std.specs.Prelude.{is_some}
-use Rattle.range_store.specs.Cells.{items_in, AreFull}
+-- The items after an edge in its leaf.
+use Rattle.std.proofs.Common.{◌≡◌, ℕ, ◌+◌, ◌-◌, ◌<◌, ◌≤◌, List, length, take, drop, refl, arith}
+use Rattle.std.proofs.lemmas.List.{get_or-drop, get_or-take, length-drop, length-take, same_lists}
 use Rattle.range_nodes.specs.Heap.{node_of, items_of}
 use Rattle.range_tree.specs.Holding.{box_items, box_offset, IsBoxEdge}
-use Rattle.range_nodes.specs.Rows.{full_cells, HoldsItems}
 use Rattle.range_tree.specs.declared.btree.BoxStorage.{BoxStorage}
 use Rattle.range_tree.specs.declared.btree.path.Edge.{Edge}
-use Rattle.range_nodes.proofs.Cells.{items_in_full, length-full, standing}
 use Rattle.range_tree.proofs.Whole.{edge_within, leaf_item, tree_beside}
-
-module _ {T : Type 0} where
-  full_cells_full : (xs : List T) → AreFull (full_cells xs)
-  full_cells_full xs = λ k cell within.
-      ap is_some ((standing xs k (omega (arith, within, length-full xs))).cell_is cell)
-
-  -- the cells of a row from an index on that have items
-  module _ {row : List (Option T)} {xs : List T} (h : HoldsItems row xs) (i : ℕ)
-      (within : i ≤ length xs) where
-    rest_cells : take (length xs - i) (drop i row) ≡ full_cells (drop i xs)
-    rest_cells =
-        grind (arith, length-drop, length-full, drop-append-le, take-append-le, take_all, drop-map)
-
-    pub rest_full : AreFull (take (length xs - i) (drop i row))
-    rest_full = rw rest_cells (full_cells_full (drop i xs))
-
-    pub rest_items : items_in (take (length xs - i) (drop i row)) ≡ drop i xs
-    rest_items = ap items_in rest_cells ∙ items_in_full (drop i xs)
 
 module _ {T : Type 0} {t : BoxStorage T} {g : Edge} (is : IsBoxEdge t g) where
   abbrev leaf_items : List T

@@ -1,9 +1,9 @@
 -- The first and the last leaf below a node, with the path to the last one.
 use Rattle.std.specs.Prelude.{◌≡◌, ℕ, zero, suc, ◌+◌, ◌-◌, ◌/◌, ◌%◌, ◌<◌, length}
-use Rattle.std.specs.Coded.{×_prop, Unit-prop, le_prop}
+use Rattle.std.specs.Coded.{Unit-prop, le_prop}
 use Rattle.std.proofs.Common.{arith, refl}
 use Rattle.std.proofs.Math.Nat.{ℕ_set}
-use Rattle.range_nodes.specs.Heap.{Heap, node_items, node_children, node_child}
+use Rattle.range_nodes.specs.Heap.{Heap, node_children, node_child}
 use Rattle.range_tree.specs.declared.btree.path.Edge.{Edge}
 use Rattle.range_tree.specs.declared.btree.path.EndLeaves.{EndLeaves}
 use Rattle.range_tree.specs.declared.btree.path.TheConstants.{PATH_BASE}

@@ -148,11 +148,10 @@ impl<T: Drop> Storage<T> for BoxStorage<T> {
     #[inline(always)]
     fn chunk_from(&self, p: Edge) -> Chunk<'_, T, Edge> {
         let (home, behind) = around_leaf(&self.nodes, self.levels - 1, self.root, p);
-        let len = self.nodes.item_count(p.leaf);
-        let cells = self.nodes.cells(p.leaf);
+        let items = self.nodes.items(p.leaf);
         Chunk {
             first: self.nodes.item_at(home.node, home.index),
-            rest: Run::of_cells(&cells[p.index..len]),
+            rest: Run::of_items(&items[p.index..]),
             after: behind,
         }
     }

@@ -2,7 +2,6 @@
 ghost use Rattle.std.specs.Prelude.{◌≡◌, ℕ, suc, ◌+◌, ◌-◌, ◌*◌, ◌<◌, ◌≤◌, length, count_by};
 ghost use Rattle.range_store.specs.Counting.{AddsSteps, one_step_after};
 ghost use Rattle.range_tree.specs.Falling.{Falls};
-ghost use Rattle.range_nodes.specs.Rows.{HoldsItems, items_in};
 ghost use Rattle.range_tree.specs.Nodes.{items_below, ShapedBut};
 ghost use Rattle.range_tree.specs.Edges.{IsEdge, offset};
 
@@ -16,78 +15,96 @@ pub const MAX_ASKS: usize = 4;
 // How many items are known to pass once one is asked: all before `end`, or `low` still. The answer
 // is a number and not a branch, since a processor cannot guess it.
 #[inline(always)]
-fn ask_ahead<T, P: Probe<T>>(cells: &[Option<T>], low: usize, end: usize, probe: &mut P) -> usize
-    requires held { HoldsItems cells.now (items_in cells.now) }
-    requires falls { Falls (P.test probe.old) (items_in cells.now) }
+fn ask_ahead<T, P: Probe<T>>(items: &[T], low: usize, end: usize, probe: &mut P) -> usize
+    requires falls { Falls (P.test probe.old) items.now }
     requires some { low < end }
-    requires within { end ≤ length (items_in cells.now) }
-    ensures passes { end ≤ count_by (P.test probe.old) (items_in cells.now) → result ≡ end }
-    ensures fails { count_by (P.test probe.old) (items_in cells.now) < end → result ≡ low }
+    requires within { end ≤ length items.now }
+    ensures passes { end ≤ count_by (P.test probe.old) items.now → result ≡ end }
+    ensures fails { count_by (P.test probe.old) items.now < end → result ≡ low }
     ensures kept { P.test probe.new ≡ P.test probe.old }
     ensures counted { P.steps_taken probe.new ≡ one_step_after (P.steps_taken probe.old) }
 {
-    match &cells[end - 1] {
-        Some(item) => low + (end - low) * usize::from(probe.ask(item)),
-        None => unreachable!(),
-    }
-}
-
-// How many cells have an item. It reads each, so that the lines of memory in which a node's cells
-// lie come together, and not one after the other as they are asked.
-#[inline(always)]
-fn count_full<T>(cells: &[Option<T>]) -> usize
-    ensures { result ≡ length (items_in cells.now) }
-{
-    let mut len = 0;
-    for cell in cells {
-        len += usize::from(cell.is_some());
-    }
-    len
+    low + (end - low) * usize::from(probe.ask(&items[end - 1]))
 }
 
 // How many of fewer than `MIN_LEN` items pass, as only a root has so few.
 #[inline(always)]
-fn count_few<T, P: Probe<T>>(cells: &[Option<T>], len: usize, probe: &mut P) -> usize
-    requires held { HoldsItems cells.now (items_in cells.now) }
-    requires falls { Falls (P.test probe.old) (items_in cells.now) }
-    requires len { len ≡ length (items_in cells.now) }
-    requires some { 0 < len }
-    requires few { len < MIN_LEN }
-    ensures count { result ≡ count_by (P.test probe.old) (items_in cells.now) }
+fn count_few<T, P: Probe<T>>(items: &[T], probe: &mut P) -> usize
+    requires falls { Falls (P.test probe.old) items.now }
+    requires some { 0 < length items.now }
+    requires few { length items.now < MIN_LEN }
+    ensures count { result ≡ count_by (P.test probe.old) items.now }
     ensures kept { P.test probe.new ≡ P.test probe.old }
     ensures asked { AddsSteps (P.steps_taken probe.old) (P.steps_taken probe.new) 1 MAX_ASKS }
 {
     let mut low = 0;
-    let mut left = len;
+    let mut left = items.len();
     while left > 0 {
         let step = left.div_ceil(2);
-        low = ask_ahead(cells, low, low + step, probe);
+        low = ask_ahead(items, low, low + step, probe);
         left -= step;
     }
     low
 }
 
-// How many of the items of a node pass. Of `MIN_LEN` or more, four asks are enough, whatever they
-// answer: so many items at a time that the next steps reach each of those between. The second asks
-// the same item whatever the first answers, so that a processor reads both at once.
+// How many of `MIN_LEN` items or more pass: four asks are enough, whatever they answer, so many items
+// at a time that the next steps reach each of those between. The second asks the same item whatever
+// the first answers, so that a processor reads both at once.
 #[inline(always)]
-pub fn count_passing<T, P: Probe<T>>(cells: &[Option<T>], probe: &mut P) -> usize
-    requires held { HoldsItems cells.now (items_in cells.now) }
-    requires falls { Falls (P.test probe.old) (items_in cells.now) }
-    requires some { 0 < length (items_in cells.now) }
-    ensures count { result ≡ count_by (P.test probe.old) (items_in cells.now) }
+fn count_many<T, P: Probe<T>>(items: &[T], first: usize, probe: &mut P) -> usize
+    requires falls { Falls (P.test probe.old) items.now }
+    requires some { 0 < first }
+    requires low { first ≤ 4 }
+    requires before { first + 4 ≤ length items.now }
+    requires near { length items.now ≤ first + 7 }
+    ensures count { result ≡ count_by (P.test probe.old) items.now }
     ensures kept { P.test probe.new ≡ P.test probe.old }
     ensures asked { AddsSteps (P.steps_taken probe.old) (P.steps_taken probe.new) 1 MAX_ASKS }
 {
-    let len = count_full(cells);
+    let low = ask_ahead(items, 0, first, probe);
+    let low = ask_ahead(items, low, items.len() - 3, probe);
+    let low = ask_ahead(items, low, low + 2, probe);
+    ask_ahead(items, low, low + 1, probe)
+}
+
+// How many of the items that an ask may come to are marked, where the first ask is of the item before
+// `first`. It reads them all, so that the lines of memory in which they lie come together, and not
+// one after the other as they are asked.
+#[inline(always)]
+fn count_marked<T, P: Probe<T>>(items: &[T], first: usize, probe: &P) -> usize
+    requires { first + 4 ≤ length items.now }
+{
+    let len = items.len();
+    usize::from(probe.mark(&items[0]))
+        + usize::from(probe.mark(&items[1]))
+        + usize::from(probe.mark(&items[first]))
+        + usize::from(probe.mark(&items[first + 1]))
+        + usize::from(probe.mark(&items[first + 2]))
+        + usize::from(probe.mark(&items[len - 3]))
+        + usize::from(probe.mark(&items[len - 2]))
+        + usize::from(probe.mark(&items[len - 1]))
+}
+
+// How many of the items of a node pass. Of many, the first ask may be of one of several items: the
+// marks say which, and both count the same.
+#[inline(always)]
+pub fn count_passing<T, P: Probe<T>>(items: &[T], probe: &mut P) -> usize
+    requires falls { Falls (P.test probe.old) items.now }
+    requires some { 0 < length items.now }
+    requires fits { length items.now ≤ CAPACITY }
+    ensures count { result ≡ count_by (P.test probe.old) items.now }
+    ensures kept { P.test probe.new ≡ P.test probe.old }
+    ensures asked { AddsSteps (P.steps_taken probe.old) (P.steps_taken probe.new) 1 MAX_ASKS }
+{
+    let len = items.len();
     if len < MIN_LEN {
-        return count_few(cells, len, probe);
+        return count_few(items, probe);
     }
     let first = len.max(8) - 7;
-    let low = ask_ahead(cells, 0, first, probe);
-    let low = ask_ahead(cells, low, len - 3, probe);
-    let low = ask_ahead(cells, low, low + 2, probe);
-    ask_ahead(cells, low, low + 1, probe)
+    if count_marked(items, first, probe) > 4 {
+        return count_many(items, len.min(8) - 4, probe);
+    }
+    count_many(items, first, probe)
 }
 
 // The edge after the items below a node that pass, by one path down to a leaf.
@@ -113,7 +130,7 @@ pub fn search_below<T: Drop, P: Probe<T>>(
     let mut path: u64 = 0;
     let mut weight: u64 = 1;
     'down: loop {
-        let index = count_passing(nodes.cells(at), probe);
+        let index = count_passing(nodes.items(at), probe);
         if left == 0 {
             return Edge {
                 path,

@@ -25,14 +25,14 @@ pub index_mut-requires-2 : goal.index_mut-requires-2
 index_mut-requires-2 g c =
     grind (arith, get_or-set_other, found)
 
-pub absorb-len-requires-clause-room : goal.absorb-len-requires-clause-room
-absorb-len-requires-clause-room g c = grind (arith, left_seen, seen, right_at)
-
-pub absorb-len-requires-clause-places : goal.absorb-len-requires-clause-places
-absorb-len-requires-clause-places g c = grind (arith, left_seen, seen, right_at)
-
 pub absorb-requires-clause-room : goal.absorb-requires-clause-room
 absorb-requires-clause-room g c = grind (arith, left_seen, seen, right_at)
+
+pub absorb-requires-clause-places : goal.absorb-requires-clause-places
+absorb-requires-clause-places g c = grind (arith, left_seen, seen, right_at)
+
+pub absorb-requires-2-clause-room : goal.absorb-requires-2-clause-room
+absorb-requires-2-clause-room g c = grind (arith, left_seen, seen, right_at)
 
 pub push_front_reserved-requires : goal.push_front_reserved-requires
 push_front_reserved-requires g c =
@@ -46,8 +46,8 @@ invariant_of-self g c =
     let now = absorbs c.self.invariant.0 c.args.left c.args.right c.requires.apart (left_at g a)
     (right_at g a)
     (rw (← c.self.view_is) at c.requires.left) (rw (← c.self.view_is) at c.requires.right)
-    c.replace-upper.new.dest none_len none_children c.absorb-len.new.self
-    c.args.middle c.absorb-len.ensures.len c.absorb-len.ensures.children in grind arith
+    c.replace-upper.new.dest none_len none_children c.absorb.new.self
+    c.args.middle c.absorb.ensures.len c.absorb.ensures.children in grind arith
 
 pub returns : goal.returns
 returns g c =
@@ -57,6 +57,6 @@ returns g c =
     let now = absorbs c.self.invariant.0 c.args.left c.args.right c.requires.apart (left_at g a)
     (right_at g a)
     (rw (← c.self.view_is) at c.requires.left) (rw (← c.self.view_is) at c.requires.right)
-    c.replace-upper.new.dest none_len none_children c.absorb-len.new.self
-    c.args.middle c.absorb-len.ensures.len c.absorb-len.ensures.children in
-    rw (← c.self.view_is, c.push_front_reserved.ensures.items, c.absorb.ensures) now.nodes
+    c.replace-upper.new.dest none_len none_children c.absorb.new.self
+    c.args.middle c.absorb.ensures.len c.absorb.ensures.children in
+    rw (← c.self.view_is, c.push_front_reserved.ensures.items, c.absorb-2.ensures) now.nodes

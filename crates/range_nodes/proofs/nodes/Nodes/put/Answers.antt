@@ -12,8 +12,8 @@ seen_node g c =
 pub index_mut-requires : goal.index_mut-requires
 index_mut-requires g c = grind (arith, found)
 
-pub add-len-requires : goal.add-len-requires
-add-len-requires g c =
+pub add-requires : goal.add-requires
+add-requires g c =
     grind (arith, seen, seen_node, fits_count)
 
 pub put-requires-clause-within : goal.put-requires-clause-within
@@ -27,14 +27,14 @@ put-requires-clause-room g c =
 pub invariant_of-self : goal.invariant_of-self
 invariant_of-self g c =
     let put = put_among c.self.invariant.0 c.args.number c.index_mut.ensures.value
-    (rw (← c.self.view_is) at c.requires.present) c.add-len.new.self c.args.index c.args.item
-    (rw (← c.self.view_is) at c.requires.within) c.add-len.ensures.len c.add-len.ensures.children in
+    (rw (← c.self.view_is) at c.requires.present) c.add.new.self c.args.index c.args.item
+    (rw (← c.self.view_is) at c.requires.within) c.add.ensures.len c.add.ensures.children in
     (rw c.put.ensures put.whole, omega (arith, c.self.invariant.1, put.len))
 
 pub returns : goal.returns
 returns g c =
     let seen = seen_node g (goal.at.returns g c).After-index_mut in
     let put = put_among c.self.invariant.0 c.args.number c.index_mut.ensures.value
-    (rw (← c.self.view_is) at c.requires.present) c.add-len.new.self c.args.index c.args.item
-    (rw (← c.self.view_is) at c.requires.within) c.add-len.ensures.len c.add-len.ensures.children in
+    (rw (← c.self.view_is) at c.requires.present) c.add.new.self c.args.index c.args.item
+    (rw (← c.self.view_is) at c.requires.within) c.add.ensures.len c.add.ensures.children in
     rw (← c.self.view_is, c.put.ensures) (rw seen.children put.nodes)

@@ -48,13 +48,15 @@ pub loop-preserved : goal.loop-preserved
 loop-preserved g c =
     let was = c.loop.invariant in
     let slab = c.loop.self-inside.slab in
-    let rows = c.loop.self-inside.rows in
+    let rows = c.reserve-in-loop.new.self in
     let number = c.insert_reserved-number.result in
     let inserted = c.insert_reserved-number.ensures in
+    let grown = roomier {slab = slab} {larger = slab} refl rows was.whole c.reserve-in-loop.ensures.no_less
+    c.reserve-in-loop.ensures.kept in
     let changes : Changes slab c.insert_reserved-number.new.self rows rows number c.new.result [] =
     grind (arith, vacant_row) in
     let next =
-    added was.whole changes inserted.was_vacant inserted.len refl c.new.ensures.children in
+    added grown.0 changes inserted.was_vacant inserted.len refl c.new.ensures.children in
     grind arith
 
 pub returns-clause-room : goal.returns-clause-room

@@ -13,7 +13,6 @@ invariant-loop g l =
       many : slab_len now.slab ≡ slab_len was.slab + l.counter;
       capacity : now.slab.capacity ≡ was.slab.capacity;
       places : deque_capacity now.spares ≡ deque_capacity was.spares;
-      rows : now.rows ≡ was.rows;
       whole : IsWhole now.slab now.rows now.spares.items;
       kept : SameNodes (heap_of was.slab was.rows was.spares.items)
           (heap_of now.slab now.rows now.spares.items);

@@ -1,4 +1,4 @@
-use Rattle.std.proofs.Common.{[], ◌∷◌, length, arith, refl, sym, ap}
+use Rattle.std.proofs.Common.{[], ◌∷◌, length, arith, refl, ap}
 use Rattle.std.specs.List.{insert}
 use Rattle.range_nodes.proofs.Spares.{bare_children, bare_row, filled, spare_found, spares_left}
 use Rattle.range_nodes.proofs.nodes.Nodes.store_leaf.Goals as goal
@@ -10,9 +10,9 @@ next_spare-number-requires g c =
 pub index_mut-requires : goal.index_mut-requires
 index_mut-requires g c = spare_found c.self.invariant.0 c.next_spare-number.ensures.items
 
-pub put-requires-clause-len : goal.put-requires-clause-len
-put-requires-clause-len g c = sym (ap length (bare_row c.self.invariant.0
-    c.next_spare-number.ensures.items))
+pub put-requires-clause-room : goal.put-requires-clause-room
+put-requires-clause-room g c =
+    omega (arith, ap length (bare_row c.self.invariant.0 c.next_spare-number.ensures.items))
 
 pub invariant_of-self : goal.invariant_of-self
 invariant_of-self g c =

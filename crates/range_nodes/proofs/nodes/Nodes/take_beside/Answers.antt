@@ -6,8 +6,8 @@ use Rattle.range_nodes.proofs.nodes.Nodes.take_beside.Goals as goal
 pub index_mut-requires : goal.index_mut-requires
 index_mut-requires g c = grind (arith, found)
 
-pub take-requires-clause-len : goal.take-requires-clause-len
-take-requires-clause-len g c =
+pub take-requires-clause-within : goal.take-requires-clause-within
+take-requires-clause-within g c =
     grind (arith, items_seen)
 
 pub take-child-requires : goal.take-child-requires

@@ -1,15 +1,26 @@
-use Rattle.std.proofs.Common.{arith, sym, length, ◌∙◌, ◌<◌}
+use Rattle.std.proofs.Common.{arith, ap, sym, length, ◌∙◌}
+use Rattle.std.specs.Prelude.{slice_set}
 use Rattle.std.specs.Vec.Iter.{into_iter_items}
+use Rattle.std.proofs.lemmas.List.{length-drop}
 use Rattle.range_nodes.proofs.RowMoves.{filled_more}
 use Rattle.range_nodes.proofs.rows.Rows.fill.Goals as goal
 
-pub loop-index-preserved : goal.loop-index-preserved
-loop-index-preserved g c =
-    let was = c.loop-index.invariant in
-    let within : c.loop-index.index < length (into_iter_items c.args.items.now) =
-    omega (arith, c.loop-index-test.true, c.requires.enough) in
-    let more = filled_more c.args.self.now c.loop-index.self c.args.number c.loop-index.index
-    (into_iter_items c.args.items.now) (into_iter_items c.next_item-item.new.items)
-    c.next_item-item.result c.requires.number within was.rows
-    (sym was.rest ∙ c.next_item-item.ensures) in
-    record { rows = c.put.ensures ∙ more.0; rest = more.1 }
+pub next_item-requires : goal.next_item-requires
+next_item-requires g c =
+    omega (
+      arith,
+      c.loop-test.true,
+      c.requires.enough,
+      ap length c.loop.invariant.rest,
+      length-drop c.loop.counter (into_iter_items c.args.items.now),
+    )
+
+pub loop-preserved : goal.loop-preserved
+loop-preserved g c =
+    let was = c.loop.invariant in
+    let more = filled_more c.self.inside.rows.items c.loop.self-inside.rows.items c.args.number
+    c.loop.counter (into_iter_items c.args.items.now) (into_iter_items c.next_item.new.items)
+    c.index_mut.result.now c.next_item.result
+    (omega (arith, c.requires.number, ap length c.self.view_is)) was.rows c.index_mut.ensures.value
+    (sym was.rest ∙ c.next_item.ensures) in
+    record { rows = ap (λ row. slice_set c.loop.self-inside.rows.items c.args.number row) c.push.ensures ∙ more.0; rest = more.1 }

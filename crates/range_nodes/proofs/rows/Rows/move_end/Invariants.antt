@@ -1,17 +1,14 @@
-use Rattle.std.proofs.Common.{◌≡◌, ◌≤◌, ◌++◌, take, drop}
-use Rattle.std.specs.Prelude.{slice_set}
+use Rattle.std.proofs.Common.{◌≡◌, ◌-◌, ◌++◌, length, take, drop}
+use Rattle.std.specs.Prelude.{reverse, slice_set}
 use Rattle.range_nodes.specs.Rows.{row_of}
 use Rattle.range_nodes.proofs.rows.Rows.move_end.Given as goal
 
-abbrev pub invariant-loop-left : goal.invariant-loop-left
-invariant-loop-left g l =
+abbrev pub invariant-loop : goal.invariant-loop
+invariant-loop g l =
+    let rows = l.initial.self-inside.rows.items in
+    let source = row_of rows l.fn.from in
     record {
-      rows : l.self ≡ slice_set
-          (slice_set l.initial.self l.fn.from (take l.left (row_of l.initial.self l.fn.from)))
-          l.fn.to (row_of l.initial.self l.fn.to ++ drop l.left (row_of l.initial.self l.fn.from));
-      few : l.left ≤ l.fn.len;
-      many : l.fn.start ≤ l.left;
+      rows : l.self-inside.rows.items ≡ slice_set
+          (slice_set rows l.fn.from (take (length source - l.counter) source)) l.fn.to
+          (row_of rows l.fn.to ++ reverse (drop (length source - l.counter) source));
     }
-
-abbrev pub decreases-loop-left : goal.decreases-loop-left
-decreases-loop-left g l = l.left

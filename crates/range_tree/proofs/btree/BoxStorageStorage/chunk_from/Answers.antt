@@ -1,40 +1,32 @@
-use Rattle.std.proofs.Common.{◌≡◌, ◌+◌, ◌-◌, length, ap, arith, ◌∙◌, drop}
-use Rattle.std.proofs.lemmas.List.{length-drop}
+use Rattle.std.proofs.Common.{◌≡◌, ◌+◌, ◌-◌, length, ap, arith, ◌∙◌, take, drop}
+use Rattle.std.proofs.lemmas.List.{length-drop, take_all}
 use Rattle.range_nodes.specs.Heap.{items_of, node_of}
 use Rattle.range_tree.specs.Holding.{box_offset, box_rank, good_home, rank_is}
-use Rattle.range_nodes.proofs.Cells.{row_length}
-use Rattle.range_tree.proofs.LeafItems.{at_index, leaf_rest, rest_full, rest_items}
+use Rattle.range_tree.proofs.LeafItems.{at_index, leaf_rest}
 use Rattle.range_tree.proofs.Lent.{item_home}
 use Rattle.range_tree.proofs.Positions.{next_at, next_from}
 use Rattle.range_tree.proofs.Whole.{tree_is_not_too_deep, tree_leaf}
 use Rattle.range_tree.proofs.btree.BoxStorageStorage.chunk_from.Goals as goal
 
-pub item_count-len-requires : goal.item_count-len-requires
-item_count-len-requires g c = (tree_leaf c.requires.is).present
+pub items-items-requires : goal.items-items-requires
+items-items-requires g c = (tree_leaf c.requires.is).present
 
-pub cells-cells-requires : goal.cells-cells-requires
-cells-cells-requires g c =
-    let leaf = tree_leaf c.requires.is in record { present = leaf.present; some = leaf.some }
+pub offset_bounds-items-p : goal.offset_bounds-items-p
+offset_bounds-items-p g c =
+    omega (arith, (tree_leaf c.requires.is).within, ap length c.items-items.ensures.items)
 
-pub offset_bounds-cells-p : goal.offset_bounds-cells-p
-offset_bounds-cells-p g c = omega (arith, (tree_leaf c.requires.is).within, row_length)
+pub slice_bounds-of_items-count : goal.slice_bounds-of_items-count
+slice_bounds-of_items-count g c =
+    omega (arith, (tree_leaf c.requires.is).within, ap length c.items-items.ensures.items)
 
-pub slice_bounds-of_cells-count : goal.slice_bounds-of_cells-count
-slice_bounds-of_cells-count g c =
-    omega (arith, (tree_leaf c.requires.is).within, c.item_count-len.ensures)
-
-pub slice_bounds-of_cells-start : goal.slice_bounds-of_cells-start
-slice_bounds-of_cells-start g c =
-    grind (arith, tree_leaf)
+pub slice_bounds-of_items-start : goal.slice_bounds-of_items-start
+slice_bounds-of_items-start g c =
+    rw c.items-items.ensures.items (tree_leaf c.requires.is).within
 
 pub item_at-requires : goal.item_at-requires
 item_at-requires g c =
     let home = good_home c.requires in
     rw c.around_leaf-behind.ensures.home (record { present = home.present; within = home.within })
-
-pub of_cells-requires : goal.of_cells-requires
-of_cells-requires g c =
-    grind (arith, rest_full, tree_leaf)
 
 pub around_leaf-behind-requires-clause-deep : goal.around_leaf-behind-requires-clause-deep
 around_leaf-behind-requires-clause-deep g c =
@@ -46,10 +38,12 @@ returns g c =
     let p = c.args.p in
     let items = items_of (node_of s.nodes p.leaf) in
     let low = (tree_leaf c.requires.is).within in
-    let run : c.of_cells.result ≡ drop p.index items =
-    rw c.item_count-len.ensures at c.of_cells.ensures
-    ∙ rest_items c.cells-cells.ensures p.index low in
-    let many : length c.of_cells.result ≡ length items - p.index =
+    let run : c.of_items.result ≡ drop p.index items =
+    c.of_items.ensures
+    ∙ ap (λ l. take (length l - p.index) (drop p.index l)) c.items-items.ensures.items
+    ∙ take_all (length items - p.index) (drop p.index items)
+    (omega (arith, length-drop p.index items)) in
+    let many : length c.of_items.result ≡ length items - p.index =
     ap length run ∙ length-drop p.index items in
     let behind : box_offset s p ≡ box_rank s p + 1 =
     omega (arith, rank_is c.requires, c.requires.some) in

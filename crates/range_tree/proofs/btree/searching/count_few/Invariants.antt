@@ -1,11 +1,10 @@
 use Rattle.std.proofs.Common.{◌≡◌}
-use Rattle.range_nodes.specs.Rows.{items_in}
 use Rattle.range_tree.proofs.Front.{Narrowed}
 use Rattle.range_tree.proofs.btree.searching.count_few.Given as goal
 
 abbrev pub invariant-loop-left : goal.invariant-loop-left
 invariant-loop-left g l =
-    Narrowed (g.P.Probe.test l.initial.probe) (items_in l.cells) l.low l.left
+    Narrowed (g.P.Probe.test l.initial.probe) l.items l.low l.left
     (g.P.Probe.steps_taken l.initial.probe) (g.P.Probe.steps_taken l.probe)
     × (g.P.Probe.test l.probe ≡ g.P.Probe.test l.initial.probe)
 

@@ -1,11 +1,10 @@
-use Rattle.std.proofs.Common.{◌≡◌, ◌≤◌, length, arith, count_by}
+use Rattle.std.proofs.Common.{◌≡◌, ◌≤◌, length, refl, arith, ap, count_by, ◌∙◌}
 use Rattle.std.proofs.Math.Nat.{mul-le-mul_left}
 use Rattle.std.proofs.lemmas.List.Sums.{count_by-le-length}
 use Rattle.range_nodes.specs.Heap.{node_items}
 use Rattle.range_nodes.specs.declared.nodes.TheConstants.{CAPACITY}
 use Rattle.range_tree.proofs.Descending.{adds_more, descends, descent_ends}
 use Rattle.range_tree.proofs.Searching.{node_falls}
-use Rattle.range_nodes.proofs.Cells.{items_held}
 use Rattle.range_tree.proofs.Paths.{child_within}
 use Rattle.range_tree.proofs.PathsBelow.{weight_fits}
 use Rattle.range_tree.proofs.btree.searching.search_below.Goals as goal
@@ -16,30 +15,27 @@ pub count_passing-index-requires-clause-falls : goal.count_passing-index-require
 count_passing-index-requires-clause-falls g c =
     let p = g.P.Probe.test c.args.probe.now in
     let d = c.down.invariant.0 in
-    rw (
-      c.down.invariant.1,
-      items_held c.cells.ensures,
-    ) (node_falls p d.lies.shaped d.falls)
-
-pub count_passing-index-requires-clause-held : goal.count_passing-index-requires-clause-held
-count_passing-index-requires-clause-held g c = rw (items_held c.cells.ensures) c.cells.ensures
+    rw (c.down.invariant.1, c.items.ensures.items) (node_falls p d.lies.shaped d.falls)
 
 pub count_passing-index-requires-clause-some : goal.count_passing-index-requires-clause-some
-count_passing-index-requires-clause-some g c = rw (items_held c.cells.ensures) (omega arith)
+count_passing-index-requires-clause-some g c = rw c.items.ensures.items (omega arith)
 
 -- how many of the node's items pass
 counted : (g : Over) (c : After-count_passing-index g)
     → c.count_passing-index.result ≡ count_by (g.P.Probe.test c.args.probe.now)
     (node_items c.args.nodes.now c.down.at)
-counted g c = grind (arith, items_held)
+counted g c =
+    c.count_passing-index.ensures.count
+    ∙ rw (c.down.invariant.1, c.items.ensures.items) refl
 
 few : (g : Over) (c : After-count_passing-index g) → c.count_passing-index.result ≤ CAPACITY
 few g c =
-    let d = c.down.invariant.0 in
     omega (
       arith,
       counted g c,
       count_by-le-length (g.P.Probe.test c.args.probe.now) (node_items c.args.nodes.now c.down.at),
+      c.items.ensures.fits,
+      ap length c.items.ensures.items,
     )
 
 pub returns-then-left-eq0-clause-edge : goal.returns-then-left-eq0-clause-edge
