@@ -1,5 +1,5 @@
 -- The pieces of a text, one after the other.
-use Rattle.std.proofs.Common.{◌≡◌, ℕ, ◌⊎◌, ◌↔◌, Bool, List, Some, inl, inr, ◌≤◌, length, ◌∙◌, false, subst, sym, arith}
+use Rattle.std.proofs.Common.{◌≡◌, ℕ, ◌⊎◌, ◌↔◌, Bool, List, Option, None, Some, inl, inr, ◌≤◌, length, ◌∙◌, false, subst, sym, arith}
 use Rattle.std.proofs.lemmas.Bool.{cases_lt, false≢true}
 use Rattle.std.proofs.lemmas.Grind.{common_steps}
 use Rattle.std.proofs.lemmas.List.{take_all}
@@ -13,6 +13,10 @@ use Rattle.address_lines.specs.Words.HasPiece.{First, Later}
 pub stands_at : (test : ℕ → Bool) (text : List ℕ) (at : ℕ) → Some at ≡ position test text
     → (at ≡ position_or_len test text) × HasByte test text
 stands_at test text at is = grind (arith, common_steps)
+
+pub stands_nowhere : (test : ℕ → Bool) (text : List ℕ) → None ≡ position test text
+    → ¬ HasByte test text
+stands_nowhere test text none = λ has. grind (arith, common_steps)
 
 -- a test that fails is of what is not so
 pub not_told : {P : Type 0} (told : Bool) → told ≡ false → IsTrue told ↔ P → ¬ P
