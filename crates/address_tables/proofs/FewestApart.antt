@@ -22,7 +22,7 @@ use Rattle.address_sets.proofs.Sets.{below_number, first_held, from_of, holds_is
 use Rattle.address_tables.specs.Tables.{AreApart, ArePrefixes, AreSame, IsShortestApart, IsTableOf, longest}
 use Rattle.address_tables.specs.Tiled.{range_tiles, tiled, valued}
 use Rattle.address_tables.specs.declared.entries.Entry.{Entry}
-use Rattle.address_tables.proofs.Apart.{IsOneOf, all_of, one_of_all, routed, some_has}
+use Rattle.address_tables.proofs.Apart.{IsOneOf, one_of_all, routed, some_has}
 use Rattle.address_tables.proofs.Items.{Coarse, Known, StartFrom, binds_is_bound, coarse_rest, have_spans, next_from, starts_from_zero}
 use Rattle.address_tables.proofs.Tiled.{tiles_are}
 

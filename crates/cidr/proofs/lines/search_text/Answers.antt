@@ -1,4 +1,4 @@
-use Rattle.cidr.proofs.Halted.{found_some, search_halted}
+use Rattle.cidr.proofs.Halted.{search_halted}
 use Rattle.cidr.proofs.lines.search_text.Goals as goal
 
 pub returns-in-Err-clause-bad : goal.returns-in-Err-clause-bad

@@ -4,7 +4,7 @@ use Rattle.btree_range_map.specs.Names.{range_from_to, u64_order}
 use Rattle.btree_range_map.specs.PieceLists.{AreGapsWithin}
 use Rattle.btree_range_map.specs.References.{range_of}
 use Rattle.tour.specs.Coverage.{Bytes, IsWhole}
-use Rattle.tour.proofs.Bytes.{all_come, first_fits, is_missing}
+use Rattle.tour.proofs.Bytes.{all_come, is_missing}
 use Rattle.tour.proofs.downloads.Coverage.missing.Goals as goal
 
 pub returns-in_err-gap : goal.returns-in_err-gap
