@@ -22,15 +22,13 @@ pub struct RingStorage<T> {
 }
 
 impl<T: Drop> Storage<T> for RingStorage<T> {
-    ghost use Rattle.odd_keys.specs.Rings.{with_item_at, good_with_item};
+    ghost use Rattle.odd_keys.specs.Rings.{with_item_at};
 
     type Position = usize;
 
     ghost items = { λ s. s.stored.items };
 
     ghost room = { λ s. s.room };
-
-    ghost is_good = { λ s p. p < length s.stored.items };
 
     ghost rank = { λ s p. p };
 
@@ -117,8 +115,7 @@ impl<T: Drop> Storage<T> for RingStorage<T> {
         ensures list { self.new.stored.items ≡ insert self.old.stored.items
             (rank_or_len (λ q. q) (length self.old.stored.items) before) item }
         ensures space { self.old.room ≡ self.new.room + 1 }
-        ensures position { (result < length self.new.stored.items)
-            × (result ≡ rank_or_len (λ q. q) (length self.old.stored.items) before) }
+        ensures position { result ≡ rank_or_len (λ q. q) (length self.old.stored.items) before }
     {
         let at = match before {
             Some(p) => p,
@@ -178,13 +175,9 @@ impl<T: Drop> Storage<T> for RingStorage<T> {
         })
     }
 
-    ghost good_is_in_range = { λ s p h. h };
-
     ghost items_with = { λ s p x. refl };
 
     ghost room_with = { λ s p x. refl };
-
-    ghost good_with = { λ s p x q h. good_with_item s p x q h };
 
     ghost rank_with = { λ s p x q. refl };
 

@@ -1,5 +1,5 @@
 -- A range that lies apart from all stored ones, and the list with it.
-use Rattle.range_edit.proofs.Common.{common_steps, PLe, PLt, ◌≡◌, ℕ, ◌+◌, ◌<◌, List, [], ◌∷◌, ◌++◌, length, take, drop, get_or, refl, ap, sym, ◌∙◌, arith, Option, Some, None, Bool, false, ◌&&◌, IsTrue, ◌⊎◌, ◌↔◌, inl, inr, Every, IfSome, MatchOption, IsEquivalence, Bound, KeyOrder, IsLawful, Position, end_position, position_cmp, start_position, less_or_not, line_of, flipped, starts_at_end, lower, upper, eq_ge, eq_le, le_lt_trans, le_refl, le_trans, lt_le, lt_le_trans, lt_not_le, lt_trans, not_le, IsEmptyRange, IsKeyRange, AnyRange, drop_all, list_is_take_and_drop, any_none, any_split, every_append, every_right, every_weaker, flipped_bound_is_past, IsAt, rank_or_len, Item, item_lower, item_upper, IsStored, IsConnectedTo, IsConnectedToSome, LiesBefore, IsFound, IsJustBefore}
+use Rattle.range_edit.proofs.Common.{common_steps, PLe, PLt, ◌≡◌, ℕ, ◌+◌, ◌<◌, ◌≤◌, List, [], ◌∷◌, ◌++◌, length, take, drop, get_or, refl, ap, sym, ◌∙◌, arith, Option, Some, None, Bool, false, ◌&&◌, IsTrue, ◌⊎◌, ◌↔◌, inl, inr, Every, IfSome, MatchOption, IsEquivalence, Bound, KeyOrder, IsLawful, Position, end_position, position_cmp, start_position, less_or_not, line_of, flipped, starts_at_end, lower, upper, eq_ge, eq_le, le_lt_trans, le_refl, le_trans, lt_le, lt_le_trans, lt_not_le, lt_trans, not_le, IsEmptyRange, IsKeyRange, AnyRange, drop_all, list_is_take_and_drop, any_none, any_split, every_append, every_right, every_weaker, flipped_bound_is_past, IsAt, rank_or_len, Item, item_lower, item_upper, IsStored, IsConnectedTo, IsConnectedToSome, LiesBefore, IsFound, IsJustBefore}
 use Rattle.std.proofs.lemmas.Bool.{and_parts, true_from_ne_false}
 use Rattle.range_runs.proofs.Tests.{not_both}
 use Rattle.range_runs.proofs.Chains.{chain_above, chain_before, chain_right}
@@ -58,34 +58,33 @@ module _ {K : Type 0} (order : KeyOrder K) (lawful : IsLawful order) where
       known_at n x within read = grind (arith, common_steps, item_at)
 
       -- by the answers at positions of a container
-      module _ {P : Type 0} (is_good : P → Type 0) (rank : P → ℕ)
-          (good_in_range : (p : P) → is_good p → rank p < length items) where
+      module _ {P : Type 0} (rank : P → ℕ) where
         clear_before : (before : Option P) (place : ℕ) (b : Bool)
-            → IsJustBefore is_good rank before place
+            → IsJustBefore rank before place → place ≤ length items
             → IsAnswerAt order (λ i. LiesApart order i.key r) rank items before b → IsTrue b
             → Every (Before r) (take place items)
-        clear_before None place b at answer h = rw at tt
-        clear_before (Some q) place b at answer h =
-            let within = good_in_range q at.0 in
+        clear_before None place b at in_range answer h = rw at tt
+        clear_before (Some q) place b at in_range answer h =
+            let within : rank q < length items = omega (arith, at, in_range) in
             let x = element_at items (rank q) within in
             let read = element_at_is_read items (rank q) within x in
             let whole = rw (listed_at items (rank q) x within read) at in_order in
             let good = chain_right (line_of order lawful same equal) (take (rank q) items) _ whole in
             let own = apart_is x.key r (known_at (rank q) x within read) known full
             ((answer x read).0 h) in
-            rw (upto_item items (rank q) place x at.1 within read) (every_append (Before r)
+            rw (upto_item items (rank q) place x at within read) (every_append (Before r)
             (take (rank q) items) (x ∷ []) (every_weaker _ _ (take (rank q) items)
             (λ y h. le_lt_trans lawful _ _ _ h.0 (lt_trans lawful _ _ _ good.0 own))
             (chain_before (line_of order lawful same equal) (take (rank q) items) x _ whole))
             (own, tt))
 
         clear_after : (from : Option P) (place : ℕ) (b : Bool)
-            → IsAt is_good rank (length items) from place
+            → IsAt rank (length items) from place
             → IsAnswerAt order (λ i. LiesApart order r i.key) rank items from b → IsTrue b
             → Every (Behind r) (drop place items)
         clear_after None place b at answer h = rw (drop_all items place at) tt
         clear_after (Some q) place b at answer h =
-            let within = good_in_range q at.0 in
+            let within = at.0 in
             let x = element_at items (rank q) within in
             let read = element_at_is_read items (rank q) within x in
             let chain = chain_right (line_of order lawful same equal) (take (rank q) items) _
@@ -99,19 +98,20 @@ module _ {K : Type 0} (order : KeyOrder K) (lawful : IsLawful order) where
 
         -- where the last of all lies apart, the range can follow it
         pub all_before : (last : Option P) (b : Bool)
-            → MatchOption last (items ≡ []) (λ p. is_good p × (rank p + 1 ≡ length items))
+            → MatchOption last (items ≡ []) (λ p. rank p + 1 ≡ length items)
             → IsAnswerAt order (λ i. LiesApart order i.key r) rank items last b → IsTrue b
             → LiesApartAt order items r (length items)
         all_before last b at answer h = record {
           in_range = omega arith;
-          before = clear_before last (length items) b (grind (arith, common_steps, at)) answer h;
+          before = clear_before last (length items) b (grind (arith, common_steps, at))
+              (omega arith) answer h;
           behind = rw (drop_all items (length items) refl) tt;
         }
 
         -- where the first of all lies apart, the range can stand before it
-        pub all_behind : (first : Option P) (b : Bool) → IsAt is_good rank (length items) first 0
+        pub all_behind : (first : Option P) (b : Bool) → IsAt rank (length items) first 0
             → IsAnswerAt order (λ i. LiesApart order r i.key) rank items first b → IsTrue b
-            → IfSome first (λ p. is_good p × LiesApartAt order items r (rank p))
+            → IfSome first (λ p. (rank p < length items) × LiesApartAt order items r (rank p))
         all_behind None b at answer h = tt
         all_behind (Some p) b at answer h = (
           at.0,
@@ -123,17 +123,17 @@ module _ {K : Type 0} (order : KeyOrder K) (lawful : IsLawful order) where
         )
 
         refused_previous_is_connected : (before : Option P) (place : ℕ) (b : Bool)
-            → IsJustBefore is_good rank before place
+            → IsJustBefore rank before place → place ≤ length items
             → IsAnswerAt order (λ i. LiesApart order i.key r) rank items before b
             → Every (λ i. PLt lawful (end_position order i.key.end) (lower order r)) (take place items)
             → b ≡ false → IsConnectedToSome order items r
-        refused_previous_is_connected None place b at answer below f = grind (arith, common_steps)
-        refused_previous_is_connected (Some q) place b at answer below f =
-            let within = good_in_range q at.0 in
+        refused_previous_is_connected None place b at in_range answer below f = grind (arith, common_steps)
+        refused_previous_is_connected (Some q) place b at in_range answer below f =
+            let within : rank q < length items = omega (arith, at, in_range) in
             let x = element_at items (rank q) within in
             let read = element_at_is_read items (rank q) within x in
             let last = every_right (λ i. PLt lawful (end_position order i.key.end) (lower order r))
-            (take (rank q) items) (x ∷ []) (rw (upto_item items (rank q) place x at.1 within read)
+            (take (rank q) items) (x ∷ []) (rw (upto_item items (rank q) place x at within read)
             at below) in
             let refused : LiesApart order x.key r → ⊥ = λ h. let t =
             (answer x read).1 h in cc in
@@ -142,13 +142,13 @@ module _ {K : Type 0} (order : KeyOrder K) (lawful : IsLawful order) where
             (starts_at_end order x.key.end (lower order r)) last.0 refused)))
 
         refused_next_is_connected : (from : Option P) (place : ℕ) (b : Bool)
-            → IsAt is_good rank (length items) from place
+            → IsAt rank (length items) from place
             → IsAnswerAt order (λ i. LiesApart order r i.key) rank items from b
             → Every (λ i. PLe lawful (lower order r) (end_position order i.key.end)) (drop place items)
             → b ≡ false → IsConnectedToSome order items r
         refused_next_is_connected None place b at answer above f = grind (arith, common_steps)
         refused_next_is_connected (Some q) place b at answer above f =
-            let within = good_in_range q at.0 in
+            let within = at.0 in
             let x = element_at items (rank q) within in
             let read = element_at_is_read items (rank q) within x in
             let more : drop place items ≡ x ∷ drop (rank q + 1) items =
@@ -167,10 +167,10 @@ module _ {K : Type 0} (order : KeyOrder K) (lawful : IsLawful order) where
 
         -- what the answers for its neighbours say of a range
         pub gap_is : (p : Position K) (before from : Option P) (free a b : Bool) → p ≡ lower order r
-            → IsFound order is_good rank items p before from
+            → IsFound order rank items p before from
             → IsAnswerAt order (λ i. LiesApart order i.key r) rank items before a
             → IsAnswerAt order (λ i. LiesApart order r i.key) rank items from b → free ≡ (a && b)
-            → IsGap order is_good rank items r (record { is_free = free; from = from })
+            → IsGap order rank items r (record { is_free = free; from = from })
             (rank_or_len rank (length items) from)
         gap_is p before from free a b start found first second both =
             let place = rank_or_len rank (length items) from in
@@ -178,8 +178,8 @@ module _ {K : Type 0} (order : KeyOrder K) (lawful : IsLawful order) where
               position = found.position;
               apart = grind (arith, common_steps, and_parts, clear_before, clear_after);
               taken = λ f. let either : (a ≡ false) ⊎ (b ≡ false) = grind (arith, common_steps, both, f) in elim either [
-                | inl e ↦ refused_previous_is_connected before place a found.previous first
-                    (rw start at found.below) e
+                | inl e ↦ refused_previous_is_connected before place a found.previous found.in_range
+                    first (rw start at found.below) e
                 | inr e ↦ refused_next_is_connected from place b found.position second
                     (rw start at found.above) e
               ];

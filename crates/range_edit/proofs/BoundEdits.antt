@@ -18,17 +18,16 @@ pub cut_joins_none : {K P : Type 0} (item : Option P) (b : Bound K)
 cut_joins_none item b = grind (arith, common_steps)
 
 -- a change that keeps positions and the length keeps places
-pub kept_place : {P : Type 0} {is_good is_good' : P → Type 0} {rank rank' : P → ℕ} {len len' : ℕ}
-    → ((p : P) → is_good p → is_good' p × (rank' p ≡ rank p)) → len' ≡ len → (at : Option P)
-    → ForSome at is_good → rank_or_len rank' len' at ≡ rank_or_len rank len at
+pub kept_place : {P : Type 0} {rank rank' : P → ℕ} {len len' : ℕ}
+    → ((p : P) → rank p < len → rank' p ≡ rank p) → len' ≡ len → (at : Option P)
+    → ForSome at (λ p. rank p < len) → rank_or_len rank' len' at ≡ rank_or_len rank len at
 kept_place kept size at h = grind (arith, common_steps)
 
 same_at : {X : Type 0} (xs ys : List X) (n : ℕ) (d : X) → drop n xs ≡ drop n ys
     → get_or xs n d ≡ get_or ys n d
 same_at xs ys n d e = grind (arith, common_steps)
 
-module _ {K V P : Type 0} (is_good : P → Type 0) (rank : P → ℕ) (items : List (Item (AnyRange K) V))
-    (in_range : (p : P) → is_good p → rank p < length items) where
+module _ {K V P : Type 0} (rank : P → ℕ) (items : List (Item (AnyRange K) V)) where
   -- what the first edit leaves of the list
   pub record IsOpenedLeft (new : List (Item (AnyRange K) V)) (border : Border K P) (at from : ℕ)
       (rest : Option (Item (AnyRange K) V)) (start given : Option (Bound K)) : Type 0 where
@@ -39,7 +38,7 @@ module _ {K V P : Type 0} (is_good : P → Type 0) (rank : P → ℕ) (items : L
 
   pub left_opened : (new : List (Item (AnyRange K) V)) (border : Border K P) (at from : ℕ)
       (rest : Option (Item (AnyRange K) V)) (start given : Option (Bound K))
-      → IsLeftShape is_good rank items border at from rest start
+      → IsLeftShape rank items border at from rest start
       → IsLeftEdited rank items new border given → IsOpenedLeft new border at from rest start given
   left_opened new border at from rest start given shape edited = grind (arith, common_steps, common_steps, append-nil, take_more_set, drop-set-lt, length-set, take-set)
 
@@ -53,11 +52,11 @@ module _ {K V P : Type 0} (is_good : P → Type 0) (rank : P → ℕ) (items : L
     pub size : length new ≡ length base
 
   pub right_opened : (base new : List (Item (AnyRange K) V)) (rank' : P → ℕ) (clear : ℕ)
-      → ((p : P) → is_good p → rank' p ≡ rank p)
+      → ((p : P) → rank p < length items → rank' p ≡ rank p)
       → ((n : ℕ) → clear ≤ n → drop n base ≡ drop n items) → length base ≡ length items
       → (border : Border K P) (upto end : ℕ) (rest : Option (Item (AnyRange K) V))
       (finish given : Option (Bound K)) → clear + joined_count border ≤ upto
-      → IsRightShape is_good rank items border upto end rest finish
+      → IsRightShape rank items border upto end rest finish
       → IsRightEdited rank' base new border given
       → IsOpenedRight base new border upto end rest finish given
   right_opened base new rank' clear ranks kept same_size Plain upto end rest finish given le shape edited = grind (arith, common_steps, common_steps)
@@ -66,7 +65,7 @@ module _ {K V P : Type 0} (is_good : P → Type 0) (rank : P → ℕ) (items : L
       let item = same_at base items upto shape.4.0 (kept upto (omega arith)) in
       let more = kept (upto + 1) (omega arith) in
       let new_is = edited.0 shape.4.0 in
-      grind (arith, common_steps, item, more, new_is, take-set-le, drop-set, length-set, in_range)
+      grind (arith, common_steps, item, more, new_is, take-set-le, drop-set, length-set)
   right_opened base new rank' clear ranks kept same_size
       (Joined p) upto end rest finish given le shape edited =
       let item = same_at base items (rank p) shape.4.0 (kept (rank p) (omega (arith, shape.1))) in
@@ -74,37 +73,41 @@ module _ {K V P : Type 0} (is_good : P → Type 0) (rank : P → ℕ) (items : L
       let new_is = edited shape.4.0 in
       grind (arith, common_steps, item, more, new_is, take-set-le, drop-set-lt, length-set)
 
-module _ {K V P : Type 0} {is_good is_good' : P → Type 0} {rank rank' : P → ℕ}
+module _ {K V P : Type 0} {rank rank' : P → ℕ}
     {items items' : List (Item (AnyRange K) V)}
-    (kept : (p : P) → is_good p → is_good' p × (rank' p ≡ rank p)) (same : items' ≡ items) where
+    (kept : (p : P) → rank p < length items → rank' p ≡ rank p) (same : items' ≡ items) where
   -- a change that keeps positions and items keeps what is planned on a side
   pub shape_kept : (side : BorderSide K V) (border : Border K P) (low high : ℕ)
       (rest : Option (Item (AnyRange K) V)) (given : Option (Bound K))
-      → IsBorderShape side is_good rank items border low high rest given
-      → IsBorderShape side is_good' rank' items' border low high rest given
+      → IsBorderShape side rank items border low high rest given
+      → IsBorderShape side rank' items' border low high rest given
   shape_kept side Plain low high rest given h = h
   shape_kept side (Cut p b) low high rest given h = let k = kept p h.0 in (
-    k.0,
-    k.1 ∙ h.1,
+    omega (arith, k, h.0, ap length same),
+    k ∙ h.1,
     h.2,
     h.3,
     (h.4.0, h.4.1 ∙ ap (λ ys. get_or ys low h.4.0) (sym same), h.4.2),
   )
   shape_kept side (Joined p) low high rest given h = let k = kept p h.0 in (
-    k.0,
-    ap side.place k.1 ∙ h.1,
+    omega (arith, k, h.0, ap length same),
+    ap side.place k ∙ h.1,
     h.2,
     h.3,
     (
       h.4.0,
       h.4.1 ∙ (ap (λ ys. get_or ys (rank p) h.4.0) (sym same) ∙ ap (λ n. get_or items' n h.4.0)
-          (sym k.1)),
+          (sym k)),
       h.4.2,
     ),
   )
 
   pub border_good : (side : BorderSide K V) (border : Border K P) (low high : ℕ)
       (rest : Option (Item (AnyRange K) V)) (given : Option (Bound K))
-      → IsBorderShape side is_good rank items border low high rest given
-      → IsGoodBorder is_good' border
-  border_good side border low high rest given h = grind (arith, common_steps)
+      → IsBorderShape side rank items border low high rest given
+      → IsGoodBorder rank' items' border
+  border_good side Plain low high rest given h = tt
+  border_good side (Cut p b) low high rest given h =
+      omega (arith, kept p h.0, h.0, ap length same)
+  border_good side (Joined p) low high rest given h =
+      omega (arith, kept p h.0, h.0, ap length same)

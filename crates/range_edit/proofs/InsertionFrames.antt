@@ -45,9 +45,9 @@ widened_frame items new Way place count front extra rest body beyond more tail b
 
 module _ {K : Type 0} {order : KeyOrder K} (lawful : IsLawful order) {V : Type 0}
     {same : V → V → Bool} (equal : IsEquivalence same) where
-  module _ {P : Type 0} {is_good : P → Type 0} {rank : P → ℕ} {items : List (Item (AnyRange K) V)}
+  module _ {P : Type 0} {rank : P → ℕ} {items : List (Item (AnyRange K) V)}
       {r : AnyRange K} {w : Window P} {place : ℕ}
-      (window : IsWindow order same is_good rank items r w place) where
+      (window : IsWindow order same rank items r w place) where
     -- a window that is not empty holds an item that meets the range
     pub meets_some : 0 < w.count → MeetsSome order items r
     meets_some some =

@@ -9,9 +9,9 @@ use Rattle.range_runs.proofs.Tests.{not_both}
 use Rattle.std.proofs.lemmas.Grind.{common_steps}
 
 module _ {K : Type 0} {order : KeyOrder K} (lawful : IsLawful order) {V : Type 0}
-    {same : V → V → Bool} (equal : IsEquivalence same) {P : Type 0} {is_good : P → Type 0}
-    {rank : P → ℕ} {items : List (Item (AnyRange K) V)} {r : AnyRange K} {w : Window P} {place : ℕ}
-    (window : IsWindow order same is_good rank items r w place) (v : V) where
+    {same : V → V → Bool} (equal : IsEquivalence same) {P : Type 0} {rank : P → ℕ}
+    {items : List (Item (AnyRange K) V)} {r : AnyRange K} {w : Window P} {place : ℕ}
+    (window : IsWindow order same rank items r w place) (v : V) where
   good_at : (n : ℕ) (d : Item (AnyRange K) V) → n < length items
       → PLt lawful (item_lower order (get_or items n d)) (item_upper order (get_or items n d))
   good_at n d within = every_at _ items n d (chained_items_have_places order lawful same equal items
@@ -37,21 +37,22 @@ module _ {K : Type 0} {order : KeyOrder K} (lawful : IsLawful order) {V : Type 0
   touches_after d within = grind (arith, common_steps, touches_is, every_at, good_at, starts_behind)
 
   pub left_reaching : (p : P) (x : Item (AnyRange K) V)
-      → ReachesBefore order is_good rank items r place w.count (Some p)
+      → ReachesBefore order rank items r place w.count (Some p)
       → x ≡ get_or items (rank p) x → same x.value v ≡ true
-      → IsJoinedLeft order same is_good rank items r v (place + 1) (Some p)
+      → IsJoinedLeft order same rank items r v (place + 1) (Some p)
   left_reaching p x reach read alike = grind (arith, common_steps, get_or_read, lt_le, first_reaches)
 
   pub left_other : (p : P) (x : Item (AnyRange K) V)
-      → ReachesBefore order is_good rank items r place w.count (Some p)
+      → ReachesBefore order rank items r place w.count (Some p)
       → x ≡ get_or items (rank p) x → same x.value v ≡ false
-      → IsJoinedLeft order same is_good rank items r v (place + 1) None
+      → IsJoinedLeft order same rank items r v (place + 1) None
   left_other p x reach read differs = grind (arith, common_steps, not_both, get_or_read)
 
   pub left_touching : (first joined : Option P) → first ≡ None
       → MatchOption joined (TouchesNoneBefore order same items place r v)
-      (λ q. is_good q × (rank q + 1 ≡ place) × TouchesBefore order same items place r v)
-      → IsJoinedLeft order same is_good rank items r v (place + length (option_items first)) joined
+      (λ q. (rank q < length items) × (rank q + 1 ≡ place)
+      × TouchesBefore order same items place r v)
+      → IsJoinedLeft order same rank items r v (place + length (option_items first)) joined
   left_touching first None is_none none =
       let plus : place + 0 ≡ place = omega arith in
       rw (is_none, plus) (λ d some on t. none d some ((touches_is order lawful
@@ -75,27 +76,26 @@ module _ {K : Type 0} {order : KeyOrder K} (lawful : IsLawful order) {V : Type 0
   )
 
   pub right_reaching : (p : P) (x : Item (AnyRange K) V)
-      → ReachesAfter order is_good rank items r place w.count (Some p)
+      → ReachesAfter order rank items r place w.count (Some p)
       → x ≡ get_or items (rank p) x → same x.value v ≡ true
-      → IsJoinedRight order same is_good rank items r v (place + w.count - 1) (Some p)
+      → IsJoinedRight order same rank items r v (place + w.count - 1) (Some p)
   right_reaching p x reach read alike = grind (arith, common_steps, get_or_read, last_starts)
 
   pub right_other : (p : P) (x : Item (AnyRange K) V)
-      → ReachesAfter order is_good rank items r place w.count (Some p)
+      → ReachesAfter order rank items r place w.count (Some p)
       → x ≡ get_or items (rank p) x → same x.value v ≡ false
-      → IsJoinedRight order same is_good rank items r v (place + w.count - 1) None
+      → IsJoinedRight order same rank items r v (place + w.count - 1) None
   right_other p x reach read differs = grind (arith, common_steps, not_both, get_or_read)
 
   pub right_touching : (last joined : Option P) → last ≡ None
-      → ((p : P) → is_good p → rank p < length items)
       → MatchOption joined (TouchesNoneAfter order same items (place + w.count) r v)
-      (λ q. is_good q × (rank q ≡ place + w.count)
+      (λ q. (rank q < length items) × (rank q ≡ place + w.count)
       × TouchesAfter order same items (place + w.count) r v)
-      → IsJoinedRight order same is_good rank items r v
+      → IsJoinedRight order same rank items r v
       (place + w.count - length (option_items last)) joined
-  right_touching last None is_none in_range none =
+  right_touching last None is_none none =
       let plus : place + w.count - 0 ≡ place + w.count = omega arith in
       rw (is_none, plus) (grind (arith, common_steps, touches_after))
-  right_touching last (Some q) is_none in_range (is, at, touching) =
+  right_touching last (Some q) is_none (is, at, touching) =
       let plus : place + w.count - 0 ≡ place + w.count = omega arith in
       rw (is_none, plus) (grind (arith, common_steps, touches_after, le_lt_trans, starts_behind, good_at))

@@ -14,11 +14,11 @@ changed_length items new a b d at end within within_end made = grind (arith, com
 pub le_sum : (a b : ℕ) → a ≤ a + b
 le_sum a b = omega arith
 
-module _ {K V P : Type 0} (is_good : P → Type 0) (rank : P → ℕ)
+module _ {K V P : Type 0} (rank : P → ℕ)
     (items : List (Item (AnyRange K) V)) where
   -- a border takes up as many places as it leaves items of what it cuts
   pub border_length : (side : BorderSide K V) (border : Border K P) (low high : ℕ)
       (rest : Option (Item (AnyRange K) V)) (given : Option (Bound K))
-      → IsBorderShape side is_good rank items border low high rest given
+      → IsBorderShape side rank items border low high rest given
       → high ≡ low + length (option_items rest)
   border_length side border low high rest given h = grind (arith, common_steps)

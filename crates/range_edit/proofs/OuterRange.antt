@@ -1,5 +1,6 @@
 -- A range that comes before or after all stored ones.
-use Rattle.range_edit.proofs.Common.{◌≡◌, ℕ, zero, suc, ◌+◌, ◌-◌, ◌<◌, List, take, drop, get_or-take, get_or-drop, length-drop, length-take-le, refl, arith, Option, Some, None, Bool, insert, IsEquivalence, every_at, every_weaker, KeyOrder, IsLawful, IsEmptyRange, IsKeyRange, AnyRange, lt_le, lt_trans, lt_not_le, Item, Window, IsWindow, IsJustBefore, IsInserted, IsStored}
+use Rattle.range_edit.proofs.Common.{◌≡◌, inl, inr, length, subst, sym, ◌≤◌, ℕ, zero, suc, ◌+◌, ◌-◌, ◌<◌, List, take, drop, get_or-take, get_or-drop, length-drop, length-take-le, refl, arith, Option, Some, None, Bool, insert, IsEquivalence, every_at, every_weaker, KeyOrder, IsLawful, IsEmptyRange, IsKeyRange, AnyRange, lt_le, lt_trans, lt_not_le, Item, Window, IsWindow, IsAt, IsJustBefore, IsInserted, IsStored}
+use Rattle.std.proofs.lemmas.Bool.{cases_lt}
 use Rattle.range_edit.specs.Apart.{LiesApartAt}
 use Rattle.range_runs.proofs.CoveredPlaces.{chained_items_have_places}
 use Rattle.range_runs.proofs.Forms.{every_back, nonempty_good, stored_chain}
@@ -10,10 +11,18 @@ place_under : ℕ → Option ℕ
 place_under zero = None
 place_under (suc n) = Some n
 
-just_before : (place : ℕ) → IsJustBefore (λ n. Unit {0}) (λ n. n) (place_under place) place
+just_before : (place : ℕ) → IsJustBefore (λ n. n) (place_under place) place
 unfolding place_under
 just_before zero = refl
-just_before (suc n) = (tt, omega arith)
+just_before (suc n) = omega arith
+
+-- the place, or the end of the list
+at_or_end : (place len : ℕ) → place ≤ len → (from : Option ℕ) × IsAt (λ n. n) len from place
+at_or_end place len within =
+    elim (cases_lt place len) [
+      | inl below ↦ (Some place, below, refl)
+      | inr past ↦ (None, omega (arith, within, past))
+    ]
 
 module _ {K : Type 0} (order : KeyOrder K) (lawful : IsLawful order) {V : Type 0}
     (same : V → V → Bool) (equal : IsEquivalence same) (items : List (Item (AnyRange K) V))
@@ -26,23 +35,24 @@ module _ {K : Type 0} (order : KeyOrder K) (lawful : IsLawful order) {V : Type 0
       → IsInserted order same items new r v
   inserted_apart place apart new v done =
       let plus : place + 0 ≡ place = omega arith in
+      let at = at_or_end place (length items) apart.in_range in
       let good = (nonempty_good order lawful r known).0 full in
       let w : Window ℕ = record {
         before = place_under place;
-        from = Some place;
+        from = at.0;
         count = 0;
         last = None;
-        after = Some place;
+        after = at.0;
       } in
-      let window : IsWindow order same (λ n. Unit {0}) (λ n. n) items r w place = record {
+      let window : IsWindow order same (λ n. n) items r w place = record {
         stored = stored;
         known = known;
         nonempty = full;
-        position = (tt, refl);
+        position = at.1;
         previous = just_before place;
         in_range = omega (arith, apart.in_range);
         last_is = refl;
-        after_is = (tt, omega arith);
+        after_is = subst (IsAt (λ n. n) (length items) at.0) (sym plus) at.1;
         below = every_weaker _ _ (take place items) (λ i h. lt_le lawful _ _ h) apart.before;
         above = every_with _ _ _ (drop place items) apart.behind (every_back _ place items
             (chained_items_have_places order lawful same equal items

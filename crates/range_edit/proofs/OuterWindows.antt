@@ -11,30 +11,30 @@ use Rattle.range_runs.proofs.Listed.{stored_list_is_listed}
 use Rattle.range_runs.proofs.Windows.{window_is}
 
 module _ {K : Type 0} (order : KeyOrder K) (lawful : IsLawful order) {V : Type 0}
-    (same : V → V → Bool) (equal : IsEquivalence same) {P : Type 0} (is_good : P → Type 0)
-    (rank : P → ℕ) (items : List (Item (AnyRange K) V)) (r : AnyRange K)
+    (same : V → V → Bool) (equal : IsEquivalence same) {P : Type 0} (rank : P → ℕ)
+    (items : List (Item (AnyRange K) V)) (r : AnyRange K)
     (known : IsKeyRange order r) (full : IsEmptyRange order r → ⊥)
-    (stored : IsStored order same items) (q : P) (good : is_good q) (within : rank q < length items)
+    (stored : IsStored order same items) (q : P) (within : rank q < length items)
     (x : Item (AnyRange K) V) (read : x ≡ get_or items (rank q) x) where
   -- the last item ends before the range
   pub window_after_all : rank q + 1 ≡ length items
       → true ≡ is_lt (places order lawful (end_position order x.key.end)
       (start_position order r.start))
-      → IsWindow order same is_good rank items r
+      → IsWindow order same rank items r
       (record { before = Some q; from = None; count = 0; last = None; after = None })
       (length items)
   window_after_all last ends =
       let upto = ends_upto order lawful same items (start_position order r.start) (rank q) x stored
       within read ends in
-      let found : IsFound order is_good rank items (start_position order r.start) (Some q) None =
+      let found : IsFound order rank items (start_position order r.start) (Some q) None =
       record {
         position = refl;
         in_range = omega arith;
-        previous = (good, last);
+        previous = last;
         below = rw (← last) upto;
         above = rw (drop_all items (length items) refl) tt;
       } in
-      let walk : IsWalk order is_good rank items (end_position order r.end) (length items) 0 None
+      let walk : IsWalk order rank items (end_position order r.end) (length items) 0 None
       None =
       record {
         in_range = omega arith;
@@ -43,7 +43,7 @@ module _ {K : Type 0} (order : KeyOrder K) (lawful : IsLawful order) {V : Type 0
         meets = λ d some. absurd (omega (arith, some));
         stops = λ d some. absurd (omega (arith, some));
       } in
-      window_is order lawful same equal is_good rank items r (start_position order r.start)
+      window_is order lawful same equal rank items r (start_position order r.start)
       (end_position order r.end) (Some q) None None None 0 known full stored refl refl found walk
 
   -- the first item starts after the range
@@ -79,26 +79,26 @@ module _ {K : Type 0} (order : KeyOrder K) (lawful : IsLawful order) {V : Type 0
         (start_position order r.start)) ≡ true = rw at at here in
         lt_not_le lawful _ _ (lt_of _ before) (lt_le lawful _ _ ends_later))
 
-    pub window_before_all : IsWindow order same is_good rank items r
+    pub window_before_all : IsWindow order same rank items r
         (record { before = None; from = Some q; count = 0; last = None; after = Some q }) (rank q)
     window_before_all =
-        let found : IsFound order is_good rank items (start_position order r.start) None (Some q) =
-        found_at order lawful same is_good rank items (start_position order r.start) None (Some q) 0
-        (good, first) refl
+        let found : IsFound order rank items (start_position order r.start) None (Some q) =
+        found_at order lawful same rank items (start_position order r.start) None (Some q) 0
+        (within, first) refl
         (omega arith, (λ k d low below. absurd (omega (arith, below)), λ k d low below. none d k below))
         in
-        let walk : IsWalk order is_good rank items (end_position order r.end) (rank q) 0 None
+        let walk : IsWalk order rank items (end_position order r.end) (rank q) 0 None
         (Some q) =
         record {
           in_range = omega (arith, within);
           last_is = refl;
-          after_is = (good, omega arith);
+          after_is = (within, omega arith);
           meets = λ d some. absurd (omega (arith, some));
           stops =
               λ d some.
               let at : rank q + 0 ≡ rank q = omega arith in
               rw (at, ← get_or_read items (rank q) x within read d) past;
         } in
-        window_is order lawful same equal is_good rank items r (start_position order r.start)
+        window_is order lawful same equal rank items r (start_position order r.start)
         (end_position order r.end) None (Some q) None (Some q) 0 known full stored refl refl found
         walk

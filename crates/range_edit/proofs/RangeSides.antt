@@ -47,9 +47,9 @@ not_given None given = refl
 not_given (Some b) given = absurd (given b refl)
 
 module _ {K : Type 0} {order : KeyOrder K} (lawful : IsLawful order) {V : Type 0}
-    {same : V → V → Bool} (equal : IsEquivalence same) {P : Type 0} {is_good : P → Type 0}
-    {rank : P → ℕ} {items : List (Item (AnyRange K) V)} {r : AnyRange K} {w : Window P} {place : ℕ}
-    (window : IsWindow order same is_good rank items r w place) where
+    {same : V → V → Bool} (equal : IsEquivalence same) {P : Type 0} {rank : P → ℕ}
+    {items : List (Item (AnyRange K) V)} {r : AnyRange K} {w : Window P} {place : ℕ}
+    (window : IsWindow order same rank items r w place) where
   abbrev line : Line (Position K) V (Item (AnyRange K) V)
   line = line_of order lawful same equal
 
@@ -292,8 +292,8 @@ module _ {K : Type 0} {order : KeyOrder K} (lawful : IsLawful order) {V : Type 0
   none_meets none = (unmet_is_unbound none).apart
 
   -- a range that meets nothing and joins nothing is put between two items
-  pub put_between : (v : V) → w.count ≡ 0 → IsJoinedLeft order same is_good rank items r v place None
-      → IsJoinedRight order same is_good rank items r v (place + w.count) None
+  pub put_between : (v : V) → w.count ≡ 0 → IsJoinedLeft order same rank items r v place None
+      → IsJoinedRight order same rank items r v (place + w.count) None
       → (new : List (Item (AnyRange K) V))
       → new ≡ insert items place (record { key = r; value = v }) → IsInserted order same items new r v
   put_between v none before after new put =

@@ -87,9 +87,9 @@ module _ {K : Type 0} {order : KeyOrder K} (lawful : IsLawful order) {V : Type 0
   abbrev line : Line (Position K) V (Item (AnyRange K) V)
   line = line_of order lawful same equal
 
-  module _ {P : Type 0} {is_good : P → Type 0} {rank : P → ℕ} {items : List (Item (AnyRange K) V)}
+  module _ {P : Type 0} {rank : P → ℕ} {items : List (Item (AnyRange K) V)}
       {r : AnyRange K} {w : Window P} {place : ℕ}
-      (window : IsWindow order same is_good rank items r w place) where
+      (window : IsWindow order same rank items r w place) where
     pub range_has_places : PLt lawful (lower order r) (upper order r)
     range_has_places = (nonempty_good order lawful r window.known).0 window.nonempty
 
@@ -110,7 +110,7 @@ module _ {K : Type 0} {order : KeyOrder K} (lawful : IsLawful order) {V : Type 0
     last_starts x read some = rw (← read) at (lt_le lawful _ _ (window.meets x some))
 
     -- no item of the window starts before the range
-    met_start : (n : ℕ) → w.count ≡ n → ReachesBefore order is_good rank items r place w.count None
+    met_start : (n : ℕ) → w.count ≡ n → ReachesBefore order rank items r place w.count None
         → Every (λ i. PLe lawful (lower order r) (item_lower order i)) (drop place items)
     met_start zero e reach =
         let at : place + w.count ≡ place = omega (arith, e) in
@@ -129,7 +129,7 @@ module _ {K : Type 0} {order : KeyOrder K} (lawful : IsLawful order) {V : Type 0
         (reach x (omega (arith, e)) read))
 
     -- no item of the window ends after the range
-    met_end : (n : ℕ) → w.count ≡ n → ReachesAfter order is_good rank items r place w.count None
+    met_end : (n : ℕ) → w.count ≡ n → ReachesAfter order rank items r place w.count None
         → Every (λ i. PLe lawful (item_upper order i) (upper order r)) (take (place + w.count) items)
     met_end zero e reach =
         let at : place + w.count ≡ place = omega (arith, e) in
@@ -230,10 +230,10 @@ module _ {K : Type 0} {order : KeyOrder K} (lawful : IsLawful order) {V : Type 0
           (ends.0, λ k. apart m is le)) (apart, tt)
 
       -- no item of the window starts before it
-      pub left_side_whole : ReachesBefore order is_good rank items r place w.count None
+      pub left_side_whole : ReachesBefore order rank items r place w.count None
           → ((m : Item (AnyRange K) V) → slice_get middle 0 ≡ Some m
           → PLe lawful (item_lower order m) (lower order r)
-          → IsJoinedLeft order same is_good rank items r m.value place None) → LeftSide place None None
+          → IsJoinedLeft order same rank items r m.value place None) → LeftSide place None None
       left_side_whole reach apart =
           let parts = list_is_take_and_drop items place in
           let front = take place items in
@@ -251,7 +251,7 @@ module _ {K : Type 0} {order : KeyOrder K} (lawful : IsLawful order) {V : Type 0
       extra_before : (first : Option P) (n : ℕ) (x : Item (AnyRange K) V)
           → n + 1 ≡ place + length (option_items first) → n < length items → x ≡ get_or items n x
           → PLe lawful (lower order r) (item_upper order x)
-          → ReachesBefore order is_good rank items r place w.count first
+          → ReachesBefore order rank items r place w.count first
           → (extra : List (Item (AnyRange K) V)) × (take place items ≡ take n items ++ extra)
           × Every (λ i. Touches order i.key r × (i ≡ x)) extra
           × Any (λ i. i ≡ x) (extra ++ take w.count (drop place items))
@@ -275,7 +275,7 @@ module _ {K : Type 0} {order : KeyOrder K} (lawful : IsLawful order) {V : Type 0
       -- an item that reaches the range gives its start to the first item of the middle
       pub left_side_joined : (first : Option P) (m : Item (AnyRange K) V)
           (ms : List (Item (AnyRange K) V)) → middle ≡ m ∷ ms
-          → ReachesBefore order is_good rank items r place w.count first → (n : ℕ)
+          → ReachesBefore order rank items r place w.count first → (n : ℕ)
           → n + 1 ≡ place + length (option_items first) → n < length items
           → (x : Item (AnyRange K) V) → x ≡ get_or items n x
           → places order lawful (item_lower order m) (lower order r) ≡ Equal
@@ -424,10 +424,10 @@ module _ {K : Type 0} {order : KeyOrder K} (lawful : IsLawful order) {V : Type 0
             (other, tt)
 
         -- no item of the window ends after it
-        pub right_side_whole : ReachesAfter order is_good rank items r place w.count None
+        pub right_side_whole : ReachesAfter order rank items r place w.count None
             → ((m : Item (AnyRange K) V) → slice_get middle (length middle - 1) ≡ Some m
             → PLe lawful (upper order r) (item_upper order m)
-            → IsJoinedRight order same is_good rank items r m.value (place + w.count) None)
+            → IsJoinedRight order same rank items r m.value (place + w.count) None)
             → RightSide (place + w.count) None None
         right_side_whole reach apart =
             let end = place + w.count in
@@ -446,7 +446,7 @@ module _ {K : Type 0} {order : KeyOrder K} (lawful : IsLawful order) {V : Type 0
         extra_after : (last : Option P) (n : ℕ) (x : Item (AnyRange K) V)
             → n + length (option_items last) ≡ place + w.count → n < length items
             → x ≡ get_or items n x → PLe lawful (item_lower order x) (upper order r)
-            → ReachesAfter order is_good rank items r place w.count last
+            → ReachesAfter order rank items r place w.count last
             → (extra : List (Item (AnyRange K) V))
             × (drop (place + w.count) items ≡ extra ++ drop (n + 1) items)
             × Every (λ i. Touches order r i.key × (i ≡ x)) extra
@@ -475,7 +475,7 @@ module _ {K : Type 0} {order : KeyOrder K} (lawful : IsLawful order) {V : Type 0
         -- an item that reaches the range gives its end to the last item
         pub right_side_joined : (last : Option P) (init : List (Item (AnyRange K) V))
             (m : Item (AnyRange K) V) → middle ≡ init ++ m ∷ []
-            → ReachesAfter order is_good rank items r place w.count last → (n : ℕ)
+            → ReachesAfter order rank items r place w.count last → (n : ℕ)
             → n + length (option_items last) ≡ place + w.count → n < length items
             → (x : Item (AnyRange K) V) → x ≡ get_or items n x
             → places order lawful (item_upper order m) (upper order r) ≡ Equal

@@ -31,8 +31,8 @@ pub seam_count : {K P : Type 0} (joined reaching : Option P) (b : Bound K)
 seam_count option reaching b = grind (arith, common_steps, cut_joins_none)
 
 module _ {K : Type 0} (order : KeyOrder K) {V : Type 0} (same : V → V → Bool)
-    (lawful : IsLawful order) (equal : IsEquivalence same) {P : Type 0} (is_good : P → Type 0)
-    (rank : P → ℕ) (items : List (Item (AnyRange K) V)) (r : AnyRange K) (place count : ℕ)
+    (lawful : IsLawful order) (equal : IsEquivalence same) {P : Type 0} (rank : P → ℕ)
+    (items : List (Item (AnyRange K) V)) (r : AnyRange K) (place count : ℕ)
     (middle : List (Item (AnyRange K) V)) where
   -- before the range: `first` is the item that reaches out of it
   pub record IsLeftPlan (first : Option P) (border : Border K P) (from : Option P) : Type 0 where
@@ -40,9 +40,9 @@ module _ {K : Type 0} (order : KeyOrder K) {V : Type 0} (same : V → V → Bool
     pub begin : ℕ
     pub rest : Option (Item (AnyRange K) V)
     pub start : Option (Bound K)
-    pub shape : IsLeftShape is_good rank items border at begin rest start
+    pub shape : IsLeftShape rank items border at begin rest start
     pub side : IsLeftSide order lawful same equal items r place count middle at rest start
-    pub run : IsAt is_good rank (length items) from begin
+    pub run : IsAt rank (length items) from begin
     pub begins : begin + joined_count border ≡ place + length (option_items first)
 
   -- after the range
@@ -52,7 +52,7 @@ module _ {K : Type 0} (order : KeyOrder K) {V : Type 0} (same : V → V → Bool
     pub end : ℕ
     pub rest : Option (Item (AnyRange K) V)
     pub finish : Option (Bound K)
-    pub shape : IsRightShape is_good rank items border upto end rest finish
+    pub shape : IsRightShape rank items border upto end rest finish
     pub side : IsRightSide order lawful same equal items r place count middle front body end rest
         finish
     pub ends : upto + length (option_items last) ≡ place + count + joined_count border
@@ -68,39 +68,38 @@ module _ {K : Type 0} (order : KeyOrder K) {V : Type 0} (same : V → V → Bool
     pub joined : joined_count border + joined_count behind ≤ size
 
 module _ {K : Type 0} {order : KeyOrder K} (lawful : IsLawful order) {V : Type 0}
-    {same : V → V → Bool} (equal : IsEquivalence same) {P : Type 0} {is_good : P → Type 0}
-    {rank : P → ℕ} {items : List (Item (AnyRange K) V)} {r : AnyRange K}
-    (in_range : (p : P) → is_good p → rank p < length items) where
-  module _ {w : Window P} {place : ℕ} (window : IsWindow order same is_good rank items r w place)
+    {same : V → V → Bool} (equal : IsEquivalence same) {P : Type 0} {rank : P → ℕ}
+    {items : List (Item (AnyRange K) V)} {r : AnyRange K} where
+  module _ {w : Window P} {place : ℕ} (window : IsWindow order same rank items r w place)
       {middle : List (Item (AnyRange K) V)} (others : IsStored order same middle)
       (within : AreWithin order middle r) where
     -- the item that a list does not join has another value, or ends before
     parted_before : {n : ℕ} {next : Option (Item (AnyRange K) V)}
-        → IsFirstSeam order same is_good rank items r n next None → (m : Item (AnyRange K) V)
+        → IsFirstSeam order same rank items r n next None → (m : Item (AnyRange K) V)
         → next ≡ Some m → PLe lawful (item_lower order m) (lower order r)
-        → IsJoinedLeft order same is_good rank items r m.value n None
+        → IsJoinedLeft order same rank items r m.value n None
     parted_before (inl (i, at, starts, none)) m is le = let item : i ≡ m = cc in rw item at none
     parted_before (inr (later, at)) m is le = λ d some on t. lt_not_le lawful _ _ (later m is) le
 
     parted_after : {n : ℕ} {previous : Option (Item (AnyRange K) V)}
-        → IsLastSeam order same is_good rank items r n previous None → (m : Item (AnyRange K) V)
+        → IsLastSeam order same rank items r n previous None → (m : Item (AnyRange K) V)
         → previous ≡ Some m → PLe lawful (upper order r) (item_upper order m)
-        → IsJoinedRight order same is_good rank items r m.value n None
+        → IsJoinedRight order same rank items r m.value n None
     parted_after (inl (i, at, ends, none)) m is le = let item : i ≡ m = cc in rw item at none
     parted_after (inr (earlier, at)) m is le = λ d some on t. lt_not_le lawful _ _ (earlier m is) le
 
     left_plan : (first found from : Option P) (b : Bound K)
-        → ReachesBefore order is_good rank items r place w.count first
-        → IsFirstSeam order same is_good rank items r (place + length (option_items first))
+        → ReachesBefore order rank items r place w.count first
+        → IsFirstSeam order same rank items r (place + length (option_items first))
         (slice_get middle 0) found → IsBoundOfKey order b × SameBound order (flipped_bound r.start) b
-        → IsRunStart is_good rank (length items) place first found from
-        → IsLeftPlan order same lawful equal is_good rank items r place w.count middle first
+        → IsRunStart rank (length items) place first found from
+        → IsLeftPlan order same lawful equal rank items r place w.count middle first
         (seam_border found first b) from
     left_plan first (Some q) from b before (inr h) cut start = absurd (let e = h.1 in cc)
     left_plan first (Some q) from b before (inl (m, is, at, joined)) cut start =
         let (good, next, joins) = joined in
-        let x = element_at items (rank q) (in_range q good) in
-        let read = element_at_is_read items (rank q) (in_range q good) x in
+        let x = element_at items (rank q) good in
+        let read = element_at_is_read items (rank q) good x in
         let (from_x, reaches, alike) = rw (← read) at (joins x) in
         let (ms, list) = first_of middle m is in
         rw start (record {
@@ -110,7 +109,7 @@ module _ {K : Type 0} {order : KeyOrder K} (lawful : IsLawful order) {V : Type 0
           start = Some x.key.start;
           shape = (good, refl, refl, refl, (x, read, refl));
           side = left_side_joined lawful equal window others within first m ms list before (rank q)
-              next (in_range q good) x read at from_x reaches alike;
+              next good x read at from_x reaches alike;
           run = (good, refl);
           begins = next;
         })
@@ -149,17 +148,17 @@ module _ {K : Type 0} {order : KeyOrder K} (lawful : IsLawful order) {V : Type 0
         {rest : Option (Item (AnyRange K) V)} {start : Option (Bound K)}
         → IsLeftSide order lawful same equal items r place w.count middle at rest start
         → (last found : Option P) (b : Bound K)
-        → ReachesAfter order is_good rank items r place w.count last
-        → IsLastSeam order same is_good rank items r
+        → ReachesAfter order rank items r place w.count last
+        → IsLastSeam order same rank items r
         (place + w.count - length (option_items last)) (slice_get middle (length middle - 1)) found
         → IsBoundOfKey order b × SameBound order (flipped_bound r.end) b
-        → IsRightPlan order same lawful equal is_good rank items r place w.count middle
+        → IsRightPlan order same lawful equal rank items r place w.count middle
         (take at items ++ option_items rest) (with_first_start start middle) last
         (seam_border found last b)
     right_plan front left last (Some q) b after (inr h) cut = absurd (let e = h.1 in cc)
     right_plan front left last (Some q) b after (inl (m, is, ends, joined)) cut =
         let (good, at, joins) = joined in
-        let inside = in_range q good in
+        let inside = good in
         let x = element_at items (rank q) inside in
         let read = element_at_is_read items (rank q) inside x in
         let (reaches, over, alike) = rw (← read) at (joins x) in
@@ -210,19 +209,19 @@ module _ {K : Type 0} {order : KeyOrder K} (lawful : IsLawful order) {V : Type 0
           ends = omega (arith, after.2);
         }
 
-  module _ {reach : Reach P} {place : ℕ} (found : IsReach order same is_good rank items r reach place)
+  module _ {reach : Reach P} {place : ℕ} (found : IsReach order same rank items r reach place)
       (apart : AreApart reach) {joins : Joins P} {border behind : Border K P} {from : Option P}
       {count : ℕ} (on_left : IsSeamAt order joins.before reach.first r.start border)
       (on_right : IsSeamAt order joins.after reach.last r.end behind)
-      (start : IsRunStart is_good rank (length items) place reach.first joins.before from)
+      (start : IsRunStart rank (length items) place reach.first joins.before from)
       (size : count ≡ run_length reach joins) where
     pub plan_run : {middle : List (Item (AnyRange K) V)} → IsStored order same middle
-        → AreWithin order middle r → IsFirstSeam order same is_good rank items r
+        → AreWithin order middle r → IsFirstSeam order same rank items r
         (place + length (option_items reach.first)) (slice_get middle 0) joins.before
-        → IsLastSeam order same is_good rank items r
+        → IsLastSeam order same rank items r
         (place + reach.window.count - length (option_items reach.last))
         (slice_get middle (length middle - 1)) joins.after
-        → IsPlan order same lawful equal is_good rank items r place reach.window.count middle
+        → IsPlan order same lawful equal rank items r place reach.window.count middle
         reach.first reach.last border behind from count
     plan_run {middle} others within first last =
         let left = rw (← on_left.at) at (left_plan found.window others within reach.first
@@ -231,7 +230,7 @@ module _ {K : Type 0} {order : KeyOrder K} (lawful : IsLawful order) {V : Type 0
         reach.last joins.after on_right.cut found.last last (on_right.known, on_right.flipped)) in
         let joined = ap joined_count on_left.at ∙ seam_count joins.before reach.first on_left.cut in
         let other = ap joined_count on_right.at ∙ seam_count joins.after reach.last on_right.cut in
-        let least = border_length is_good rank items right_side behind right.upto right.end right.rest
+        let least = border_length rank items right_side behind right.upto right.end right.rest
         right.finish right.shape in
         record {
           left = left;
@@ -242,11 +241,11 @@ module _ {K : Type 0} {order : KeyOrder K} (lawful : IsLawful order) {V : Type 0
         }
 
     -- for one item, whose range is that of the change
-    pub plan_one : {v : V} → IsJoinedLeft order same is_good rank items r v
+    pub plan_one : {v : V} → IsJoinedLeft order same rank items r v
         (place + length (option_items reach.first)) joins.before
-        → IsJoinedRight order same is_good rank items r v
+        → IsJoinedRight order same rank items r v
         (place + reach.window.count - length (option_items reach.last)) joins.after
-        → IsPlan order same lawful equal is_good rank items r place reach.window.count
+        → IsPlan order same lawful equal rank items r place reach.window.count
         (record { key = r; value = v } ∷ []) reach.first reach.last border behind from count
     plan_one {v} first last =
         let own : Item (AnyRange K) V = record { key = r; value = v } in
@@ -257,6 +256,6 @@ module _ {K : Type 0} {order : KeyOrder K} (lawful : IsLawful order) {V : Type 0
 
     -- for none
     pub plan_none : joins.before ≡ None → joins.after ≡ None
-        → IsPlan order same lawful equal is_good rank items r place reach.window.count [] reach.first
+        → IsPlan order same lawful equal rank items r place reach.window.count [] reach.first
         reach.last border behind from count
     plan_none no_first no_last = grind (arith, common_steps, plan_run)

@@ -30,13 +30,12 @@ module _ {K : Type 0} {order : KeyOrder K} (lawful : IsLawful order) {V : Type 0
   one_is_spelled k x within read = item_at IsSpelled items k x list_keeps_spelling within read
 
   -- what the borders leave of the items beside a range, and the bounds that they give away
-  module _ {P : Type 0} {is_good : P → Type 0} {rank : P → ℕ} {r : AnyRange K} {reach : Reach P}
-      {place : ℕ} (found : IsReach order same is_good rank items r reach place)
-      (in_range : (p : P) → is_good p → rank p < length items) where
+  module _ {P : Type 0} {rank : P → ℕ} {r : AnyRange K} {reach : Reach P}
+      {place : ℕ} (found : IsReach order same rank items r reach place) where
     border_spelled : (side : BorderSide K V) (As : Bound K → Type 0)
         → ((x : Item (AnyRange K) V) → IsSpelled x → As (side.outer x)) → (joined reaching : Option P)
         (b : Bound K) (low high : ℕ) (rest : Option (Item (AnyRange K) V)) (given : Option (Bound K))
-        → IsBorderShape side is_good rank items (seam_border joined reaching b) low high rest given
+        → IsBorderShape side rank items (seam_border joined reaching b) low high rest given
         → ((p : P) → reaching ≡ Some p → (x : Item (AnyRange K) V) → x ≡ get_or items (rank p) x
         → IsSpelled (side.shortened x b)) → KeepsSpelling order items (option_items rest)
         × ((c : Bound K) → given ≡ Some c → As c)
@@ -63,7 +62,7 @@ module _ {K : Type 0} {order : KeyOrder K} (lawful : IsLawful order) {V : Type 0
         let index : rank p ≡ place + reach.window.count - 1 = omega (arith, after.1, after.2) in
         let here : x ≡ get_or items (place + reach.window.count - 1) x =
         read ∙ ap (λ n. get_or items n x) index in
-        let within = in_range p after.0 in
+        let within = after.0 in
         let starts = subst (λ y. PLt lawful (item_lower order y) (upper order r)) (sym here)
         (found.window.meets x after.2) in (
           cut_start_is_kept lawful equal items known chain (take (rank p) items)
@@ -74,7 +73,7 @@ module _ {K : Type 0} {order : KeyOrder K} (lawful : IsLawful order) {V : Type 0
         )
 
     pub replaced_keeps_spelling : {middle : List (Item (AnyRange K) V)} (joined other : Option P)
-        {from : Option P} {size : ℕ} (plan : IsPlan order same lawful equal is_good rank
+        {from : Option P} {size : ℕ} (plan : IsPlan order same lawful equal rank
         items r place reach.window.count middle reach.first reach.last
         (seam_border joined reach.first (flipped_bound r.start))
         (seam_border other reach.last (flipped_bound r.end)) from size) (new : List (Item (AnyRange K) V))
@@ -105,8 +104,8 @@ module _ {K : Type 0} {order : KeyOrder K} (lawful : IsLawful order) {V : Type 0
         rw changed (grind (arith, common_steps))
 
   -- a range that one item surrounds
-  module _ {P : Type 0} {is_good : P → Type 0} {rank : P → ℕ} {r : AnyRange K} {w : Window P}
-      {place : ℕ} {p : P} (within : IsSurrounded order same is_good rank items r w place p)
+  module _ {P : Type 0} {rank : P → ℕ} {r : AnyRange K} {w : Window P}
+      {place : ℕ} {p : P} (within : IsSurrounded order same rank items r w place p)
       (x : Item (AnyRange K) V) (read : x ≡ get_or items (rank p) x) where
     here : x ≡ get_or items place x
     here = read ∙ ap (λ n. get_or items n x) within.here

@@ -16,17 +16,17 @@ use Rattle.range_runs.proofs.Overlaps.{any_at}
 use Rattle.range_edit.proofs.BoundEdits.{standing_item_splits_list}
 
 module _ {K : Type 0} {order : KeyOrder K} {V : Type 0} {same : V → V → Bool} {P : Type 0}
-    {is_good : P → Type 0} {rank : P → ℕ} {items : List (Item (AnyRange K) V)} {r : AnyRange K}
+    {rank : P → ℕ} {items : List (Item (AnyRange K) V)} {r : AnyRange K}
     {place : ℕ} where
   -- nothing reaches out of the range where the window is empty
-  pub none_reach : {reach : Reach P} → IsReach order same is_good rank items r reach place
+  pub none_reach : {reach : Reach P} → IsReach order same rank items r reach place
       → reach.window.count ≡ 0 → (reach.first ≡ None) × (reach.last ≡ None)
   none_reach {reach} found none = grind (arith, common_steps)
 
 module _ {K : Type 0} {order : KeyOrder K} (lawful : IsLawful order) {V : Type 0}
-    {same : V → V → Bool} (equal : IsEquivalence same) {P : Type 0} {is_good : P → Type 0}
-    {rank : P → ℕ} {items : List (Item (AnyRange K) V)} {r : AnyRange K} {w : Window P} {place : ℕ}
-    {p : P} (within : IsSurrounded order same is_good rank items r w place p)
+    {same : V → V → Bool} (equal : IsEquivalence same) {P : Type 0} {rank : P → ℕ}
+    {items : List (Item (AnyRange K) V)} {r : AnyRange K} {w : Window P} {place : ℕ}
+    {p : P} (within : IsSurrounded order same rank items r w place p)
     (x : Item (AnyRange K) V) (read : x ≡ get_or items (rank p) x) where
   here : x ≡ get_or items place x
   here = read ∙ ap (λ n. get_or items n x) within.here
@@ -43,10 +43,10 @@ module _ {K : Type 0} {order : KeyOrder K} (lawful : IsLawful order) {V : Type 0
   within_list : place < length items
   within_list = omega (arith, within.window.in_range, some)
 
-  before : ReachesBefore order is_good rank items r place w.count (Some p)
+  before : ReachesBefore order rank items r place w.count (Some p)
   before = (within.good, within.here, some, within.starts)
 
-  after : ReachesAfter order is_good rank items r place w.count (Some p)
+  after : ReachesAfter order rank items r place w.count (Some p)
   after = grind (arith, common_steps, next, some)
 
   -- it has an equal value: nothing changes

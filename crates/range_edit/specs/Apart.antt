@@ -49,9 +49,9 @@ module _ {K : Type 0} (order : KeyOrder K) where
         → x ≡ slice_index_or items (rank p) x → (IsTrue answer ↔ test x)
 
     -- the range stands apart from all items before the index and from it on, or is connected to one
-    pub record IsGap {P : Type 0} (is_good : P → Type 0) (rank : P → ℕ)
+    pub record IsGap {P : Type 0} (rank : P → ℕ)
         (items : List (Item (AnyRange K) V)) (r : AnyRange K) (gap : Gap P)
         (index : ℕ) : Type 0 where
-      pub position : IsAt is_good rank (length items) gap.from index
+      pub position : IsAt rank (length items) gap.from index
       pub apart : IsTrue gap.is_free → LiesApartAt items r index
       pub taken : gap.is_free ≡ false → IsConnectedToSome order items r

@@ -93,10 +93,10 @@ module _ {K P : Type 0} where
     pub known : IsBoundOfKey order cut
     pub flipped : SameBound order (flipped_bound bound) cut
 
-  abbrev pub IsGoodBorder : (P → Type 0) → Border K P → Type 0
-  IsGoodBorder is_good Plain = ⊤
-  IsGoodBorder is_good (Cut p b) = is_good p
-  IsGoodBorder is_good (Joined p) = is_good p
+  abbrev pub IsGoodBorder : {X : Type 0} → (P → ℕ) → List X → Border K P → Type 0
+  IsGoodBorder rank items Plain = ⊤
+  IsGoodBorder rank items (Cut p b) = rank p < length items
+  IsGoodBorder rank items (Joined p) = rank p < length items
 
   module _ {V : Type 0} where
     -- how a border changes the items, and the bound that it gives the range
@@ -122,49 +122,49 @@ module _ {K P : Type 0} where
 
     -- from one index to another lies what is cut, and a rest of it stays; or an item is joined
     -- there, and its outer bound given
-    abbrev pub IsBorderShape : BorderSide K V → (P → Type 0) → (P → ℕ) → List (Item (AnyRange K) V)
+    abbrev pub IsBorderShape : BorderSide K V → (P → ℕ) → List (Item (AnyRange K) V)
         → Border K P → ℕ → ℕ → Option (Item (AnyRange K) V) → Option (Bound K) → Type 0
-    IsBorderShape side is_good rank items Plain low high rest given =
+    IsBorderShape side rank items Plain low high rest given =
         (high ≡ low) × (rest ≡ None) × (given ≡ None)
-    IsBorderShape side is_good rank items (Cut p b) low high rest given =
-        is_good p × (rank p ≡ low) × (high ≡ low + 1) × (given ≡ None)
+    IsBorderShape side rank items (Cut p b) low high rest given =
+        (rank p < length items) × (rank p ≡ low) × (high ≡ low + 1) × (given ≡ None)
         × ((x : Item (AnyRange K) V) × (x ≡ slice_index_or items low x)
         × (rest ≡ Some (side.shortened x b)))
-    IsBorderShape side is_good rank items (Joined p) low high rest given =
-        is_good p × (side.place (rank p) ≡ low) × (high ≡ low) × (rest ≡ None)
+    IsBorderShape side rank items (Joined p) low high rest given =
+        (rank p < length items) × (side.place (rank p) ≡ low) × (high ≡ low) × (rest ≡ None)
         × ((x : Item (AnyRange K) V) × (x ≡ slice_index_or items (rank p) x)
         × (given ≡ Some (side.outer x)))
 
     -- `at` items and a rest stand before the run, which begins at `from`
-    abbrev pub IsLeftShape : (P → Type 0) → (P → ℕ) → List (Item (AnyRange K) V) → Border K P
+    abbrev pub IsLeftShape : (P → ℕ) → List (Item (AnyRange K) V) → Border K P
         → ℕ → ℕ → Option (Item (AnyRange K) V) → Option (Bound K) → Type 0
     IsLeftShape = IsBorderShape left_side
 
     -- a rest and the items from `end` on stand after the run, which ends at `upto`
-    abbrev pub IsRightShape : (P → Type 0) → (P → ℕ) → List (Item (AnyRange K) V) → Border K P
+    abbrev pub IsRightShape : (P → ℕ) → List (Item (AnyRange K) V) → Border K P
         → ℕ → ℕ → Option (Item (AnyRange K) V) → Option (Bound K) → Type 0
     IsRightShape = IsBorderShape right_side
 
     -- the items beside a run are edited as the borders say
-    abbrev pub AreOpened : (P → Type 0) → (P → ℕ) → List (Item (AnyRange K) V)
+    abbrev pub AreOpened : (P → ℕ) → List (Item (AnyRange K) V)
         → List (Item (AnyRange K) V) → Border K P → Border K P → Option (Bound K) × Option (Bound K)
         → Type 0
-    AreOpened is_good rank items new left right bounds =
+    AreOpened rank items new left right bounds =
         (at from upto end : ℕ) (before after : Option (Item (AnyRange K) V))
-        (start finish : Option (Bound K)) → IsLeftShape is_good rank items left at from before start
-        → IsRightShape is_good rank items right upto end after finish
+        (start finish : Option (Bound K)) → IsLeftShape rank items left at from before start
+        → IsRightShape rank items right upto end after finish
         → from + joined_count left + joined_count right ≤ upto
         → IsOpened items new bounds at from upto end before after start finish
 
     -- `put` stands in the place of the run, between what the borders leave of the items beside it
-    abbrev pub IsRunReplaced : (P → Type 0) → (P → ℕ) → List (Item (AnyRange K) V)
+    abbrev pub IsRunReplaced : (P → ℕ) → List (Item (AnyRange K) V)
         → List (Item (AnyRange K) V) → Border K P → Border K P → Cursor P
         → (Option (Bound K) → Option (Bound K) → List (Item (AnyRange K) V)) → Type 0
-    IsRunReplaced is_good rank items new left right run put =
+    IsRunReplaced rank items new left right run put =
         (at end : ℕ) (before after : Option (Item (AnyRange K) V)) (start finish : Option (Bound K))
         → let from =
-        rank_or_len rank (length items) run.at in IsLeftShape is_good rank items left at
-        from before start → IsRightShape is_good rank items right (from + run.left) end after finish
+        rank_or_len rank (length items) run.at in IsLeftShape rank items left at
+        from before start → IsRightShape rank items right (from + run.left) end after finish
         → joined_count left + joined_count right ≤ run.left
         → new ≡ take at items ++ option_items before ++ put start finish ++ option_items after
         ++ drop end items
@@ -191,7 +191,7 @@ joined_item i start finish =
     }
 
 module _ {K : Type 0} (order : KeyOrder K) {V : Type 0} (same : V → V → Bool) {P : Type 0}
-    {S : Type 0} (is_good : S → P → Type 0) (rank : S → P → ℕ)
+    {S : Type 0} (rank : S → P → ℕ)
     (items : S → List (Item (AnyRange K) V)) (stored : S) (r : AnyRange K) (v : V)
     (w : Window P) where
   -- the item just before the window, if the range touches it and has an equal value
@@ -199,7 +199,7 @@ module _ {K : Type 0} (order : KeyOrder K) {V : Type 0} (same : V → V → Bool
   IsJoinedBefore found = let index =
       rank_or_len (rank stored) (length (items stored)) w.from in MatchOption found
       (TouchesNoneBefore order same (items stored) index r v)
-      (λ q. is_good stored q × (rank stored q + 1 ≡ index)
+      (λ q. (rank stored q < length (items stored)) × (rank stored q + 1 ≡ index)
       × TouchesBefore order same (items stored) index r v)
 
   -- the item just after it, if the range touches it and has an equal value
@@ -207,7 +207,7 @@ module _ {K : Type 0} (order : KeyOrder K) {V : Type 0} (same : V → V → Bool
   IsJoinedAfter found = let end =
       rank_or_len (rank stored) (length (items stored)) w.from + w.count in MatchOption found
       (TouchesNoneAfter order same (items stored) end r v)
-      (λ q. is_good stored q × (rank stored q ≡ end)
+      (λ q. (rank stored q < length (items stored)) × (rank stored q ≡ end)
       × TouchesAfter order same (items stored) end r v)
 
 module _ {P : Type 0} where
@@ -217,7 +217,7 @@ module _ {P : Type 0} where
       length (option_items joins.before) + inner_count reach + length (option_items joins.after)
 
   -- they begin with the item that joins, or else after the one that reaches out
-  abbrev pub IsRunStart : (P → Type 0) → (P → ℕ) → ℕ → ℕ → Option P → Option P → Option P → Type 0
-  IsRunStart is_good rank len index first None at =
-      IsAt is_good rank len at (index + length (option_items first))
-  IsRunStart is_good rank len index first (Some q) at = at ≡ Some q
+  abbrev pub IsRunStart : (P → ℕ) → ℕ → ℕ → Option P → Option P → Option P → Type 0
+  IsRunStart rank len index first None at =
+      IsAt rank len at (index + length (option_items first))
+  IsRunStart rank len index first (Some q) at = at ≡ Some q

@@ -5,7 +5,7 @@ use Rattle.range_runs.specs.Stored.{item_lower, item_upper}
 use Rattle.range_runs.specs.Window.{option_items}
 
 module _ {K : Type 0} (order : KeyOrder K) {V : Type 0} (same : V → V → Bool) {P : Type 0}
-    (is_good : P → Type 0) (rank : P → ℕ) (items : List (Item (AnyRange K) V)) (r : AnyRange K)
+    (rank : P → ℕ) (items : List (Item (AnyRange K) V)) (r : AnyRange K)
     (v : V) where
   -- the last of the first `begin` items, if it reaches the range with an equal value
   abbrev pub IsJoinedLeft : ℕ → Option P → Type 0
@@ -13,7 +13,7 @@ module _ {K : Type 0} (order : KeyOrder K) {V : Type 0} (same : V → V → Bool
       slice_index_or items (begin - 1) d in 0 < begin
       → Le (position_cmp order.cmp) (lower order r) (item_upper order x) → same x.value v ≡ true → ⊥
   IsJoinedLeft begin (Some q) =
-      is_good q × (rank q + 1 ≡ begin)
+      (rank q < length items) × (rank q + 1 ≡ begin)
       × ((d : Item (AnyRange K) V) → let x =
       slice_index_or items (rank q) d in Le (position_cmp order.cmp) (item_lower order x)
       (lower order r)
@@ -25,25 +25,25 @@ module _ {K : Type 0} (order : KeyOrder K) {V : Type 0} (same : V → V → Bool
       slice_index_or items index d in index < length items
       → Le (position_cmp order.cmp) (item_lower order x) (upper order r) → same x.value v ≡ true → ⊥
   IsJoinedRight index (Some q) =
-      is_good q × (rank q ≡ index)
+      (rank q < length items) × (rank q ≡ index)
       × ((d : Item (AnyRange K) V) → let x =
       slice_index_or items (rank q) d in Le (position_cmp order.cmp) (item_lower order x)
       (upper order r)
       × Lt (position_cmp order.cmp) (upper order r) (item_upper order x) × (same x.value v ≡ true))
 
 module _ {K : Type 0} (order : KeyOrder K) {V : Type 0} (same : V → V → Bool) {P : Type 0}
-    {S : Type 0} (is_good : S → P → Type 0) (rank : S → P → ℕ)
+    {S : Type 0} (rank : S → P → ℕ)
     (items : S → List (Item (AnyRange K) V)) (stored : S) (r : AnyRange K) (v : V)
     (reach : Reach P) where
   -- the item that the range joins where it starts: the one that reaches out of it, or else the one
   -- before
   abbrev pub JoinsBefore : Option P → Type 0
-  JoinsBefore = IsJoinedLeft order same (is_good stored) (rank stored) (items stored) r v
+  JoinsBefore = IsJoinedLeft order same (rank stored) (items stored) r v
       (rank_or_len (rank stored) (length (items stored)) reach.window.from
       + length (option_items reach.first))
 
   -- the one that it joins where it ends
   abbrev pub JoinsAfter : Option P → Type 0
-  JoinsAfter = IsJoinedRight order same (is_good stored) (rank stored) (items stored) r v
+  JoinsAfter = IsJoinedRight order same (rank stored) (items stored) r v
       (rank_or_len (rank stored) (length (items stored)) reach.window.from + reach.window.count
       - length (option_items reach.last))

@@ -4,14 +4,14 @@ use Rattle.range_edit.specs.Common.{ℕ, Bool, List, length, slice_index_or, Opt
 use Rattle.range_runs.specs.Stored.{item_lower, item_upper}
 use Rattle.range_runs.specs.Window.{option_items, IsWindow}
 
-module _ {K : Type 0} (order : KeyOrder K) {V : Type 0} {P : Type 0} (is_good : P → Type 0)
-    (rank : P → ℕ) (items : List (Item (AnyRange K) V)) (r : AnyRange K) (index count : ℕ) where
+module _ {K : Type 0} (order : KeyOrder K) {V : Type 0} {P : Type 0} (rank : P → ℕ)
+    (items : List (Item (AnyRange K) V)) (r : AnyRange K) (index count : ℕ) where
   -- the first of the `count` items from the index on starts before the range, or none of them does
   abbrev pub ReachesBefore : Option P → Type 0
   ReachesBefore None = (x : Item (AnyRange K) V) → 0 < count → x ≡ slice_index_or items index x
       → Le (position_cmp order.cmp) (lower order r) (item_lower order x)
   ReachesBefore (Some p) =
-      is_good p × (rank p ≡ index) × (0 < count)
+      (rank p < length items) × (rank p ≡ index) × (0 < count)
       × ((x : Item (AnyRange K) V) → x ≡ slice_index_or items index x
       → Lt (position_cmp order.cmp) (item_lower order x) (lower order r))
 
@@ -21,23 +21,23 @@ module _ {K : Type 0} (order : KeyOrder K) {V : Type 0} {P : Type 0} (is_good : 
       → x ≡ slice_index_or items (index + count - 1) x
       → Le (position_cmp order.cmp) (item_upper order x) (upper order r)
   ReachesAfter (Some p) =
-      is_good p × (rank p + 1 ≡ index + count) × (0 < count)
+      (rank p < length items) × (rank p + 1 ≡ index + count) × (0 < count)
       × ((x : Item (AnyRange K) V) → x ≡ slice_index_or items (index + count - 1) x
       → Lt (position_cmp order.cmp) (upper order r) (item_upper order x))
 
 module _ {K : Type 0} (order : KeyOrder K) {V : Type 0} {P : Type 0} {S : Type 0}
-    (is_good : S → P → Type 0) (rank : S → P → ℕ) (items : S → List (Item (AnyRange K) V))
+    (rank : S → P → ℕ) (items : S → List (Item (AnyRange K) V))
     (stored : S) (r : AnyRange K) (w : Window P) where
   -- the first item of the window, if it starts before the range
   abbrev pub IsFirstReaching : Option P → Type 0
   IsFirstReaching first =
-      ReachesBefore order (is_good stored) (rank stored) (items stored) r
+      ReachesBefore order (rank stored) (items stored) r
       (rank_or_len (rank stored) (length (items stored)) w.from) w.count first
 
   -- the last item of the window, if it ends after the range
   abbrev pub IsLastReaching : Option P → Type 0
   IsLastReaching last =
-      ReachesAfter order (is_good stored) (rank stored) (items stored) r
+      ReachesAfter order (rank stored) (items stored) r
       (rank_or_len (rank stored) (length (items stored)) w.from) w.count last
 
 module _ {P : Type 0} where
@@ -53,33 +53,33 @@ module _ {P : Type 0} where
 
 module _ {K : Type 0} (order : KeyOrder K) {V : Type 0} (same : V → V → Bool) {P : Type 0} where
   -- the items that a range meets, and those of them that reach out of it
-  pub record IsReach (is_good : P → Type 0) (rank : P → ℕ) (items : List (Item (AnyRange K) V))
+  pub record IsReach (rank : P → ℕ) (items : List (Item (AnyRange K) V))
       (r : AnyRange K) (reach : Reach P) (index : ℕ) : Type 0 where
-    pub window : IsWindow order same is_good rank items r reach.window index
-    pub first : ReachesBefore order is_good rank items r index reach.window.count reach.first
-    pub last : ReachesAfter order is_good rank items r index reach.window.count reach.last
+    pub window : IsWindow order same rank items r reach.window index
+    pub first : ReachesBefore order rank items r index reach.window.count reach.first
+    pub last : ReachesAfter order rank items r index reach.window.count reach.last
 
   -- those of a container
-  abbrev pub IsReachOf : {S : Type 0} → (S → P → Type 0) → (S → P → ℕ)
+  abbrev pub IsReachOf : {S : Type 0} → (S → P → ℕ)
       → (S → List (Item (AnyRange K) V)) → S → AnyRange K → Reach P → Type 0
-  IsReachOf is_good rank items stored r reach =
-      IsReach (is_good stored) (rank stored) (items stored) r reach
+  IsReachOf rank items stored r reach =
+      IsReach (rank stored) (items stored) r reach
       (rank_or_len (rank stored) (length (items stored)) reach.window.from)
 
   -- the range lies within the one item that it meets, at the position
-  pub record IsSurrounded (is_good : P → Type 0) (rank : P → ℕ) (items : List (Item (AnyRange K) V))
+  pub record IsSurrounded (rank : P → ℕ) (items : List (Item (AnyRange K) V))
       (r : AnyRange K) (w : Window P) (index : ℕ) (p : P) : Type 0 where
-    pub window : IsWindow order same is_good rank items r w index
+    pub window : IsWindow order same rank items r w index
     pub one : w.count ≡ 1
-    pub good : is_good p
+    pub good : rank p < length items
     pub here : rank p ≡ index
     pub starts : (x : Item (AnyRange K) V) → x ≡ slice_index_or items index x
         → Lt (position_cmp order.cmp) (item_lower order x) (lower order r)
     pub ends : (x : Item (AnyRange K) V) → x ≡ slice_index_or items index x
         → Lt (position_cmp order.cmp) (upper order r) (item_upper order x)
 
-  abbrev pub IsSurroundedOf : {S : Type 0} → (S → P → Type 0) → (S → P → ℕ)
+  abbrev pub IsSurroundedOf : {S : Type 0} → (S → P → ℕ)
       → (S → List (Item (AnyRange K) V)) → S → AnyRange K → Window P → P → Type 0
-  IsSurroundedOf is_good rank items stored r w p =
-      IsSurrounded (is_good stored) (rank stored) (items stored) r w
+  IsSurroundedOf rank items stored r w p =
+      IsSurrounded (rank stored) (items stored) r w
       (rank_or_len (rank stored) (length (items stored)) w.from) p

@@ -23,14 +23,14 @@ module _ {K V : Type 0} where
   with_last_end (Some b) (i ∷ j ∷ rest) = i ∷ with_last_end (Some b) (j ∷ rest)
 
 module _ {K : Type 0} (order : KeyOrder K) {V : Type 0} (same : V → V → Bool) {P : Type 0}
-    (is_good : P → Type 0) (rank : P → ℕ) (items : List (Item (AnyRange K) V)) (r : AnyRange K)
+    (rank : P → ℕ) (items : List (Item (AnyRange K) V)) (r : AnyRange K)
     (index : ℕ) where
   -- an item that starts where the range does may join, and before any other nothing does
   abbrev pub IsFirstSeam : Option (Item (AnyRange K) V) → Option P → Type 0
   IsFirstSeam next found =
       ((m : Item (AnyRange K) V) × (next ≡ Some m)
       × (position_cmp order.cmp (item_lower order m) (lower order r) ≡ Equal)
-      × IsJoinedLeft order same is_good rank items r m.value index found)
+      × IsJoinedLeft order same rank items r m.value index found)
       ⊎ (((m : Item (AnyRange K) V) → next ≡ Some m
       → Lt (position_cmp order.cmp) (lower order r) (item_lower order m)) × (found ≡ None))
 
@@ -39,21 +39,21 @@ module _ {K : Type 0} (order : KeyOrder K) {V : Type 0} (same : V → V → Bool
   IsLastSeam previous found =
       ((m : Item (AnyRange K) V) × (previous ≡ Some m)
       × (position_cmp order.cmp (item_upper order m) (upper order r) ≡ Equal)
-      × IsJoinedRight order same is_good rank items r m.value index found)
+      × IsJoinedRight order same rank items r m.value index found)
       ⊎ (((m : Item (AnyRange K) V) → previous ≡ Some m
       → Lt (position_cmp order.cmp) (item_upper order m) (upper order r)) × (found ≡ None))
 
 module _ {K : Type 0} (order : KeyOrder K) {V : Type 0} (same : V → V → Bool) {P : Type 0}
-    {S : Type 0} (is_good : S → P → Type 0) (rank : S → P → ℕ)
+    {S : Type 0} (rank : S → P → ℕ)
     (items : S → List (Item (AnyRange K) V)) (stored : S) (r : AnyRange K) (reach : Reach P) where
   -- the item that the first of a run is to join, where there is one
   abbrev pub IsJoiningFirst : Option (Item (AnyRange K) V) → Option P → Type 0
-  IsJoiningFirst = IsFirstSeam order same (is_good stored) (rank stored) (items stored) r
+  IsJoiningFirst = IsFirstSeam order same (rank stored) (items stored) r
       (rank_or_len (rank stored) (length (items stored)) reach.window.from
       + length (option_items reach.first))
 
   -- the item that the last of a run is to join, where there is one
   abbrev pub IsJoiningLast : Option (Item (AnyRange K) V) → Option P → Type 0
-  IsJoiningLast = IsLastSeam order same (is_good stored) (rank stored) (items stored) r
+  IsJoiningLast = IsLastSeam order same (rank stored) (items stored) r
       (rank_or_len (rank stored) (length (items stored)) reach.window.from + reach.window.count
       - length (option_items reach.last))

@@ -33,7 +33,7 @@ fn find_gap<K: PartialEnum, V: Eq + Drop, C: Storage<Item<AnyRange<K>, V>>>(
 ) -> Gap<C::Position>
     requires stored { IsStored K.order V.eq (C.items stored.now) }
     requires nonempty { ¬ IsEmptyRange K.order range.now }
-    ensures { IsGap K.order (C.is_good stored.now) (C.rank stored.now) (C.items stored.now)
+    ensures { IsGap K.order (C.rank stored.now) (C.items stored.now)
         range.now result
         (rank_or_len (C.rank stored.now) (length (C.items stored.now)) result.from) }
 {

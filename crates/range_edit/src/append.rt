@@ -1,5 +1,5 @@
 //! Ranges that lie apart from stored ones, and those that come before or after all of them.
-ghost use Rattle.std.specs.Prelude.{◌≡◌, ◌↔◌, ◌+◌, ◌≤◌, length, IsTrue, IfSome, IfErr, IsOk, OnOk, OnErr};
+ghost use Rattle.std.specs.Prelude.{◌<◌, ◌≡◌, ◌↔◌, ◌+◌, ◌≤◌, length, IsTrue, IfSome, IfErr, IsOk, OnOk, OnErr};
 ghost use Rattle.std.specs.Option.{ForSome};
 ghost use Rattle.std.specs.declared.ops.Bound.TheVariants.{Excluded, Included};
 ghost use Rattle.range_keys.specs.Position.{position_cmp, start_position};
@@ -62,7 +62,7 @@ pub fn is_clear_before<K: PartialEnum, V: Eq + Drop, C: Storage<Item<AnyRange<K>
     before: Option<C::Position>,
     range: &AnyRange<K>,
 ) -> bool
-    requires { ForSome before (C.is_good stored.now) }
+    requires { ForSome before (λ p. C.rank stored.now p < length (C.items stored.now)) }
     ensures { IsAnswerAt K.order (λ i. LiesApart K.order i.key range.now) (C.rank stored.now)
         (C.items stored.now) before result }
 {
@@ -78,7 +78,7 @@ pub fn is_clear_after<K: PartialEnum, V: Eq + Drop, C: Storage<Item<AnyRange<K>,
     from: Option<C::Position>,
     range: &AnyRange<K>,
 ) -> bool
-    requires { ForSome from (C.is_good stored.now) }
+    requires { ForSome from (λ p. C.rank stored.now p < length (C.items stored.now)) }
     ensures { IsAnswerAt K.order (λ i. LiesApart K.order range.now i.key) (C.rank stored.now)
         (C.items stored.now) from result }
 {
@@ -112,7 +112,7 @@ pub fn comes_first<K: PartialEnum, V: Eq + Drop, C: Storage<Item<AnyRange<K>, V>
     requires stored { IsStored K.order V.eq (C.items stored.now) }
     requires nonempty { ¬ IsEmptyRange K.order range.now }
     ensures { IfSome result
-        (λ p. C.is_good stored.now p
+        (λ p. (C.rank stored.now p < length (C.items stored.now))
         × LiesApartAt K.order (C.items stored.now) range.now (C.rank stored.now p)) }
 {
     inner::known(range);
@@ -134,7 +134,7 @@ pub fn outer_window<K: PartialEnum, V: Eq + Drop, C: Storage<Item<AnyRange<K>, V
     requires stored { IsStored K.order V.eq (C.items stored.now) }
     requires nonempty { ¬ IsEmptyRange K.order range.now }
     ensures window { IfSome result
-        (λ w. IsWindowOf K.order V.eq C.is_good C.rank C.items stored.now range.now w) }
+        (λ w. IsWindowOf K.order V.eq C.rank C.items stored.now range.now w) }
     ensures none { IfSome result (λ w. w.count ≡ 0) }
 {
     inner::known(range);
@@ -173,7 +173,7 @@ pub fn put_apart<K: PartialEnum, V: Eq + Drop, C: Storage<Item<AnyRange<K>, V>>>
 ) -> Result<(), AllocFailed<Item<AnyRange<K>, V>>>
     requires stored { IsStored K.order V.eq (C.items stored.old) }
     requires nonempty { ¬ IsEmptyRange K.order item.key }
-    requires good { ForSome from (C.is_good stored.old) }
+    requires good { ForSome from (λ p. C.rank stored.old p < length (C.items stored.old)) }
     requires apart { LiesApartAt K.order (C.items stored.old) item.key
         (rank_or_len (C.rank stored.old) (length (C.items stored.old)) from) }
     ensures ok { OnOk result

@@ -33,8 +33,7 @@ pub fn bind_inside<K: PartialEnum + Clone, V: Eq + Clone, C: Storage<Item<AnyRan
 ) -> Result<(), AllocError>
     requires keys { ClonesAreEqual K.is_clone K.eq }
     requires values { ClonesAreEqual V.is_clone V.eq }
-    requires within { IsSurroundedOf K.order V.eq C.is_good C.rank C.items stored.old range
-        window.now p }
+    requires within { IsSurroundedOf K.order V.eq C.rank C.items stored.old range window.now p }
     ensures ok { OnOk result
         (IsInserted K.order V.eq (C.items stored.old) (C.items stored.new) range value) }
     ensures few { OnOk result (length (C.items stored.new) ≤ length (C.items stored.old) + 2) }
@@ -63,10 +62,10 @@ fn bind_merging<K: PartialEnum + Clone, V: Eq + Clone, C: Storage<Item<AnyRange<
     item: Item<AnyRange<K>, V>,
 ) -> Result<(), AllocError>
     requires keys { ClonesAreEqual K.is_clone K.eq }
-    requires reach { IsReachOf K.order V.eq C.is_good C.rank C.items stored.old item.key reach.now }
-    requires before { JoinsBefore K.order V.eq C.is_good C.rank C.items stored.old item.key
+    requires reach { IsReachOf K.order V.eq C.rank C.items stored.old item.key reach.now }
+    requires before { JoinsBefore K.order V.eq C.rank C.items stored.old item.key
         item.value reach.now joins.now.before }
-    requires after { JoinsAfter K.order V.eq C.is_good C.rank C.items stored.old item.key item.value
+    requires after { JoinsAfter K.order V.eq C.rank C.items stored.old item.key item.value
         reach.now joins.now.after }
     requires apart { AreApart reach.now }
     ensures ok { OnOk result
@@ -91,7 +90,7 @@ fn bind_outside<K: PartialEnum + Clone, V: Eq + Clone, C: Storage<Item<AnyRange<
     steps: &mut Steps,
 ) -> Result<(), AllocError>
     requires keys { ClonesAreEqual K.is_clone K.eq }
-    requires reach { IsReachOf K.order V.eq C.is_good C.rank C.items stored.old item.key reach.now }
+    requires reach { IsReachOf K.order V.eq C.rank C.items stored.old item.key reach.now }
     requires apart { AreApart reach.now }
     ensures ok { OnOk result
         (IsInserted K.order V.eq (C.items stored.old) (C.items stored.new) item.key item.value) }

@@ -68,8 +68,8 @@ pub fn joined_before<K: PartialEnum, V: Eq + Drop, C: Storage<Item<AnyRange<K>, 
     value: &V,
     steps: &mut Steps,
 ) -> Option<C::Position>
-    requires { IsWindowOf K.order V.eq C.is_good C.rank C.items stored.now range.now window.now }
-    ensures joined { IsJoinedBefore K.order V.eq C.is_good C.rank C.items stored.now range.now
+    requires { IsWindowOf K.order V.eq C.rank C.items stored.now range.now window.now }
+    ensures joined { IsJoinedBefore K.order V.eq C.rank C.items stored.now range.now
         value.now window.now result }
     ensures counted { AddsSteps steps.old steps.new 0 1 }
 {
@@ -96,8 +96,8 @@ pub fn joined_after<K: PartialEnum, V: Eq + Drop, C: Storage<Item<AnyRange<K>, V
     value: &V,
     steps: &mut Steps,
 ) -> Option<C::Position>
-    requires { IsWindowOf K.order V.eq C.is_good C.rank C.items stored.now range.now window.now }
-    ensures joined { IsJoinedAfter K.order V.eq C.is_good C.rank C.items stored.now range.now
+    requires { IsWindowOf K.order V.eq C.rank C.items stored.now range.now window.now }
+    ensures joined { IsJoinedAfter K.order V.eq C.rank C.items stored.now range.now
         value.now window.now result }
     ensures counted { AddsSteps steps.old steps.new 0 1 }
 {
@@ -125,8 +125,8 @@ pub fn joins_before<K: PartialEnum, V: Eq + Drop, C: Storage<Item<AnyRange<K>, V
     value: &V,
     steps: &mut Steps,
 ) -> Option<C::Position>
-    requires { IsReachOf K.order V.eq C.is_good C.rank C.items stored.now range.now reach.now }
-    ensures joins { JoinsBefore K.order V.eq C.is_good C.rank C.items stored.now range.now value.now
+    requires { IsReachOf K.order V.eq C.rank C.items stored.now range.now reach.now }
+    ensures joins { JoinsBefore K.order V.eq C.rank C.items stored.now range.now value.now
         reach.now result }
     ensures counted { AddsSteps steps.old steps.new 0 1 }
 {
@@ -151,8 +151,8 @@ pub fn joins_after<K: PartialEnum, V: Eq + Drop, C: Storage<Item<AnyRange<K>, V>
     value: &V,
     steps: &mut Steps,
 ) -> Option<C::Position>
-    requires { IsReachOf K.order V.eq C.is_good C.rank C.items stored.now range.now reach.now }
-    ensures joins { JoinsAfter K.order V.eq C.is_good C.rank C.items stored.now range.now value.now
+    requires { IsReachOf K.order V.eq C.rank C.items stored.now range.now reach.now }
+    ensures joins { JoinsAfter K.order V.eq C.rank C.items stored.now range.now value.now
         reach.now result }
     ensures counted { AddsSteps steps.old steps.new 0 1 }
 {

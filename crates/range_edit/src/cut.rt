@@ -1,5 +1,5 @@
 //! Where a range cuts a stored item, and what its parts need.
-ghost use Rattle.std.specs.Prelude.{◌≡◌, ◌↔◌, ◌≤◌, IfOk, IsOk, OnOk, IsTrue, slice_index_or};
+ghost use Rattle.std.specs.Prelude.{◌<◌, length, ◌≡◌, ◌↔◌, ◌≤◌, IfOk, IsOk, OnOk, IsTrue, slice_index_or};
 ghost use Rattle.range_keys.specs.Position.{bound_of, position_cmp};
 ghost use Rattle.range_algebra.specs.Clones.{SameBound};
 ghost use Rattle.range_algebra.specs.Cuts.{lower, upper};
@@ -42,7 +42,7 @@ pub fn prepare_parts<K: PartialEnum + Clone, V: Eq + Clone, C: Storage<Item<AnyR
 ) -> Result<DividedItem<K, V>, AllocError>
     requires keys { ClonesAreEqual K.is_clone K.eq }
     requires values { ClonesAreEqual V.is_clone V.eq }
-    requires good { C.is_good stored.old p }
+    requires good { C.rank stored.old p < length (C.items stored.old) }
     ensures end { IfOk result
         (λ parts. IsBoundOfKey K.order parts.end
         × SameBound K.order (flipped_bound (bound_of start.entry)) parts.end) }
@@ -56,7 +56,7 @@ pub fn prepare_parts<K: PartialEnum + Clone, V: Eq + Clone, C: Storage<Item<AnyR
     ensures list { C.items stored.new ≡ C.items stored.old }
     ensures space { OnOk result (room ≤ C.room stored.new) }
     ensures no_less { C.room stored.old ≤ C.room stored.new }
-    ensures positions { KeepsPositions C.is_good C.rank stored.old stored.new }
+    ensures positions { KeepsPositions C.rank C.items stored.old stored.new }
     ensures succeeds { ClonesNeverFail K.is_infallible → ClonesNeverFail V.is_infallible
         → room ≤ C.room stored.old → IsOk result }
 {

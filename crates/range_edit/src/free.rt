@@ -1,6 +1,6 @@
 //! Storing an item, with the item handed back where there is no memory: at a position, between its
 //! neighbours, or in place of others.
-ghost use Rattle.std.specs.Prelude.{◌≡◌, ◌+◌, ◌-◌, ◌*◌, ◌≤◌, length, insert, None, OnOk, OnErr, IfErr, IsOk};
+ghost use Rattle.std.specs.Prelude.{◌<◌, ◌≡◌, ◌+◌, ◌-◌, ◌*◌, ◌≤◌, length, insert, None, OnOk, OnErr, IfErr, IsOk};
 ghost use Rattle.std.specs.Option.{ForSome};
 ghost use Rattle.range_store.specs.Counting.{AddsSteps};
 ghost use Rattle.range_store.specs.ListRanks.{rank_or_len};
@@ -26,7 +26,7 @@ pub fn put<T, C: Storage<T>>(
     before: Option<C::Position>,
     item: T,
 ) -> Result<(), AllocFailed<T>>
-    requires { ForSome before (C.is_good stored.old) }
+    requires { ForSome before (λ p. C.rank stored.old p < length (C.items stored.old)) }
     ensures put { OnOk result
         (C.items stored.new
         ≡ insert (C.items stored.old)
@@ -51,11 +51,11 @@ fn put_between<K: PartialEnum, V: Eq + Drop, C: Storage<Item<AnyRange<K>, V>>>(
     reach: &Reach<C::Position>,
     item: Item<AnyRange<K>, V>,
 ) -> Result<(), AllocFailed<Item<AnyRange<K>, V>>>
-    requires reach { IsReachOf K.order V.eq C.is_good C.rank C.items stored.old item.key reach.now }
+    requires reach { IsReachOf K.order V.eq C.rank C.items stored.old item.key reach.now }
     requires none { reach.now.window.count ≡ 0 }
-    requires before { JoinsBefore K.order V.eq C.is_good C.rank C.items stored.old item.key
+    requires before { JoinsBefore K.order V.eq C.rank C.items stored.old item.key
         item.value reach.now None }
-    requires after { JoinsAfter K.order V.eq C.is_good C.rank C.items stored.old item.key item.value
+    requires after { JoinsAfter K.order V.eq C.rank C.items stored.old item.key item.value
         reach.now None }
     ensures ok { OnOk result
         (IsInserted K.order V.eq (C.items stored.old) (C.items stored.new) item.key item.value) }
@@ -84,10 +84,10 @@ pub fn put_merged<K: PartialEnum, V: Eq + Drop, C: Storage<Item<AnyRange<K>, V>>
     right: Border<K, C::Position>,
     item: Item<AnyRange<K>, V>,
 ) -> Result<(), AllocFailed<Item<AnyRange<K>, V>>>
-    requires reach { IsReachOf K.order V.eq C.is_good C.rank C.items stored.old item.key reach.now }
-    requires before { JoinsBefore K.order V.eq C.is_good C.rank C.items stored.old item.key
+    requires reach { IsReachOf K.order V.eq C.rank C.items stored.old item.key reach.now }
+    requires before { JoinsBefore K.order V.eq C.rank C.items stored.old item.key
         item.value reach.now joins.now.before }
-    requires after { JoinsAfter K.order V.eq C.is_good C.rank C.items stored.old item.key item.value
+    requires after { JoinsAfter K.order V.eq C.rank C.items stored.old item.key item.value
         reach.now joins.now.after }
     requires apart { AreApart reach.now }
     requires left { IsSeamAt K.order joins.now.before reach.now.first item.key.start left }
@@ -123,7 +123,7 @@ pub fn bind_free<K: PartialEnum, V: Eq + Drop, C: Storage<Item<AnyRange<K>, V>>>
     item: Item<AnyRange<K>, V>,
     steps: &mut Steps,
 ) -> Result<(), AllocFailed<Item<AnyRange<K>, V>>>
-    requires reach { IsReachOf K.order V.eq C.is_good C.rank C.items stored.old item.key reach.now }
+    requires reach { IsReachOf K.order V.eq C.rank C.items stored.old item.key reach.now }
     requires none { reach.now.window.count ≡ 0 }
     ensures ok { OnOk result
         (IsInserted K.order V.eq (C.items stored.old) (C.items stored.new) item.key item.value) }

@@ -1,5 +1,5 @@
 //! Which of the items that a range meets reach out of it.
-ghost use Rattle.std.specs.Prelude.{◌≡◌, ◌+◌, ◌≤◌, length, Some, IsSome, MatchOption};
+ghost use Rattle.std.specs.Prelude.{◌<◌, ◌≡◌, ◌+◌, ◌≤◌, length, Some, IsSome, MatchOption};
 ghost use Rattle.std.specs.Option.{ForSome};
 ghost use Rattle.range_store.specs.Counting.{AddsSteps};
 ghost use Rattle.range_store.specs.ListRanks.{rank_or_len};
@@ -31,9 +31,9 @@ pub fn reaching_before<
     C: Storage<Item<AnyRange<K>, V>>,
     R: AsRange<Item = K>,
 >(stored: &C, window: &Window<C::Position>, range: &R, steps: &mut Steps) -> Option<C::Position>
-    requires window { IsWindowOf K.order V.eq C.is_good C.rank C.items stored.now
+    requires window { IsWindowOf K.order V.eq C.rank C.items stored.now
         (R.range range.now) window.now }
-    ensures reaching { IsFirstReaching K.order C.is_good C.rank C.items stored.now
+    ensures reaching { IsFirstReaching K.order C.rank C.items stored.now
         (R.range range.now) window.now result }
     ensures counted { AddsSteps steps.old steps.new 0 1 }
 {
@@ -60,9 +60,9 @@ pub fn reaching_after<
     C: Storage<Item<AnyRange<K>, V>>,
     R: AsRange<Item = K>,
 >(stored: &C, window: &Window<C::Position>, range: &R, steps: &mut Steps) -> Option<C::Position>
-    requires window { IsWindowOf K.order V.eq C.is_good C.rank C.items stored.now
+    requires window { IsWindowOf K.order V.eq C.rank C.items stored.now
         (R.range range.now) window.now }
-    ensures reaching { IsLastReaching K.order C.is_good C.rank C.items stored.now
+    ensures reaching { IsLastReaching K.order C.rank C.items stored.now
         (R.range range.now) window.now result }
     ensures counted { AddsSteps steps.old steps.new 0 1 }
 {
@@ -87,10 +87,8 @@ pub fn reaching<K: Measure, V: Eq + Drop, C: Storage<Item<AnyRange<K>, V>>, R: A
     range: &R,
     steps: &mut Steps,
 ) -> Reach<C::Position>
-    requires { IsWindowOf K.order V.eq C.is_good C.rank C.items stored.now (R.range range.now)
-        window }
-    ensures reach { IsReachOf K.order V.eq C.is_good C.rank C.items stored.now (R.range range.now)
-        result }
+    requires { IsWindowOf K.order V.eq C.rank C.items stored.now (R.range range.now) window }
+    ensures reach { IsReachOf K.order V.eq C.rank C.items stored.now (R.range range.now) result }
     ensures window { result.window ≡ window }
     ensures counted { AddsSteps steps.old steps.new 0 2 }
 {
@@ -125,12 +123,13 @@ pub fn run_start<K: PartialEnum, V: Eq + Drop, C: Storage<Item<AnyRange<K>, V>>>
     reach: &Reach<C::Position>,
     joined: Option<C::Position>,
 ) -> Option<C::Position>
-    requires from { ForSome reach.now.window.from (C.is_good stored.now) }
+    requires from { ForSome reach.now.window.from
+        (λ p. C.rank stored.now p < length (C.items stored.now)) }
     requires first { ForSome reach.now.first
-        (λ p. C.is_good stored.now p
+        (λ p. (C.rank stored.now p < length (C.items stored.now))
         × (C.rank stored.now p
         ≡ rank_or_len (C.rank stored.now) (length (C.items stored.now)) reach.now.window.from)) }
-    ensures { IsRunStart (C.is_good stored.now) (C.rank stored.now) (length (C.items stored.now))
+    ensures { IsRunStart (C.rank stored.now) (length (C.items stored.now))
         (rank_or_len (C.rank stored.now) (length (C.items stored.now)) reach.now.window.from)
         reach.now.first joined result }
 {

@@ -26,10 +26,9 @@ fn joined_left<K: Measure, V: Eq + Drop, C: Storage<Item<AnyRange<K>, V>>>(
     range: &AnyRange<K>,
     next: Option<&Item<AnyRange<K>, V>>,
 ) -> Option<C::Position>
-    requires reach { IsReachOf K.order V.eq C.is_good C.rank C.items stored.now range.now
-        reach.now }
+    requires reach { IsReachOf K.order V.eq C.rank C.items stored.now range.now reach.now }
     requires within { IfSome next (λ i. LiesIn K.order i.now.key range.now) }
-    ensures { IsJoiningFirst K.order V.eq C.is_good C.rank C.items stored.now range.now reach.now
+    ensures { IsJoiningFirst K.order V.eq C.rank C.items stored.now range.now reach.now
         (option_copied next.entry) result }
 {
     let Some(item) = next else {
@@ -49,10 +48,9 @@ fn joined_right<K: Measure, V: Eq + Drop, C: Storage<Item<AnyRange<K>, V>>>(
     range: &AnyRange<K>,
     previous: Option<&Item<AnyRange<K>, V>>,
 ) -> Option<C::Position>
-    requires reach { IsReachOf K.order V.eq C.is_good C.rank C.items stored.now range.now
-        reach.now }
+    requires reach { IsReachOf K.order V.eq C.rank C.items stored.now range.now reach.now }
     requires within { IfSome previous (λ i. LiesIn K.order i.now.key range.now) }
-    ensures { IsJoiningLast K.order V.eq C.is_good C.rank C.items stored.now range.now reach.now
+    ensures { IsJoiningLast K.order V.eq C.rank C.items stored.now range.now reach.now
         (option_copied previous.entry) result }
 {
     let Some(item) = previous else {
@@ -76,7 +74,7 @@ pub fn replace<K: Measure, V: Eq + Drop, C: Storage<Item<AnyRange<K>, V>>>(
     range: AnyRange<K>,
     middle: Vec<Item<AnyRange<K>, V>>,
 ) -> Result<(), AllocError>
-    requires reach { IsReachOf K.order V.eq C.is_good C.rank C.items stored.old range reach.now }
+    requires reach { IsReachOf K.order V.eq C.rank C.items stored.old range reach.now }
     requires apart { AreApart reach.now }
     requires middle { IsStored K.order V.eq middle.items }
     requires within { AreWithin K.order middle.items range }

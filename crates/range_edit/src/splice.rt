@@ -1,5 +1,5 @@
 //! The one change to a container: nothing here allocates, and nothing fails.
-ghost use Rattle.std.specs.Prelude.{◌≡◌, ◌+◌, ◌≤◌, ◌++◌, length, take, drop, slice_index_or, Some, Option};
+ghost use Rattle.std.specs.Prelude.{◌<◌, ◌≡◌, ◌+◌, ◌≤◌, ◌++◌, length, take, drop, slice_index_or, Some, Option};
 ghost use Rattle.std.specs.Option.{ForSome, option_map, unwrap_or};
 ghost use Rattle.std.specs.declared.ops.Bound.{Bound};
 ghost use Rattle.range_store.specs.declared.storage.Item.{Item};
@@ -24,14 +24,14 @@ pub fn replace_start<K: Drop, V: Drop, C: Storage<Item<AnyRange<K>, V>>>(
     p: C::Position,
     start: Bound<K>,
 ) -> Bound<K>
-    requires { C.is_good stored.old p }
+    requires { C.rank stored.old p < length (C.items stored.old) }
     ensures list { IsEditedAt (C.items stored.old) (C.items stored.new) (C.rank stored.old p)
         (λ i. with_start i start) }
     ensures start { (d : Item (AnyRange K) V)
         → result ≡ (slice_index_or (C.items stored.old) (C.rank stored.old p) d).key.start }
     ensures size { length (C.items stored.new) ≡ length (C.items stored.old) }
     ensures space { C.room stored.new ≡ C.room stored.old }
-    ensures positions { KeepsPositions C.is_good C.rank stored.old stored.new }
+    ensures positions { KeepsPositions C.rank C.items stored.old stored.new }
 {
     mem::replace(&mut stored.get_mut(p).key.start, start)
 }
@@ -42,14 +42,14 @@ pub fn replace_end<K: Drop, V: Drop, C: Storage<Item<AnyRange<K>, V>>>(
     p: C::Position,
     end: Bound<K>,
 ) -> Bound<K>
-    requires { C.is_good stored.old p }
+    requires { C.rank stored.old p < length (C.items stored.old) }
     ensures list { IsEditedAt (C.items stored.old) (C.items stored.new) (C.rank stored.old p)
         (λ i. with_end i end) }
     ensures end { (d : Item (AnyRange K) V)
         → result ≡ (slice_index_or (C.items stored.old) (C.rank stored.old p) d).key.end }
     ensures size { length (C.items stored.new) ≡ length (C.items stored.old) }
     ensures space { C.room stored.new ≡ C.room stored.old }
-    ensures positions { KeepsPositions C.is_good C.rank stored.old stored.new }
+    ensures positions { KeepsPositions C.rank C.items stored.old stored.new }
 {
     mem::replace(&mut stored.get_mut(p).key.end, end)
 }
@@ -59,12 +59,12 @@ fn open_left<K: Drop, V: Drop, C: Storage<Item<AnyRange<K>, V>>>(
     stored: &mut C,
     border: Border<K, C::Position>,
 ) -> Option<Bound<K>>
-    requires { IsGoodBorder (C.is_good stored.old) border }
+    requires { IsGoodBorder (C.rank stored.old) (C.items stored.old) border }
     ensures edited { IsLeftEdited (C.rank stored.old) (C.items stored.old) (C.items stored.new)
         border result }
     ensures size { length (C.items stored.new) ≡ length (C.items stored.old) }
     ensures space { C.room stored.new ≡ C.room stored.old }
-    ensures positions { KeepsPositions C.is_good C.rank stored.old stored.new }
+    ensures positions { KeepsPositions C.rank C.items stored.old stored.new }
 {
     match border {
         Border::Plain => None,
@@ -81,12 +81,12 @@ fn open_right<K: Drop, V: Drop, C: Storage<Item<AnyRange<K>, V>>>(
     stored: &mut C,
     border: Border<K, C::Position>,
 ) -> Option<Bound<K>>
-    requires { IsGoodBorder (C.is_good stored.old) border }
+    requires { IsGoodBorder (C.rank stored.old) (C.items stored.old) border }
     ensures edited { IsRightEdited (C.rank stored.old) (C.items stored.old) (C.items stored.new)
         border result }
     ensures size { length (C.items stored.new) ≡ length (C.items stored.old) }
     ensures space { C.room stored.new ≡ C.room stored.old }
-    ensures positions { KeepsPositions C.is_good C.rank stored.old stored.new }
+    ensures positions { KeepsPositions C.rank C.items stored.old stored.new }
 {
     match border {
         Border::Plain => None,
@@ -104,13 +104,13 @@ fn open_sides<K: Drop, V: Drop, C: Storage<Item<AnyRange<K>, V>>>(
     left: Border<K, C::Position>,
     right: Border<K, C::Position>,
 ) -> (Option<Bound<K>>, Option<Bound<K>>)
-    requires left { IsGoodBorder (C.is_good stored.old) left }
-    requires right { IsGoodBorder (C.is_good stored.old) right }
-    ensures opened { AreOpened (C.is_good stored.old) (C.rank stored.old) (C.items stored.old)
+    requires left { IsGoodBorder (C.rank stored.old) (C.items stored.old) left }
+    requires right { IsGoodBorder (C.rank stored.old) (C.items stored.old) right }
+    ensures opened { AreOpened (C.rank stored.old) (C.items stored.old)
         (C.items stored.new) left right result }
     ensures size { length (C.items stored.new) ≡ length (C.items stored.old) }
     ensures space { C.room stored.new ≡ C.room stored.old }
-    ensures positions { KeepsPositions C.is_good C.rank stored.old stored.new }
+    ensures positions { KeepsPositions C.rank C.items stored.old stored.new }
 {
     let start = open_left::<K, V, C>(stored, left);
     let end = open_right::<K, V, C>(stored, right);
@@ -134,13 +134,13 @@ pub fn change<K: Drop, V: Drop, C: Storage<Item<AnyRange<K>, V>>>(
     sides: Sides<K, C::Position>,
     item: Option<Item<AnyRange<K>, V>>,
 )
-    requires left { IsGoodBorder (C.is_good stored.old) sides.left }
-    requires right { IsGoodBorder (C.is_good stored.old) sides.right }
-    requires good { ForSome sides.run.at (C.is_good stored.old) }
+    requires left { IsGoodBorder (C.rank stored.old) (C.items stored.old) sides.left }
+    requires right { IsGoodBorder (C.rank stored.old) (C.items stored.old) sides.right }
+    requires good { ForSome sides.run.at (λ p. C.rank stored.old p < length (C.items stored.old)) }
     requires in_range { rank_or_len (C.rank stored.old) (length (C.items stored.old)) sides.run.at
         + sides.run.left ≤ length (C.items stored.old) }
     requires space { length (option_items item) ≤ sides.run.left + C.room stored.old }
-    ensures list { IsRunReplaced (C.is_good stored.old) (C.rank stored.old) (C.items stored.old)
+    ensures list { IsRunReplaced (C.rank stored.old) (C.items stored.old)
         (C.items stored.new) sides.left sides.right sides.run
         (λ start finish. option_items (option_map (λ i. joined_item i start finish) item)) }
     ensures space { C.room stored.old + length (C.items stored.old)
@@ -185,7 +185,7 @@ fn end_at<K: Drop, V: Drop>(items: &mut Vec<Item<AnyRange<K>, V>>, end: Option<B
 
 /// Lets the items of a list stand for the whole run.
 fn replace_run_by<T: Drop, C: Storage<T>>(stored: &mut C, run: Cursor<C::Position>, items: Vec<T>)
-    requires good { ForSome run.at (C.is_good stored.old) }
+    requires good { ForSome run.at (λ p. C.rank stored.old p < length (C.items stored.old)) }
     requires in_range { rank_or_len (C.rank stored.old) (length (C.items stored.old)) run.at
         + run.left ≤ length (C.items stored.old) }
     requires space { length items.items ≤ run.left + C.room stored.old }
@@ -209,13 +209,13 @@ pub fn change_to<K: Drop, V: Drop, C: Storage<Item<AnyRange<K>, V>>>(
     sides: Sides<K, C::Position>,
     items: Vec<Item<AnyRange<K>, V>>,
 )
-    requires left { IsGoodBorder (C.is_good stored.old) sides.left }
-    requires right { IsGoodBorder (C.is_good stored.old) sides.right }
-    requires good { ForSome sides.run.at (C.is_good stored.old) }
+    requires left { IsGoodBorder (C.rank stored.old) (C.items stored.old) sides.left }
+    requires right { IsGoodBorder (C.rank stored.old) (C.items stored.old) sides.right }
+    requires good { ForSome sides.run.at (λ p. C.rank stored.old p < length (C.items stored.old)) }
     requires in_range { rank_or_len (C.rank stored.old) (length (C.items stored.old)) sides.run.at
         + sides.run.left ≤ length (C.items stored.old) }
     requires space { length items.items ≤ sides.run.left + C.room stored.old }
-    ensures { IsRunReplaced (C.is_good stored.old) (C.rank stored.old) (C.items stored.old)
+    ensures { IsRunReplaced (C.rank stored.old) (C.items stored.old)
         (C.items stored.new) sides.left sides.right sides.run
         (λ start finish. with_last_end finish (with_first_start start items.items)) }
 {
@@ -236,8 +236,8 @@ pub fn divide<K: Drop, V: Drop, C: Storage<Item<AnyRange<K>, V>>>(
     middle: Option<Item<AnyRange<K>, V>>,
     after: Option<C::Position>,
 )
-    requires good { C.is_good stored.old p }
-    requires after { IsAt (C.is_good stored.old) (C.rank stored.old) (length (C.items stored.old))
+    requires good { C.rank stored.old p < length (C.items stored.old) }
+    requires after { IsAt (C.rank stored.old) (length (C.items stored.old))
         after (C.rank stored.old p + 1) }
     requires space { length (option_items middle) + 1 ≤ C.room stored.old }
     ensures list { IsDivided (C.items stored.old) (C.items stored.new) (C.rank stored.old p) parts

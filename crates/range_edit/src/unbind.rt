@@ -34,7 +34,7 @@ pub fn unbind_inside<
 >(stored: &mut C, window: &Window<C::Position>, p: C::Position, range: &R) -> Result<(), AllocError>
     requires keys { ClonesAreEqual K.is_clone K.eq }
     requires values { ClonesAreEqual V.is_clone V.eq }
-    requires within { IsSurroundedOf K.order V.eq C.is_good C.rank C.items stored.old
+    requires within { IsSurroundedOf K.order V.eq C.rank C.items stored.old
         (R.range range.now) window.now p }
     ensures ok { OnOk result
         (IsRemoved K.order V.eq (C.items stored.old) (C.items stored.new) (R.range range.now)) }
@@ -56,7 +56,7 @@ fn unbind_whole<K: Measure, V: Eq + Drop, C: Storage<Item<AnyRange<K>, V>>, R: A
     reach: &Reach<C::Position>,
     range: &R,
 )
-    requires reach { IsReachOf K.order V.eq C.is_good C.rank C.items stored.old (R.range range.now)
+    requires reach { IsReachOf K.order V.eq C.rank C.items stored.old (R.range range.now)
         reach.now }
     requires some { 0 < reach.now.window.count }
     requires first { reach.now.first ≡ None }
@@ -83,7 +83,7 @@ fn unbind_cutting<
     R: AsRange<Item = K>,
 >(stored: &mut C, reach: &Reach<C::Position>, range: &R) -> Result<(), AllocError>
     requires keys { ClonesAreEqual K.is_clone K.eq }
-    requires reach { IsReachOf K.order V.eq C.is_good C.rank C.items stored.old (R.range range.now)
+    requires reach { IsReachOf K.order V.eq C.rank C.items stored.old (R.range range.now)
         reach.now }
     requires some { 0 < reach.now.window.count }
     requires apart { AreApart reach.now }
@@ -125,8 +125,7 @@ fn unbind_met<
 ) -> Result<(), AllocError>
     requires keys { ClonesAreEqual K.is_clone K.eq }
     requires values { ClonesAreEqual V.is_clone V.eq }
-    requires window { IsWindowOf K.order V.eq C.is_good C.rank C.items stored.old
-        (R.range range.now) window }
+    requires window { IsWindowOf K.order V.eq C.rank C.items stored.old (R.range range.now) window }
     requires some { 0 < window.count }
     ensures ok { OnOk result
         (IsRemoved K.order V.eq (C.items stored.old) (C.items stored.new) (R.range range.now)) }

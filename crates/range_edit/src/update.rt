@@ -36,8 +36,7 @@ fn update_within<
 ) -> Result<(), UpdateError<E>>
     requires keys { ClonesAreEqual K.is_clone K.eq }
     requires values { ClonesAreEqual V.is_clone V.eq }
-    requires within { IsSurroundedOf K.order V.eq C.is_good C.rank C.items stored.old range
-        window.now p }
+    requires within { IsSurroundedOf K.order V.eq C.rank C.items stored.old range window.now p }
     requires bound { Every (λ i. MayBeAsked F.Fn f.now (Some i.value)) (C.items stored.old) }
     ensures ok { OnOk result
         (IsUpdated K.order V.eq F.Fn f.now (C.items stored.old) (C.items stored.new) range) }

@@ -1,6 +1,5 @@
 -- What is left of an iterator over stored items, which takes from both ends.
 use Rattle.std.specs.Prelude.{◌≡◌, ℕ, ◌+◌, ◌-◌, ◌≤◌, List, length, take, drop, Option, Some, None}
-use Rattle.std.specs.Option.{ForSome}
 use Rattle.range_algebra.specs.declared.any.AnyRange.{AnyRange}
 use Rattle.range_store.specs.ListRanks.{IsAt}
 use Rattle.range_store.specs.declared.storage.Item.{Item}
@@ -17,11 +16,10 @@ index_behind rank (Some p) = rank p + 1
 
 -- the last items up to `back` are left, of which those of the run come first, and then those
 -- from `front` on
-pub record IsIterator {T P : Type 0} (items : List T) (is_good : P → Type 0) (rank : P → ℕ)
-    (run : List T) (front back : Option P) (left : ℕ) : Type 0 where
-  pub last : ForSome back is_good
+pub record IsIterator {T P : Type 0} (items : List T) (rank : P → ℕ) (run : List T)
+    (front back : Option P) (left : ℕ) : Type 0 where
   pub in_range : index_behind rank back ≤ length items
   pub enough : left ≤ index_behind rank back
   pub run_is : run ≡ take (length run) (drop (index_behind rank back - left) items)
-  pub front_at : IsAt is_good rank (length items) front
+  pub front_at : IsAt rank (length items) front
       (index_behind rank back - left + length run)

@@ -34,8 +34,8 @@ impl<'a, K: 'a, V: 'a, C: Storage<Item<AnyRange<K>, V>> + 'a> Model for Iter<'a,
     ghost view = { λ i. take i.left
         (drop (index_behind (C.rank i.stored.now) i.back - i.left) (C.items i.stored.now)) };
 
-    ghost invariant = { λ i. IsIterator (C.items i.stored.now) (C.is_good i.stored.now)
-        (C.rank i.stored.now) i.run i.front i.back i.left };
+    ghost invariant = { λ i. IsIterator (C.items i.stored.now) (C.rank i.stored.now)
+        i.run i.front i.back i.left };
 }
 
 impl<'a, K: 'a, V: 'a, C: Storage<Item<AnyRange<K>, V>> + 'a> Iter<'a, K, V, C> {

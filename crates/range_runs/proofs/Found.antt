@@ -94,13 +94,13 @@ module _ {K : Type 0} (order : KeyOrder K) (lawful : IsLawful order) {V : Type 0
       rise)) ((le_is_at_most (cmp (Start y) p)).1 passes)))
       items (stored_list_is_listed order lawful same items h)
 
-  pub found_at : {P : Type 0} (is_good : P → Type 0) (rank : P → ℕ)
-      (items : List (Item (AnyRange K) V)) (p : Position K) (before from : Option P) (place : ℕ)
-      → IsAt is_good rank (length items) from place → IsJustBefore is_good rank before place
+  pub found_at : {P : Type 0} (rank : P → ℕ) (items : List (Item (AnyRange K) V))
+      (p : Position K) (before from : Option P) (place : ℕ)
+      → IsAt rank (length items) from place → IsJustBefore rank before place
       → IsFrontOf (λ i. is_lt (places order lawful (End i) p)) items place
-      → IsFound order is_good rank items p before from
-  found_at is_good rank items p before from place at previous front =
-      let same_place = place_at is_good rank (length items) from place at in
+      → IsFound order rank items p before from
+  found_at rank items p before from place at previous front =
+      let same_place = place_at rank (length items) from place at in
       let cmp = places order lawful in
       record {
         position = rw same_place at;
@@ -113,15 +113,15 @@ module _ {K : Type 0} (order : KeyOrder K) (lawful : IsLawful order) {V : Type 0
             (every_drop (λ i. is_lt (cmp (End i) p) ≡ false) items place front.0 front.1.1));
       }
 
-  module _ {P : Type 0} (is_good : P → Type 0) (rank : P → ℕ) (items : List (Item (AnyRange K) V))
-      (p : Position K) where
-    started_by : (last : Option P) (place : ℕ) → IsJustBefore is_good rank last place
-        → IsFrontOf (λ i. is_le (places order lawful (Start i) p)) items place
-        → IsLastStarting order is_good rank items p last place
-    started_by last place at front =
+  module _ {P : Type 0} (rank : P → ℕ) (items : List (Item (AnyRange K) V)) (p : Position K) where
+    started_by : (last : Option P)
+        → IsFrontOf (λ i. is_le (places order lawful (Start i) p)) items (index_after rank last)
+        → IsLastStarting order rank items p last
+    started_by last front =
         let cmp = places order lawful in
+        let place = index_after rank last in
         record {
-          position = at;
+          in_range = front.0;
           upto = every_weaker _ _ (take place items) (λ i e. (le_is_at_most (cmp (Start i) p)).1 e)
               (every_take (λ i. is_le (cmp (Start i) p) ≡ true) items place front.0 front.1.0);
           past = every_weaker _ _ (drop place items) (λ i e. not_le lawful _ _
@@ -131,11 +131,10 @@ module _ {K : Type 0} (order : KeyOrder K) (lawful : IsLawful order) {V : Type 0
 
     pub last_started : (last : Option P)
         → MatchOption last (IsFrontOf (λ i. is_le (places order lawful (Start i) p)) items 0)
-        (λ q. is_good q
-        × IsFrontOf (λ i. is_le (places order lawful (Start i) p)) items (rank q + 1))
-        → IsLastStarting order is_good rank items p last (index_after rank last)
-    last_started None front = started_by None 0 refl front
-    last_started (Some q) front = started_by (Some q) (rank q + 1) (front.0, refl) front.1
+        (λ q. IsFrontOf (λ i. is_le (places order lawful (Start i) p)) items (rank q + 1))
+        → IsLastStarting order rank items p last
+    last_started None front = started_by None front
+    last_started (Some q) front = started_by (Some q) front
 
   -- up to the place all end before the key, and from there on all start past it
   pub apart_bound : (items : List (Item (AnyRange K) V)) (k : K) (place : ℕ) → order.is_key k

@@ -70,9 +70,9 @@ module _ {K : Type 0} (order : KeyOrder K) (lawful : IsLawful order) {V : Type 0
 
 -- the pieces of a range whose window is known
 module _ {K : Type 0} {order : KeyOrder K} (lawful : IsLawful order) {V : Type 0}
-    {same : V → V → Bool} (equal : IsEquivalence same) {P : Type 0} {is_good : P → Type 0}
+    {same : V → V → Bool} (equal : IsEquivalence same) {P : Type 0}
     {rank : P → ℕ} {items : List (Item (AnyRange K) V)} {r : AnyRange K} {w : Window P} {place : ℕ}
-    (window : IsWindow order same is_good rank items r w place) where
+    (window : IsWindow order same rank items r w place) where
   abbrev Met : List (Item (AnyRange K) V)
   Met = take w.count (drop place items)
 

@@ -98,13 +98,13 @@ module _ {K : Type 0} {order : KeyOrder K} (lawful : IsLawful order) where
       (any_left _ (i ∷ rest) are.after (inl are.meet.0)))))
 
 module _ {K : Type 0} {order : KeyOrder K} (lawful : IsLawful order) {V : Type 0}
-    {same : V → V → Bool} (equal : IsEquivalence same) {P : Type 0} (is_good : P → Type 0)
+    {same : V → V → Bool} (equal : IsEquivalence same) {P : Type 0}
     (rank : P → ℕ) (items : List (Item (AnyRange K) V)) (stored : IsStored order same items) where
   -- what stands neither before what the first search finds nor after what the second does
   pub overlapping_found : (r : AnyRange K) (p e : Position K) → p ≡ start_position order r.start
       → e ≡ end_position order r.end → (before first last : Option P)
-      → IsFound order is_good rank items p before first
-      → IsLastStarting order is_good rank items e last (index_after rank last)
+      → IsFound order rank items p before first
+      → IsLastStarting order rank items e last
       → AreOverlapping order items r
       (take (index_after rank last - rank_or_len rank (length items) first)
       (drop (rank_or_len rank (length items) first) items))
@@ -113,15 +113,15 @@ module _ {K : Type 0} {order : KeyOrder K} (lawful : IsLawful order) {V : Type 0
       (rw low at found.above) (rw high at ends.upto) (rw high at ends.past)
 
   at_end : (last : Option P)
-      → MatchOption last (items ≡ []) (λ p. is_good p × (rank p + 1 ≡ length items))
+      → MatchOption last (items ≡ []) (λ p. rank p + 1 ≡ length items)
       → index_after rank last ≡ length items
   at_end None h = rw h refl
-  at_end (Some p) h = h.1
+  at_end (Some p) h = h
 
   -- all that stand not before what the search for a key finds
   pub found_from : (k : K) → order.is_key k → (before first last : Option P)
-      → IsFound order is_good rank items (start_position order (Included k)) before first
-      → MatchOption last (items ≡ []) (λ p. is_good p × (rank p + 1 ≡ length items))
+      → IsFound order rank items (start_position order (Included k)) before first
+      → MatchOption last (items ≡ []) (λ p. rank p + 1 ≡ length items)
       → AreOverlapping order items (with_bounds (Included k) Unbounded)
       (take (index_after rank last - rank_or_len rank (length items) first)
       (drop (rank_or_len rank (length items) first) items))

@@ -8,9 +8,9 @@ use Rattle.range_runs.proofs.RangePieces.{every_with}
 use Rattle.range_runs.proofs.Windows.{every_both}
 
 module _ {K : Type 0} {order : KeyOrder K} (lawful : IsLawful order) {V : Type 0}
-    {same : V → V → Bool} (equal : IsEquivalence same) {P : Type 0} {is_good : P → Type 0}
+    {same : V → V → Bool} (equal : IsEquivalence same) {P : Type 0}
     {rank : P → ℕ} {items : List (Item (AnyRange K) V)} {r : AnyRange K} {w : Window P}
-    {place : ℕ} (window : IsWindow order same is_good rank items r w place) where
+    {place : ℕ} (window : IsWindow order same rank items r w place) where
   -- the items up to the last of the window start before the range ends
   starts_under : 0 < w.count → Every (λ i. PLt lawful (item_lower order i) (upper order r))
       (take (place + w.count) items)

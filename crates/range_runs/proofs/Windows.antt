@@ -21,17 +21,17 @@ module _ {K : Type 0} (order : KeyOrder K) (lawful : IsLawful order) {V : Type 0
       ((before_is order lawful r.end y.key.start known.1 others.0.0).0
       (rw at at (h y (omega arith))))
 
-  pub window_is : {P : Type 0} (is_good : P → Type 0) (rank : P → ℕ)
-      (items : List (Item (AnyRange K) V)) (r : AnyRange K) (p e : Position K)
+  pub window_is : {P : Type 0} (rank : P → ℕ) (items : List (Item (AnyRange K) V)) (r : AnyRange K)
+      (p e : Position K)
       (before from last after : Option P) (count : ℕ) →
       IsKeyRange order r → (IsEmptyRange order r → ⊥) → IsStored order same items
       → p ≡ lower order r → e ≡ end_position order r.end →
-      IsFound order is_good rank items p before from → IsWalk order is_good rank items e
+      IsFound order rank items p before from → IsWalk order rank items e
       (rank_or_len rank (length items) from) count last after →
-      IsWindow order same is_good rank items r
+      IsWindow order same rank items r
       (record { before = before; from = from; count = count; last = last; after = after })
       (rank_or_len rank (length items) from)
-  window_is is_good rank items r p e before from last after count known nonempty stored at_start
+  window_is rank items r p e before from last after count known nonempty stored at_start
       at_end found walk =
       let place = rank_or_len rank (length items) from in
       let all = stored.known in

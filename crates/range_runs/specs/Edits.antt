@@ -1,6 +1,6 @@
 -- A bound on its other side, an item with another bound, and what an edit in place leaves as it
 -- was.
-use Rattle.std.specs.Prelude.{◌≡◌}
+use Rattle.std.specs.Prelude.{◌≡◌, ◌<◌, length}
 use Rattle.range_runs.specs.Common.{ℕ, List, slice_index_or, slice_set, Bound, AnyRange, Item}
 use Rattle.std.specs.declared.ops.Bound.TheVariants.{Included, Excluded, Unbounded}
 
@@ -21,7 +21,7 @@ abbrev pub IsEditedAt : {T : Type 0} → List T → List T → ℕ → (T → T)
 IsEditedAt {T} items new index edited = (d : T)
     → new ≡ slice_set items index (edited (slice_index_or items index d))
 
--- each good position is good afterwards, and names the same index
-abbrev pub KeepsPositions : {S P : Type 0} → (S → P → Type 0) → (S → P → ℕ) → S → S → Type 0
-KeepsPositions {S} {P} is_good rank old new = (p : P) → is_good old p
-    → is_good new p × (rank new p ≡ rank old p)
+-- each position of an item names the same index afterwards
+abbrev pub KeepsPositions : {S P T : Type 0} → (S → P → ℕ) → (S → List T) → S → S → Type 0
+KeepsPositions {S} {P} rank items old new = (p : P) → rank old p < length (items old)
+    → rank new p ≡ rank old p

@@ -1,5 +1,5 @@
 -- The items that a range meets, as they stand in a list, and the run of items between two of them.
-use Rattle.std.specs.Prelude.{◌≡◌, ◌+◌, ◌-◌, ◌≤◌, ◌++◌}
+use Rattle.std.specs.Prelude.{◌≡◌, ◌+◌, ◌-◌, ◌<◌, ◌≤◌, ◌++◌, length}
 use Rattle.range_runs.specs.Common.{ℕ, List, [], take, drop, Option, Some, None, ⊤, Bor, Every, KeyOrder, LiesBefore, AnyRange, Item}
 use Rattle.range_runs.specs.Lookups.{Overlap}
 
@@ -18,10 +18,10 @@ module _ {K : Type 0} (order : KeyOrder K) {V : Type 0} where
     pub meet : Every (λ i. Overlap order i.key r) met
     pub above : Every (λ i. LiesBefore order r i.key) after
 
--- two good positions in order, unless there are none
-abbrev pub AreRunEnds : {P : Type 0} → (P → Type 0) → (P → ℕ) → Option (P × P) → Type 0
-AreRunEnds is_good rank None = ⊤
-AreRunEnds is_good rank (Some ends) = is_good ends.0 × is_good ends.1 × (rank ends.0 ≤ rank ends.1)
+-- two positions in order, unless there are none
+abbrev pub AreRunEnds : {P X : Type 0} → (P → ℕ) → List X → Option (P × P) → Type 0
+AreRunEnds rank items None = ⊤
+AreRunEnds rank items (Some ends) = (rank ends.0 ≤ rank ends.1) × (rank ends.1 < length items)
 
 -- the items from the one position to the other
 abbrev pub run_items : {P X : Type 0} → (P → ℕ) → List X → Option (P × P) → List X

@@ -130,8 +130,7 @@ pub fn gather<
     f: &F,
 ) -> Result<Vec<Item<AnyRange<K>, V>>, UpdateError<E>>
     requires keys { ClonesAreEqual K.is_clone K.eq }
-    requires window { IsWindowOf K.order V.eq C.is_good C.rank C.items stored.now range.now
-        window.now }
+    requires window { IsWindowOf K.order V.eq C.rank C.items stored.now range.now window.now }
     requires free { MayBeAsked F.Fn f.now None }
     requires bound { Every (λ i. MayBeAsked F.Fn f.now (Some i.value)) (C.items stored.now) }
     ensures ok { IfOk result

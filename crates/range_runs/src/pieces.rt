@@ -72,8 +72,7 @@ pub fn pieces_within<'a, K: Measure, V: Eq + Drop, C: Storage<Item<AnyRange<K>, 
     window: &Window<C::Position>,
     range: &'a AnyRange<K>,
 ) -> Pieces<'a, K, V, C>
-    requires window { IsWindowOf K.order V.eq C.is_good C.rank C.items stored.now range.now
-        window.now }
+    requires window { IsWindowOf K.order V.eq C.rank C.items stored.now range.now window.now }
     ensures { let index = rank_or_len (C.rank stored.now) (length (C.items stored.now))
         window.now.from in result
         ≡ pieces_of K.order range.now (take window.now.count (drop index (C.items stored.now))) }

@@ -1,12 +1,13 @@
 //! Runs of stored items, from both ends.
-ghost use Rattle.std.specs.Prelude.{◌≡◌, ◌∷◌, ◌++◌, [], ⊤, Some, length, take, drop, ◌-◌, MatchOption};
+ghost use Rattle.std.specs.Prelude.{◌≡◌, ◌∷◌, ◌++◌, [], ⊤, Some, length, take, drop, ◌-◌, ◌<◌, ◌≤◌, MatchOption};
 ghost use Rattle.std.specs.Iterator.{YieldsFirstBy, YieldsLastBy, item_count};
 ghost use Rattle.std.specs.Ordering.{is_gt};
 ghost use Rattle.range_keys.specs.Position.{position_cmp, start_position};
-ghost use Rattle.range_store.specs.ListRanks.{IsAt, rank_or_len};
+ghost use Rattle.std.specs.Option.{ForSome};
+ghost use Rattle.range_store.specs.ListRanks.{rank_or_len};
 ghost use Rattle.range_runs.specs.Runs.{AreRunEnds, run_items, shown_item};
 ghost use Rattle.range_runs.specs.Stored.{IsStored};
-ghost use Rattle.range_runs.specs.Window.{IsJustBefore, index_after};
+ghost use Rattle.range_runs.specs.Window.{index_after};
 
 use crate::window::starts_past;
 use range_algebra::any::AnyRange;
@@ -49,7 +50,7 @@ impl<'a, K: PartialEnum + 'a, V: Eq + 'a, C: Storage<Item<AnyRange<K>, V>> + 'a>
     ghost view = { λ o. o.near ++ run_items (C.rank o.stored.now) (C.items o.stored.now) o.ends };
 
     ghost invariant = { λ o. IsStored K.order V.eq (C.items o.stored.now)
-        × AreRunEnds (C.is_good o.stored.now) (C.rank o.stored.now) o.ends };
+        × AreRunEnds (C.rank o.stored.now) (C.items o.stored.now) o.ends };
 }
 
 impl<'a, K: PartialEnum + 'a, V: Eq + 'a, C: Storage<Item<AnyRange<K>, V>> + 'a> Overlapping<
@@ -61,7 +62,7 @@ impl<'a, K: PartialEnum + 'a, V: Eq + 'a, C: Storage<Item<AnyRange<K>, V>> + 'a>
     /// The items of a run of a container.
     pub fn new(stored: &'a C, ends: Option<(C::Position, C::Position)>) -> Self
         requires stored { IsStored K.order V.eq (C.items stored.now) }
-        requires run { AreRunEnds (C.is_good stored.now) (C.rank stored.now) ends }
+        requires run { AreRunEnds (C.rank stored.now) (C.items stored.now) ends }
         ensures { result ≡ run_items (C.rank stored.now) (C.items stored.now) ends }
     {
         Overlapping {
@@ -124,8 +125,8 @@ fn split_first<'a, K: PartialEnum, V: Eq, C: Storage<Item<AnyRange<K>, V>>>(
     singles: u8,
 ) -> Front<'a, Item<AnyRange<K>, V>, C::Position>
     requires stored { IsStored K.order V.eq (C.items stored.now) }
-    requires run { AreRunEnds (C.is_good stored.now) (C.rank stored.now) (Some (first, last)) }
-    ensures run { AreRunEnds (C.is_good stored.now) (C.rank stored.now) result.ends }
+    requires run { AreRunEnds (C.rank stored.now) (C.items stored.now) (Some (first, last)) }
+    ensures run { AreRunEnds (C.rank stored.now) (C.items stored.now) result.ends }
     ensures items { run_items (C.rank stored.now) (C.items stored.now) (Some (first, last))
         ≡ result.item.now ∷ (result.near
         ++ run_items (C.rank stored.now) (C.items stored.now) result.ends) }
@@ -186,13 +187,13 @@ fn take_first<'a, K: PartialEnum, V: Eq, C: Storage<Item<AnyRange<K>, V>>>(
 ) -> Option<&'a Item<AnyRange<K>, V>>
     requires stored { IsStored K.order V.eq (C.items stored.now) }
     requires near { near.old ≡ [] }
-    requires run { AreRunEnds (C.is_good stored.now) (C.rank stored.now) ends.old }
+    requires run { AreRunEnds (C.rank stored.now) (C.items stored.now) ends.old }
     ensures items { MatchOption result
         (run_items (C.rank stored.now) (C.items stored.now) ends.old ≡ [])
         (λ item. run_items (C.rank stored.now) (C.items stored.now) ends.old
         ≡ item.now ∷ (near.new ++ run_items (C.rank stored.now) (C.items stored.now) ends.new)) }
     ensures none { MatchOption result ((near.new ≡ []) × (ends.new ≡ ends.old)) (λ _. ⊤) }
-    ensures run { AreRunEnds (C.is_good stored.now) (C.rank stored.now) ends.new }
+    ensures run { AreRunEnds (C.rank stored.now) (C.items stored.now) ends.new }
 {
     let (first, last) = (*ends)?;
     let front = split_first::<K, V, C>(stored, first, last, *singles);
@@ -209,8 +210,8 @@ fn split_last<'a, K: PartialEnum, V: Eq, C: Storage<Item<AnyRange<K>, V>>>(
     last: C::Position,
 ) -> (Option<(C::Position, C::Position)>, &'a Item<AnyRange<K>, V>)
     requires stored { IsStored K.order V.eq (C.items stored.now) }
-    requires run { AreRunEnds (C.is_good stored.now) (C.rank stored.now) (Some (first, last)) }
-    ensures run { AreRunEnds (C.is_good stored.now) (C.rank stored.now) result.0 }
+    requires run { AreRunEnds (C.rank stored.now) (C.items stored.now) (Some (first, last)) }
+    ensures run { AreRunEnds (C.rank stored.now) (C.items stored.now) result.0 }
     ensures items { run_items (C.rank stored.now) (C.items stored.now) (Some (first, last))
         ≡ run_items (C.rank stored.now) (C.items stored.now) result.0 ++ result.1.now ∷ [] }
 {
@@ -232,11 +233,9 @@ pub fn run_between<K: PartialEnum, V: Eq, C: Storage<Item<AnyRange<K>, V>>>(
     last: Option<C::Position>,
 ) -> Option<(C::Position, C::Position)>
     requires stored { IsStored K.order V.eq (C.items stored.now) }
-    requires first { IsAt (C.is_good stored.now) (C.rank stored.now) (length (C.items stored.now))
-        first (rank_or_len (C.rank stored.now) (length (C.items stored.now)) first) }
-    requires last { IsJustBefore (C.is_good stored.now) (C.rank stored.now) last
-        (index_after (C.rank stored.now) last) }
-    ensures run { AreRunEnds (C.is_good stored.now) (C.rank stored.now) result }
+    requires first { ForSome first (λ p. C.rank stored.now p < length (C.items stored.now)) }
+    requires last { index_after (C.rank stored.now) last ≤ length (C.items stored.now) }
+    ensures run { AreRunEnds (C.rank stored.now) (C.items stored.now) result }
     ensures items { let index = rank_or_len (C.rank stored.now) (length (C.items stored.now)) first
         in run_items (C.rank stored.now) (C.items stored.now) result
         ≡ take (index_after (C.rank stored.now) last - index) (drop index (C.items stored.now)) }

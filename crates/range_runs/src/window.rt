@@ -1,7 +1,7 @@
 //! Which stored items a range meets.
 //!
 //! All of a search is in line, so that its bounds stay in registers and no window is copied.
-ghost use Rattle.std.specs.Prelude.{◌≡◌, ◌+◌, length};
+ghost use Rattle.std.specs.Prelude.{◌≡◌, ◌+◌, ◌<◌, length};
 ghost use Rattle.std.specs.Option.{ForSome};
 ghost use Rattle.range_keys.specs.Directed.{reference_position};
 ghost use Rattle.range_keys.specs.Position.{position_cmp, start_position, end_position};
@@ -10,7 +10,7 @@ ghost use Rattle.range_algebra.specs.Range.{IsEmptyRange};
 ghost use Rattle.range_store.specs.Counting.{AddsSteps};
 ghost use Rattle.range_store.specs.ListRanks.{rank_or_len};
 ghost use Rattle.range_runs.specs.Stored.{IsStored};
-ghost use Rattle.range_runs.specs.Window.{IsFound, IsLastStarting, IsWalk, IsWindowOf, index_after};
+ghost use Rattle.range_runs.specs.Window.{IsFound, IsLastStarting, IsWalk, IsWindowOf};
 
 use crate::probe::{EndsBefore, StartsBy};
 use range_algebra::any::AnyRange;
@@ -45,7 +45,7 @@ pub fn find<K: PartialEnum, V: Eq + Drop, C: Storage<Item<AnyRange<K>, V>>>(
     steps: &mut Steps,
 ) -> (Option<C::Position>, Option<C::Position>)
     requires { IsStored K.order V.eq (C.items stored.now) }
-    ensures found { IsFound K.order (C.is_good stored.now) (C.rank stored.now) (C.items stored.now)
+    ensures found { IsFound K.order (C.rank stored.now) (C.items stored.now)
         (reference_position K.order bound.now) result.0 result.1 }
     ensures counted { AddsSteps steps.old steps.new (C.least_asks stored.now)
         (C.most_asks stored.now) }
@@ -71,9 +71,8 @@ pub fn find_last_started<K: PartialEnum, V: Eq + Drop, C: Storage<Item<AnyRange<
     steps: &mut Steps,
 ) -> Option<C::Position>
     requires { IsStored K.order V.eq (C.items stored.now) }
-    ensures found { IsLastStarting K.order (C.is_good stored.now) (C.rank stored.now)
-        (C.items stored.now) (reference_position K.order bound.now) result
-        (index_after (C.rank stored.now) result) }
+    ensures found { IsLastStarting K.order (C.rank stored.now) (C.items stored.now)
+        (reference_position K.order bound.now) result }
     ensures counted { AddsSteps steps.old steps.new (C.least_asks stored.now)
         (C.most_asks stored.now) }
     ensures idle { length (C.items stored.now) ≡ 0 → C.most_asks stored.now ≡ 0 }
@@ -138,9 +137,9 @@ pub fn walk<K: PartialEnum, V: Eq + Drop, C: Storage<Item<AnyRange<K>, V>>>(
     end: &Directed<Bound<&K>>,
     steps: &mut Steps,
 ) -> (usize, Option<C::Position>, Option<C::Position>)
-    requires { ForSome from (C.is_good stored.now) }
+    requires { ForSome from (λ p. C.rank stored.now p < length (C.items stored.now)) }
     ensures walked { let index = rank_or_len (C.rank stored.now) (length (C.items stored.now))
-        from in IsWalk K.order (C.is_good stored.now) (C.rank stored.now) (C.items stored.now)
+        from in IsWalk K.order (C.rank stored.now) (C.items stored.now)
         (reference_position K.order end.now) index result.0 result.1 result.2 }
     ensures counted { AddsSteps steps.old steps.new 0 (result.0 + 1) }
 {
@@ -169,8 +168,7 @@ pub fn find_window<
 >(stored: &C, range: &R, steps: &mut Steps) -> Window<C::Position>
     requires stored { IsStored K.order V.eq (C.items stored.now) }
     requires nonempty { ¬ IsEmptyRange K.order (R.range range.now) }
-    ensures window { IsWindowOf K.order V.eq C.is_good C.rank C.items stored.now (R.range range.now)
-        result }
+    ensures window { IsWindowOf K.order V.eq C.rank C.items stored.now (R.range range.now) result }
     ensures counted { AddsSteps steps.old steps.new (C.least_asks stored.now)
         (C.most_asks stored.now + result.count + 1) }
 {

@@ -183,13 +183,10 @@ pub trait Storage<T>: Drop {
     /// How many items can be inserted without an allocation.
     ghost room: { Self → ℕ };
 
-    /// Whether a position may be used.
-    ghost is_good: { Self → Self.Position → Type 0 };
-
-    /// The rank of a good position.
+    /// The rank of a position, which may be used where this is below the length.
     ghost rank: { Self → Self.Position → ℕ };
 
-    /// The container with another item at a good position.
+    /// The container with another item at a position.
     ghost with_item: { Self → Self.Position → T → Self };
 
     /// The least and the greatest number of items that one search asks.
@@ -207,28 +204,28 @@ pub trait Storage<T>: Drop {
 
     /// The position of the first item, or none where there is no item.
     fn first(&self) -> Option<Self::Position>
-        ensures { IsAt (is_good self.now) (rank self.now) (length (items self.now)) result 0 };
+        ensures { IsAt (rank self.now) (length (items self.now)) result 0 };
 
     /// The position of the last item, or none where there is no item.
     fn last(&self) -> Option<Self::Position>
         ensures { MatchOption result (items self.now ≡ [])
-            (λ p. is_good self.now p × (rank self.now p + 1 ≡ length (items self.now))) };
+            (λ p. rank self.now p + 1 ≡ length (items self.now)) };
 
     /// The position after this one, or none after the last item.
     fn next(&self, p: Self::Position) -> Option<Self::Position>
-        requires { is_good self.now p }
-        ensures { IsAt (is_good self.now) (rank self.now) (length (items self.now)) result
+        requires { rank self.now p < length (items self.now) }
+        ensures { IsAt (rank self.now) (length (items self.now)) result
             (rank self.now p + 1) };
 
     /// The position before this one, or none before the first item.
     fn prev(&self, p: Self::Position) -> Option<Self::Position>
-        requires { is_good self.now p }
+        requires { rank self.now p < length (items self.now) }
         ensures { MatchOption result (rank self.now p ≡ 0)
-            (λ q. is_good self.now q × (rank self.now q + 1 ≡ rank self.now p)) };
+            (λ q. rank self.now q + 1 ≡ rank self.now p) };
 
     /// The item at a position.
     fn get(&self, p: Self::Position) -> &T
-        requires { is_good self.now p }
+        requires { rank self.now p < length (items self.now) }
         ensures { result.now ≡ slice_index_or (items self.now) (rank self.now p) result.now };
 
     /// The item at a position, the items after it that lie together, and the position after these.
@@ -236,12 +233,12 @@ pub trait Storage<T>: Drop {
     ///
     /// The default gives one item.
     fn chunk_from(&self, p: Self::Position) -> Chunk<'_, T, Self::Position>
-        requires { is_good self.now p }
+        requires { rank self.now p < length (items self.now) }
         ensures first { result.first.now
             ≡ slice_index_or (items self.now) (rank self.now p) result.first.now }
         ensures rest { result.rest ≡ take (length result.rest)
             (drop (rank self.now p + 1) (items self.now)) }
-        ensures after { IsAt (is_good self.now) (rank self.now) (length (items self.now))
+        ensures after { IsAt (rank self.now) (length (items self.now))
             result.after (rank self.now p + 1 + length result.rest) }
     {
         Chunk {
@@ -253,19 +250,19 @@ pub trait Storage<T>: Drop {
 
     /// The item at a position, to be changed where it stands. Allocates nothing.
     fn get_mut(&mut self, p: Self::Position) -> &mut T
-        requires { is_good self.old p }
+        requires { rank self.old p < length (items self.old) }
         ensures* writes_back { sem 𝓛
             (Lends Self.row T.row self.entry result (with_item self.old p)) }
         ensures value { result.now ≡ slice_index_or (items self.old) (rank self.old p) result.now };
 
     /// Puts the item at the position, and returns the one that stood there. Allocates nothing.
     fn replace(&mut self, p: Self::Position, item: T) -> T
-        requires { is_good self.old p }
+        requires { rank self.old p < length (items self.old) }
         ensures before { result ≡ slice_index_or (items self.old) (rank self.old p) result }
         ensures list { items self.new ≡ slice_set (items self.old) (rank self.old p) item }
         ensures space { room self.old ≤ room self.new }
-        ensures positions { (q : Self.Position) → is_good self.old q
-            → is_good self.new q × (rank self.new q ≡ rank self.old q) };
+        ensures positions { (q : Self.Position) → rank self.old q < length (items self.old)
+            → rank self.new q ≡ rank self.old q };
 
     /// The position of the last item for which the probe returns true, or none.
     ///
@@ -274,8 +271,7 @@ pub trait Storage<T>: Drop {
     fn search<P: Probe<T>>(&self, probe: &mut P) -> Option<Self::Position>
         requires { IsPartitionedBy (P.test probe.old) (items self.now) }
         ensures found { MatchOption result (IsFrontOf (P.test probe.old) (items self.now) 0)
-            (λ p. is_good self.now p
-            × IsFrontOf (P.test probe.old) (items self.now) (rank self.now p + 1)) }
+            (λ p. IsFrontOf (P.test probe.old) (items self.now) (rank self.now p + 1)) }
         ensures test_kept { (x : T) → P.test probe.new x ≡ P.test probe.old x }
         ensures asked { AddsSteps (P.steps_taken probe.old) (P.steps_taken probe.new)
             (least_asks self.now) (most_asks self.now) };
@@ -289,23 +285,22 @@ pub trait Storage<T>: Drop {
         ensures ok { OnOk result (n ≤ room self.new) }
         ensures succeeds { n ≤ room self.old → IsOk result }
         ensures space { room self.old ≤ room self.new }
-        ensures positions { (q : Self.Position) → is_good self.old q
-            → is_good self.new q × (rank self.new q ≡ rank self.old q) };
+        ensures positions { (q : Self.Position) → rank self.old q < length (items self.old)
+            → rank self.new q ≡ rank self.old q };
 
     /// Puts the item before the one at the position, or after all others, and returns its position.
     ///
     /// Takes from the capacity, and never fails. A vector moves all items after it, a B-tree
     /// changes nodes on the path to its root.
     fn insert_at(&mut self, before: Option<Self::Position>, item: T) -> Self::Position
-        requires good { ForSome before (λ p. is_good self.old p) }
+        requires good { ForSome before (λ p. rank self.old p < length (items self.old)) }
         requires has_room { 1 ≤ room self.old }
         ensures list { items self.new
             ≡ insert (items self.old)
             (rank_or_len (λ q. rank self.old q) (length (items self.old)) before) item }
         ensures space { room self.old ≡ room self.new + 1 }
-        ensures position { is_good self.new result
-            × (rank self.new result
-            ≡ rank_or_len (λ q. rank self.old q) (length (items self.old)) before) };
+        ensures position { rank self.new result
+            ≡ rank_or_len (λ q. rank self.old q) (length (items self.old)) before };
 
     /// Puts the items, in their order, after all others.
     ///
@@ -329,11 +324,11 @@ pub trait Storage<T>: Drop {
     /// Never fails, and leaves room for one more item than there was. A vector moves all items
     /// after it, a B-tree changes nodes up to its root.
     fn remove_at(&mut self, p: Self::Position) -> (T, Option<Self::Position>)
-        requires { is_good self.old p }
+        requires { rank self.old p < length (items self.old) }
         ensures removed { result.0 ≡ slice_index_or (items self.old) (rank self.old p) result.0 }
         ensures list { items self.new ≡ remove (items self.old) (rank self.old p) }
         ensures space { room self.old + 1 ≤ room self.new }
-        ensures following { IsAt (is_good self.new) (rank self.new) (length (items self.new))
+        ensures following { IsAt (rank self.new) (length (items self.new))
             result.1 (rank self.old p) };
 
     /// Takes the first item out, or returns none where there is no item. Leaves room for one more
@@ -362,18 +357,11 @@ pub trait Storage<T>: Drop {
         ensures { IfOk result
             (λ copy. AllZip (λ x y. T.eq y x ≡ true) (items self.now) (items copy)) };
 
-    /// A good position names a rank below the length.
-    ghost good_is_in_range: { (s : Self) (p : Self.Position) → is_good s p
-        → rank s p < length (items s) };
-
     /// What is written to a lent item stands at its rank, and nothing else changes.
     ghost items_with: { (s : Self) (p : Self.Position) (x : T)
         → items (with_item s p x) ≡ slice_set (items s) (rank s p) x };
 
     ghost room_with: { (s : Self) (p : Self.Position) (x : T) → room (with_item s p x) ≡ room s };
-
-    ghost good_with: { (s : Self) (p : Self.Position) (x : T) (q : Self.Position)
-        → is_good s q → is_good (with_item s p x) q };
 
     ghost rank_with: { (s : Self) (p : Self.Position) (x : T) (q : Self.Position)
         → rank (with_item s p x) q ≡ rank s q };

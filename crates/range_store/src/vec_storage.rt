@@ -2,7 +2,7 @@
 ghost use Rattle.std.specs.Prelude.{◌≡◌, ℕ, ◌+◌, ◌-◌, ◌<◌, ◌≤◌, ◌++◌, List, length, insert, vec_len, vec_capacity};
 ghost use Rattle.std.specs.Option.{ForSome};
 ghost use Rattle.std.proofs.Common.{arith, refl};
-ghost use Rattle.range_store.specs.Rewriting.{with_vec_item, good_with};
+ghost use Rattle.range_store.specs.Rewriting.{with_vec_item};
 ghost use Rattle.range_store.specs.ListRanks.{rank_or_len};
 
 use crate::storage::{Chunk, Probe, Run, Storage};
@@ -25,8 +25,6 @@ impl<T: Drop> Storage<T> for VecStorage<T> {
     ghost items = { λ s. s.stored.items };
 
     ghost room = { λ s. vec_capacity s.stored - vec_len s.stored };
-
-    ghost is_good = { λ s p. p.0 < length s.stored.items };
 
     ghost rank = { λ s p. p.0 };
 
@@ -111,8 +109,8 @@ impl<T: Drop> Storage<T> for VecStorage<T> {
             (rank_or_len (λ q. q.0) (length self.old.stored.items) before) item }
         ensures space { vec_capacity self.old.stored - vec_len self.old.stored
             ≡ vec_capacity self.new.stored - vec_len self.new.stored + 1 }
-        ensures position { (result.0 < length self.new.stored.items)
-            × (result.0 ≡ rank_or_len (λ q. q.0) (length self.old.stored.items) before) }
+        ensures position { result.0
+            ≡ rank_or_len (λ q. q.0) (length self.old.stored.items) before }
     {
         let at = before.unwrap_or(VecPosition(self.stored.len()));
         self.stored.insert(at.0, item).unwrap();
@@ -156,13 +154,9 @@ impl<T: Drop> Storage<T> for VecStorage<T> {
         })
     }
 
-    ghost good_is_in_range = { λ s p h. h };
-
     ghost items_with = { λ s p x. refl };
 
     ghost room_with = { λ s p x. refl };
-
-    ghost good_with = { λ s p x q h. good_with s p.0 x q.0 h };
 
     ghost rank_with = { λ s p x q. refl };
 

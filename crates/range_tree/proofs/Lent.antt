@@ -131,8 +131,8 @@ module _ {T : Type 0} {s : BoxStorage T} {edge : Edge} (good : IsGood s edge) wh
       → x ≡ get_or (box_items s) (box_rank s edge) x
   item_home home at x here = grind (arith, good_item)
 
--- nodes of the same shape keep the positions
-pub good_same : {T : Type 0} {s : BoxStorage T} (t : BoxStorage T) → SameShape s.nodes t.nodes
-    → t.levels ≡ s.levels → t.root ≡ s.root → (q : Edge) → IsGood s q → IsGood t q ×
-    (box_rank t q ≡ box_rank s q)
-good_same t shape levels root q good = grind (arith, place_same, edge_same)
+-- nodes of the same shape keep the ranks
+pub rank_same : {T : Type 0} {s : BoxStorage T} (t : BoxStorage T) → SameShape s.nodes t.nodes
+    → t.levels ≡ s.levels → t.root ≡ s.root → (q : Edge) → IsGood s q
+    → box_rank t q ≡ box_rank s q
+rank_same t shape levels root q good = grind (arith, place_same, edge_same)

@@ -3,7 +3,7 @@ use Rattle.std.proofs.Common.{◌≡◌, ℕ, ◌+◌, ◌-◌, ◌<◌, Bool, [
 use Rattle.std.specs.Prelude.{MatchOption}
 use Rattle.range_tree.specs.Edges.{IsEdge, offset}
 use Rattle.range_tree.specs.Nodes.{items_below}
-use Rattle.range_tree.specs.Holding.{box_items, box_offset, box_rank, edge_or_end, IsBoxEdge, IsGood, IsNextEdge}
+use Rattle.range_tree.specs.Holding.{box_items, box_offset, box_rank, edge_or_end, good_in_range, IsBoxEdge, IsGood, IsNextEdge}
 use Rattle.range_tree.specs.Falling.{Falls}
 use Rattle.range_store.specs.ListRanks.{IsAt, IsFrontOf}
 use Rattle.range_tree.specs.declared.btree.BoxStorage.{BoxStorage}
@@ -17,8 +17,8 @@ module _ {T : Type 0} (s : BoxStorage T) where
   good_from is some = grind arith
 
   pub next_at : (rank : ℕ) (edge : Option Edge) → IsNextEdge s edge rank
-      → IsAt (IsGood s) (box_rank s) (length (box_items s)) edge rank
-  next_at rank edge at = grind arith
+      → IsAt (box_rank s) (length (box_items s)) edge rank
+  next_at rank edge at = grind (arith, good_from, good_in_range)
 
   -- the edge after an item, or none, from what is known below the root
   pub next_from : (rank : ℕ) → 0 < s.levels → (edge : Option Edge)
@@ -39,5 +39,5 @@ module _ {T : Type 0} (s : BoxStorage T) where
       → MatchOption edge (count_by test (box_items s) ≡ 0)
       (λ g. IsBoxEdge s g × (0 < box_offset s g) × (box_offset s g ≡ count_by test (box_items s)))
       → MatchOption edge (IsFrontOf test (box_items s) 0)
-      (λ p. IsGood s p × IsFrontOf test (box_items s) (box_rank s p + 1))
-  front_found test falls edge found = grind (arith, falling_front)
+      (λ p. IsFrontOf test (box_items s) (box_rank s p + 1))
+  front_found test falls edge found = grind (arith, good_from, falling_front)

@@ -130,6 +130,16 @@ module _ {T : Type 0} where
       → box_rank s edge ≡ box_offset s edge - 1
   rank_is {s} {edge} good = rank_when (good_or_not s edge) good
 
+  good_when : {s : BoxStorage T} {edge : Edge} (decided : Decided s edge)
+      → rank_as s edge decided < length (box_items s) → IsGood s edge
+  good_when (inl good) below = good
+  good_when (inr bad) below = absurd (omega (arith, below))
+
+  -- an edge whose rank is below the length is good
+  pub good_below : {s : BoxStorage T} {edge : Edge} → box_rank s edge < length (box_items s)
+      → IsGood s edge
+  good_below {s} {edge} below = good_when (good_or_not s edge) below
+
   -- the item before a good edge has a home
   pub good_home : {s : BoxStorage T} {edge : Edge} → IsGood s edge → IsHome s.nodes (s.levels - 1)
       s.root (box_home s edge).node (box_home s edge).index (box_offset s edge - 1)
@@ -247,15 +257,6 @@ module _ {T : Type 0} where
   pub room_with_box_item : (s : BoxStorage T) (edge : Edge) (x : T)
       → box_room (with_box_item s edge x) ≡ box_room s
   room_with_box_item s edge x = room_as s edge (good_or_not s edge) x
-
-  good_as : {s : BoxStorage T} (edge : Edge) (decided : Decided s edge) (x : T) {other : Edge}
-      → IsGood s other → IsGood (with_item_as s edge decided x) other
-  good_as {s} edge (inl good) x {other} is = (good_then s edge good x is).0
-  good_as edge (inr bad) x is = is
-
-  pub good_with_box_item : (s : BoxStorage T) (edge : Edge) (x : T) (other : Edge) → IsGood s other
-      → IsGood (with_box_item s edge x) other
-  good_with_box_item s edge x other is = good_as edge (good_or_not s edge) x is
 
   rank_of : (s : BoxStorage T) (edge : Edge) (decided : Decided s edge) (x : T) (other : Edge)
       → box_rank (with_item_as s edge decided x) other ≡ box_rank s other

@@ -71,15 +71,13 @@ impl<T: Drop> BoxStorage<T> {
 
 impl<T: Drop> Storage<T> for BoxStorage<T> {
     ghost use Rattle.range_tree.specs.declared.btree.searching.TheConstants.{MAX_ASKS};
-    ghost use Rattle.range_tree.specs.Holding.{box_items, box_offset, box_rank, box_room, box_rank_or_len, IsGood, with_box_item, items_with_box_item, room_with_box_item, good_with_box_item, rank_with_box_item, good_in_range, items_fit, none_asked_of_empty};
+    ghost use Rattle.range_tree.specs.Holding.{box_items, box_offset, box_rank, box_room, box_rank_or_len, with_box_item, items_with_box_item, room_with_box_item, rank_with_box_item, items_fit, none_asked_of_empty};
 
     type Position = Edge;
 
     ghost items = { λ s. box_items s };
 
     ghost room = { λ s. box_room s };
-
-    ghost is_good = { λ s p. IsGood s p };
 
     ghost rank = { λ s p. box_rank s p };
 
@@ -126,10 +124,12 @@ impl<T: Drop> Storage<T> for BoxStorage<T> {
         self.end()
     }
 
+    #[tactic(auto, using(crate::specs::Holding::good_below))]
     fn next(&self, p: Edge) -> Option<Edge> {
         self.following(p)
     }
 
+    #[tactic(auto, using(crate::specs::Holding::good_below))]
     fn prev(&self, p: Edge) -> Option<Edge> {
         let edge = self.edge_before(p)?;
         if stands_first(edge) {
@@ -138,6 +138,7 @@ impl<T: Drop> Storage<T> for BoxStorage<T> {
         Some(edge)
     }
 
+    #[tactic(auto, using(crate::specs::Holding::good_below))]
     fn get(&self, p: Edge) -> &T {
         let home = self.home(p);
         self.nodes.item_at(home.node, home.index)
@@ -145,6 +146,7 @@ impl<T: Drop> Storage<T> for BoxStorage<T> {
 
     // Lends the rest of the edge's leaf, also where the item stands above the leaves. It stands in
     // its caller, so that nothing is copied; the walk is out of line.
+    #[tactic(auto, using(crate::specs::Holding::good_below))]
     #[inline(always)]
     fn chunk_from(&self, p: Edge) -> Chunk<'_, T, Edge> {
         let (home, behind) = around_leaf(&self.nodes, self.levels - 1, self.root, p);
@@ -156,11 +158,13 @@ impl<T: Drop> Storage<T> for BoxStorage<T> {
         }
     }
 
+    #[tactic(auto, using(crate::specs::Holding::good_below))]
     fn get_mut(&mut self, p: Edge) -> &mut T {
         let home = self.home(p);
         self.nodes.item_mut(home.node, home.index)
     }
 
+    #[tactic(auto, using(crate::specs::Holding::good_below))]
     fn replace(&mut self, p: Edge, item: T) -> T {
         let home = self.home(p);
         self.nodes.replace_item(home.node, home.index, item)
@@ -183,14 +187,14 @@ impl<T: Drop> Storage<T> for BoxStorage<T> {
         self.nodes.reserve(self.alloc, wanted - self.nodes.len())
     }
 
+    #[tactic(auto, using(crate::specs::Holding::good_below))]
     fn insert_at(&mut self, before: Option<Edge>, item: T) -> Edge
-        requires good { ForSome before (IsGood self.old) }
+        requires good { ForSome before (λ p. box_rank self.old p < length (box_items self.old)) }
         requires has_room { 1 ≤ box_room self.old }
         ensures list { box_items self.new
             ≡ insert (box_items self.old) (box_rank_or_len self.old before) item }
         ensures space { box_room self.old ≡ box_room self.new + 1 }
-        ensures position { IsGood self.new result
-            × (box_rank self.new result ≡ box_rank_or_len self.old before) }
+        ensures position { box_rank self.new result ≡ box_rank_or_len self.old before }
     {
         let edge = self.edge_at(before);
         self.insert(edge, item)
@@ -211,6 +215,7 @@ impl<T: Drop> Storage<T> for BoxStorage<T> {
         }
     }
 
+    #[tactic(auto, using(crate::specs::Holding::good_below))]
     fn remove_at(&mut self, p: Edge) -> (T, Option<Edge>) {
         self.take(p)
     }
@@ -242,13 +247,9 @@ impl<T: Drop> Storage<T> for BoxStorage<T> {
         Ok(copy)
     }
 
-    ghost good_is_in_range = { λ s p h. good_in_range s p h };
-
     ghost items_with = { λ s p x. items_with_box_item s p x };
 
     ghost room_with = { λ s p x. room_with_box_item s p x };
-
-    ghost good_with = { λ s p x q h. good_with_box_item s p x q h };
 
     ghost rank_with = { λ s p x q. rank_with_box_item s p x q };
 

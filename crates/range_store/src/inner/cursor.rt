@@ -1,6 +1,6 @@
 //! A run of items that others replace where it stands, so that only the difference in number
 //! is inserted or removed.
-ghost use Rattle.std.specs.Prelude.{◌≡◌, ◌+◌, ◌-◌, ◌≤◌, ◌∷◌, ◌++◌, length, take, drop};
+ghost use Rattle.std.specs.Prelude.{◌≡◌, ◌+◌, ◌-◌, ◌<◌, ◌≤◌, ◌∷◌, ◌++◌, length, take, drop};
 ghost use Rattle.std.specs.Option.{ForSome};
 ghost use Rattle.range_store.specs.ListRanks.{rank_or_len, IsAt};
 
@@ -25,7 +25,7 @@ pub fn put<T: Drop, C: Storage<T>>(
     cursor: Cursor<C::Position>,
     item: T,
 ) -> Cursor<C::Position>
-    requires good { ForSome cursor.at (C.is_good stored.old) }
+    requires good { ForSome cursor.at (λ p. C.rank stored.old p < length (C.items stored.old)) }
     requires in_range { rank_or_len (C.rank stored.old) (length (C.items stored.old)) cursor.at
         + cursor.left ≤ length (C.items stored.old) }
     requires space { 1 ≤ cursor.left + C.room stored.old }
@@ -36,7 +36,7 @@ pub fn put<T: Drop, C: Storage<T>>(
     ensures left { result.left ≡ cursor.left - 1 }
     ensures space { C.room stored.old + cursor.left ≤ C.room stored.new + result.left + 1 }
     ensures position { let index = rank_or_len (C.rank stored.old) (length (C.items stored.old))
-        cursor.at in IsAt (C.is_good stored.new) (C.rank stored.new) (length (C.items stored.new))
+        cursor.at in IsAt (C.rank stored.new) (length (C.items stored.new))
         result.at (index + 1) }
 {
     if cursor.left == 0 {
@@ -56,7 +56,7 @@ pub fn put<T: Drop, C: Storage<T>>(
 
 /// Removes the items that are left.
 pub fn remove_rest<T: Drop, C: Storage<T>>(stored: &mut C, cursor: Cursor<C::Position>)
-    requires good { ForSome cursor.at (C.is_good stored.old) }
+    requires good { ForSome cursor.at (λ p. C.rank stored.old p < length (C.items stored.old)) }
     requires in_range { rank_or_len (C.rank stored.old) (length (C.items stored.old)) cursor.at
         + cursor.left ≤ length (C.items stored.old) }
     ensures list { let index = rank_or_len (C.rank stored.old) (length (C.items stored.old))
@@ -73,7 +73,7 @@ pub fn remove_rest<T: Drop, C: Storage<T>>(stored: &mut C, cursor: Cursor<C::Pos
 
 /// Lets one item stand for the whole run.
 pub fn replace_run<T: Drop, C: Storage<T>>(stored: &mut C, cursor: Cursor<C::Position>, item: T)
-    requires good { ForSome cursor.at (C.is_good stored.old) }
+    requires good { ForSome cursor.at (λ p. C.rank stored.old p < length (C.items stored.old)) }
     requires in_range { rank_or_len (C.rank stored.old) (length (C.items stored.old)) cursor.at
         + cursor.left ≤ length (C.items stored.old) }
     requires space { 1 ≤ cursor.left + C.room stored.old }

@@ -42,7 +42,7 @@ returns-in-Ok-clause-divided g c =
     ∙ ap (λ y. front ++ y ∷ []) c.parts-front.ensures.front in
     let start : rank_or_len (storage.rank others) (length (items others)) c.first-first.result
     ≡ 0 =
-    place_at (storage.is_good others) (storage.rank others) (length (items others))
+    place_at (storage.rank others) (length (items others))
     c.first-first.result 0 c.first-first.ensures in
     let listed : items c.insert_at-back.new.self ≡ c.parts-front.result.1 ∷ items others =
     rw start at c.insert_at-back.ensures.list in

@@ -61,7 +61,7 @@ loop-last-preserved g c =
     let same : items others ≡ items c.loop-last.others = c.reserve.ensures.list in
     let start : rank_or_len (storage.rank others) (length (items others)) c.first-first.result
     ≡ 0 =
-    place_at (storage.is_good others) (storage.rank others) (length (items others))
+    place_at (storage.rank others) (length (items others))
     c.first-first.result 0 c.first-first.ensures in
     let put : items c.insert_at-position-in-Some.new.self ≡ last ∷ items others =
     rw start at c.insert_at-position-in-Some.ensures.list in

@@ -1,4 +1,4 @@
-use Rattle.range_edit.proofs.Common.{◌≡◌, ◌&&◌, ap, rules, bound_of, start_position}
+use Rattle.range_edit.proofs.Common.{◌≡◌, ◌&&◌, ap, arith, rules, bound_of, start_position}
 use Rattle.range_edit.proofs.ApartRanges.{gap_is}
 use Rattle.range_edit.proofs.apart.find_gap.Goals as goal
 use Rattle.range_edit.proofs.apart.find_gap.Goals.{then-clear_before, else-clear_before}
@@ -16,8 +16,12 @@ returns g c =
       | else-clear_before w ↦ search rules
     ] in
     gap_is order g.met.K.PartialEnum.lawful g.V.PartialEq.eq g.met.V.Eq.laws (storage.items stored)
-    c.args.range.now c.requires.stored c.known.ensures c.requires.nonempty (storage.is_good stored)
-    (storage.rank stored) (g.met.C.Storage.good_is_in_range stored)
+    c.args.range.now c.requires.stored c.known.ensures c.requires.nonempty (storage.rank stored)
     (start_position order (bound_of c.start_bound.result)) c.find.result.0 c.find.result.1
     c.if-clear_before.result before behind start c.find.ensures.found
     c.is_clear_before-clear_before.ensures c.is_clear_after-clear_after.ensures both
+
+pub is_clear_before-clear_before-requires : goal.is_clear_before-clear_before-requires
+is_clear_before-clear_before-requires g c = λ p is.
+    let at = rw is at c.find.ensures.found.previous in
+    omega (arith, at, c.find.ensures.found.in_range)

@@ -8,5 +8,5 @@ returns-then-is_clear_after g c =
     let stored = c.args.stored.now in
     all_behind g.K.MaybeBounded.order g.met.K.PartialEnum.lawful g.V.PartialEq.eq g.met.V.Eq.laws
     (storage.items stored) c.args.range.now c.requires.stored c.known.ensures c.requires.nonempty
-    (storage.is_good stored) (storage.rank stored) (g.met.C.Storage.good_is_in_range stored)
+    (storage.rank stored)
     c.first-first.result _ c.first-first.ensures c.if-is_clear_after.ensures refl

@@ -7,5 +7,5 @@ returns g c = λ yes.
     let stored = c.args.stored.now in
     all_before g.K.MaybeBounded.order g.met.K.PartialEnum.lawful g.V.PartialEq.eq g.met.V.Eq.laws
     (storage.items stored) c.args.range.now c.requires.stored c.known.ensures c.requires.nonempty
-    (storage.is_good stored) (storage.rank stored) (g.met.C.Storage.good_is_in_range stored)
+    (storage.rank stored)
     c.last-last.result c.is_clear_before.result c.last-last.ensures c.is_clear_before.ensures yes

@@ -7,6 +7,6 @@ returns-in-Some g c =
     let stored = c.args.stored.now in
     let p = c.in-Some.p in
     let y = c.get.result.now in
-    let within = g.met.C.Storage.good_is_in_range stored p (c.requires p c.in-Some.is) in
+    let within = c.requires p c.in-Some.is in
     rw c.in-Some.is (λ x is. rw (is ∙ sym (get_or_read (storage.items stored)
     (storage.rank stored p) y within c.get.ensures x)) c.lies_apart.ensures)

@@ -17,7 +17,7 @@ returns-clause-ok g c =
     let cloned = c.in_ok-parts.ensures in
     let end = rw (c.start_bound-start.ensures tt) at cloned.end in
     let start = rw (c.end_bound-end.ensures tt) at cloned.start in
-    let rank = (c.prepare_parts.ensures.positions c.args.p within.good).1 in
+    let rank = c.prepare_parts.ensures.positions c.args.p within.good in
     let new = storage.items c.divide.new.stored in
     divided_around lawful equal within x c.get.ensures parts end start cloned.value _ new _
     c.prepare_parts.ensures.list rank c.args.value (sym c.if-joins.ensures) c.divide.ensures.list

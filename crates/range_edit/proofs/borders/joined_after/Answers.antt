@@ -8,7 +8,7 @@ returns-then-eq-clause-joined g c =
     let items = storage.items stored in
     let rank = storage.rank stored c.in-Some.after in
     let after = rw c.in-Some.is at c.requires.after_is in
-    let within = g.met.C.Storage.good_is_in_range stored c.in-Some.after after.0 in (
+    let within = after.0 in (
       after.0,
       after.1,
       λ d. rw (

@@ -10,7 +10,7 @@ returns-clause-value g c = λ d.
     let x = c.get.result.now in
     let kept = c.reserve.ensures.positions p c.requires.good in
     let read : x ≡ get_or items (storage.rank stored p) x =
-    rw (c.reserve.ensures.list, kept.1) at c.get.ensures in
+    rw (c.reserve.ensures.list, kept) at c.get.ensures in
     rw (← get_or_read items (storage.rank stored p) x
-    (g.met.C.Storage.good_is_in_range stored p c.requires.good) read d)
+    c.requires.good read d)
     (c.requires.values x.value c.in_ok-clone.field-0 c.in_ok-clone.ensures.cases)

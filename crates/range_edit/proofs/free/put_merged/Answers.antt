@@ -6,15 +6,13 @@ use Rattle.range_edit.proofs.free.put_merged.Goals as goal
 
 pub run_length-requires-clause-fits : goal.run_length-requires-clause-fits
 run_length-requires-clause-fits g c =
-    let plan = plan_one g.met.K.PartialEnum.lawful g.met.V.Eq.laws
-    (g.met.C.Storage.good_is_in_range c.args.stored.now) c.requires.reach c.requires.apart
+    let plan = plan_one g.met.K.PartialEnum.lawful g.met.V.Eq.laws c.requires.reach c.requires.apart
     c.requires.left c.requires.right c.run_start.ensures refl c.requires.before c.requires.after in
     omega (arith, plan.ends, plan.within, g.met.C.Storage.length_fits c.args.stored.now)
 
 pub change-requires : goal.change-requires
 change-requires g c =
-    let plan = plan_one g.met.K.PartialEnum.lawful g.met.V.Eq.laws
-    (g.met.C.Storage.good_is_in_range c.args.stored.now) c.requires.reach c.requires.apart
+    let plan = plan_one g.met.K.PartialEnum.lawful g.met.V.Eq.laws c.requires.reach c.requires.apart
     c.requires.left c.requires.right c.run_start.ensures c.run_length.ensures c.requires.before
     c.requires.after in
     let fit = planned_fits plan c.reserve.ensures.positions c.reserve.ensures.list in
@@ -30,7 +28,7 @@ pub returns-in-Ok : goal.returns-in-Ok
 returns-in-Ok g c =
     let lawful = g.met.K.PartialEnum.lawful in
     let equal = g.met.V.Eq.laws in
-    let plan = plan_one lawful equal (g.met.C.Storage.good_is_in_range c.args.stored.now)
+    let plan = plan_one lawful equal
     c.requires.reach c.requires.apart c.requires.left c.requires.right c.run_start.ensures
     c.run_length.ensures c.requires.before c.requires.after in
     let left = plan.left in

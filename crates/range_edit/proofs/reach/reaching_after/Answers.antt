@@ -11,7 +11,7 @@ returns-else-ends_after-clause-reaching g c = λ x some read.
     let w = c.args.window.now in
     let place = rank_or_len (storage.rank stored) (length items) w.from in
     let last = rw c.in-Some.is at c.requires.window.last_is in
-    let index : storage.rank stored c.in-Some.last ≡ place + w.count - 1 = omega (arith, last.1) in
+    let index : storage.rank stored c.in-Some.last ≡ place + w.count - 1 = omega (arith, last.0) in
     let within : place + w.count - 1 < length items =
     omega (arith, some, c.requires.window.in_range) in
     let item = c.get.result.now in

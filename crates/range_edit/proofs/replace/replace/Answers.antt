@@ -13,7 +13,7 @@ use Rattle.range_edit.proofs.replace.replace.Goals as goal
 plan_is_replacement : (g : Over) (c : After-run_start g) {size : ℕ}
     → size ≡ run_length c.args.reach.now (record { before = c.joined_left-before.result; after = c.joined_right-after.result })
     → IsPlan g.K.MaybeBounded.order g.V.PartialEq.eq g.met.K.PartialEnum.lawful g.met.V.Eq.laws
-    (g.C.Storage.is_good c.args.stored.now) (g.C.Storage.rank c.args.stored.now)
+    (g.C.Storage.rank c.args.stored.now)
     (g.C.Storage.items c.args.stored.now) c.args.range (rank_or_len
     (g.C.Storage.rank c.args.stored.now) (length (g.C.Storage.items c.args.stored.now))
     c.args.reach.now.window.from) c.args.reach.now.window.count c.args.middle.items
@@ -28,7 +28,7 @@ plan_is_replacement g c size =
     let is_first = c.first.ensures.value ∙ ap (λ xs. slice_get xs 0) c.deref.ensures.value in
     let is_last = c.last.ensures.value ∙ ap (λ xs. slice_get xs (length xs - 1))
     c.deref-2.ensures.value in
-    plan_run lawful g.met.V.Eq.laws (g.met.C.Storage.good_is_in_range c.args.stored.now)
+    plan_run lawful g.met.V.Eq.laws
     c.requires.reach c.requires.apart (seam_stands order _ _ c.args.range.start lawful known.0 refl)
     (seam_stands order _ _ c.args.range.end lawful known.1 refl) c.run_start.ensures size
     c.requires.middle c.requires.within (rw is_first at c.joined_left-before.ensures)
@@ -81,8 +81,7 @@ returns g c =
     record {
       ok = replaced lawful equal window left.side right.side new made c.requires.middle;
       spelled = replaced_keeps_spelling lawful equal window.stored c.requires.reach
-          (g.met.C.Storage.good_is_in_range c.args.stored.now) c.joined_left-before.result
-          c.joined_right-after.result plan new made;
+          c.joined_left-before.result c.joined_right-after.result plan new made;
       refused = tt;
       none_put = λ none. refl;
     }

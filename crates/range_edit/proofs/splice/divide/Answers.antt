@@ -19,13 +19,13 @@ returns-in-None-clause-list g c = λ d.
     let edit = c.replace_end-old_end.ensures in
     let one = c.insert_at-at.new.self in
     let parts = c.args.parts in
-    let within = g.met.C.Storage.good_is_in_range old p c.requires.good in
-    let after = kept_at (storage.is_good old) (storage.is_good ready) (storage.rank old)
+    let within = c.requires.good in
+    let after = kept_at (storage.rank old)
     (storage.rank ready) (length items) c.args.after (place + 1) edit.positions c.requires.after in
     let
     here : rank_or_len (storage.rank ready) (length (storage.items ready)) c.args.after ≡ place + 1
     = ap (λ n. rank_or_len (storage.rank ready) n c.args.after) edit.size ∙ place_at
-    (storage.is_good ready) (storage.rank ready) (length items) c.args.after (place + 1) after in
+    (storage.rank ready) (length items) c.args.after (place + 1) after in
     let behind : Item (AnyRange g.row.K.Denot) g.row.V.Denot = record {
       key = record { start = parts.start; end = c.replace_end-old_end.result };
       value = parts.value;

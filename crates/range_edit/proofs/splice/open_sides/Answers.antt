@@ -11,12 +11,11 @@ returns-clause-opened g c = λ at from upto end before behind start finish left_
     let second = c.open_right-end.new.stored in
     let left = c.open_left-start.ensures in
     let right = c.open_right-end.ensures in
-    let opened = left_opened (storage.is_good stored) (storage.rank stored) items
-    (g.met.C.Storage.good_is_in_range stored) (storage.items first) c.args.left at from before start
+    let opened = left_opened (storage.rank stored) items (storage.items first) c.args.left at from
+    before start
     c.open_left-start.result left_shape left.edited in
-    let both = right_opened (storage.is_good stored) (storage.rank stored) items
-    (g.met.C.Storage.good_is_in_range stored) (storage.items first) (storage.items second)
-    (storage.rank first) (from + joined_count c.args.left) (λ p h. (left.positions p h).1)
+    let both = right_opened (storage.rank stored) items (storage.items first) (storage.items second)
+    (storage.rank first) (from + joined_count c.args.left) left.positions
     opened.behind opened.size c.args.right upto end behind finish c.open_right-end.result le
     right_shape right.edited in
     record {

@@ -13,7 +13,7 @@ loop-item-init g c =
     let plus : place + 0 ≡ place = omega arith in
     record {
       parted = c.into_iter-item-iterator.ensures.into_iter_gives.0;
-      position = rw plus (at_place (storage.is_good stored) (storage.rank stored) (length before)
+      position = rw plus (at_place (storage.rank stored) (length before)
           c.args.run.at c.requires.good);
       changed = rw (none, append-nil (take place before)) (list_is_take_and_drop before place);
       fewer = omega arith;
@@ -29,7 +29,7 @@ loop-item-preserved g c =
     let place = rank_or_len (storage.rank c.args.stored.now) (length before) c.args.run.at in
     let done = c.loop-item.yielded in
     let here : rank_or_len (storage.rank now) (length (storage.items now)) c.loop-item.cursor.at
-    ≡ place + length done = place_at (storage.is_good now) (storage.rank now)
+    ≡ place + length done = place_at (storage.rank now)
     (length (storage.items now)) c.loop-item.cursor.at (place + length done) was.position in
     let more = ap length c.in-Some.ensures.steps.0 in
     let size = length-append done (c.in-Some.item ∷ []) in
@@ -56,7 +56,7 @@ returns g c =
     let place = rank_or_len (storage.rank c.args.stored.now) (length before) c.args.run.at in
     let done = c.loop-item.yielded in
     let here : rank_or_len (storage.rank now) (length (storage.items now)) c.loop-item.cursor.at
-    ≡ place + length done = place_at (storage.is_good now) (storage.rank now)
+    ≡ place + length done = place_at (storage.rank now)
     (length (storage.items now)) c.loop-item.cursor.at (place + length done) was.position in
     let rest = c.loop-item.item-iterator.rest in
     let none : length rest.items ≡ 0 = omega (arith, rest.ok.0, c.in-None.ensures.steps.0) in

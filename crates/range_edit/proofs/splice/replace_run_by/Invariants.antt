@@ -8,7 +8,7 @@ invariant-loop-item g l =
     let place = rank_or_len (storage.rank l.fn.stored) (length before) l.fn.run.at in
     record {
       parted : l.yielded ++ l.item-iterator.rest.items ≡ l.fn.items.items;
-      position : IsAt (storage.is_good l.stored) (storage.rank l.stored)
+      position : IsAt (storage.rank l.stored)
           (length (storage.items l.stored)) l.cursor.at (place + length l.yielded);
       changed : storage.items l.stored ≡ take place before ++ l.yielded
           ++ drop (place + (l.fn.run.left - l.cursor.left)) before;

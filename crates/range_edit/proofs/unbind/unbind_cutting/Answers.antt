@@ -8,12 +8,11 @@ pub returns : goal.returns
 returns g c =
     let lawful = g.met.K.PartialEnum.lawful in
     let equal = g.met.V.Eq.laws in
-    let plan = plan_none lawful equal (g.met.C.Storage.good_is_in_range c.args.stored.now)
+    let plan = plan_none lawful equal
     c.requires.reach c.requires.apart (rw c.start.ensures at c.in_ok-left.ensures.seam)
     (rw c.end.ensures at c.in_ok-right.ensures.seam) c.run_start.ensures c.run_length.ensures refl
     refl in
-    let fit = planned_fits plan {is_good' = g.C.Storage.is_good c.args.stored.now}
-    {rank' = g.C.Storage.rank c.args.stored.now} (λ p h. (h, refl)) refl in
+    let fit = planned_fits plan {rank' = g.C.Storage.rank c.args.stored.now} (λ p h. refl) refl in
     let left = plan.left in
     let right = plan.right in
     let done = c.change.ensures.list left.at right.end left.rest right.rest left.start right.finish

@@ -12,14 +12,13 @@ returns g c =
     let items = storage.items stored in
     let within = c.requires.within in
     let rank = storage.rank stored c.args.p in
-    let in_range = g.met.C.Storage.good_is_in_range stored c.args.p within.good in
-    let x = element_at items rank in_range in
-    let read = element_at_is_read items rank in_range x in
+    let x = element_at items rank within.good in
+    let read = element_at_is_read items rank within.good x in
     let parts = c.in_ok-parts.parts in
     let cloned = c.in_ok-parts.ensures in
     let end = rw c.start.ensures at cloned.end in
     let start = rw c.end.ensures at cloned.start in
-    let rank_is = (c.prepare_parts.ensures.positions c.args.p within.good).1 in
+    let rank_is = c.prepare_parts.ensures.positions c.args.p within.good in
     let new = storage.items c.divide.new.stored in
     let size = divided_size lawful equal within x read parts end start cloned.value _ new _
     c.prepare_parts.ensures.list rank_is None c.divide.ensures.list in

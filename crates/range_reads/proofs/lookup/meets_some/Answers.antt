@@ -20,13 +20,13 @@ pub returns-in-Some-clause-meets : goal.returns-in-Some-clause-meets
 returns-in-Some-clause-meets g c =
     let order = g.K.MaybeBounded.order in
     let found = c.find_last_started-nearest.ensures.found in
-    let position = rw c.in-Some.is at found.position in
+    let upto = rw c.in-Some.is at found.in_range in
     let full : IsEmptyRange order (g.R.AsRange.range c.args.range.now) → ⊥ =
     λ h. not_both c.if-is_empty.false (c.is_empty.ensures.by_position.1 h) in
     last_started_decides order g.met.K.PartialEnum.lawful g.V.PartialEq.eq
     _ _ _ _ _ c.get.result.now c.ends_before.result (ap (start_position order) c.start.ensures)
     (ap (end_position order) c.end.ensures) c.requires full
-    (g.met.C.Storage.good_is_in_range c.args.stored.now c.in-Some.p position.0) c.get.ensures
+    (omega (arith, upto)) c.get.ensures
     (rw c.in-Some.is at found.upto) (rw c.in-Some.is at found.past) c.ends_before.ensures.before
 
 pub returns-in-Some-clause-bound : goal.returns-in-Some-clause-bound
@@ -42,6 +42,5 @@ returns-in-Some-clause-complete g c = λ complete h.
 
 pub returns-in-Some-clause-none : goal.returns-in-Some-clause-none
 returns-in-Some-clause-none g c =
-    let position = rw c.in-Some.is at c.find_last_started-nearest.ensures.found.position in
-    let within = g.met.C.Storage.good_is_in_range c.args.stored.now c.in-Some.p position.0 in
-    λ none. absurd (omega (arith, within, ap length none))
+    let upto = rw c.in-Some.is at c.find_last_started-nearest.ensures.found.in_range in
+    λ none. absurd (omega (arith, upto, ap length none))

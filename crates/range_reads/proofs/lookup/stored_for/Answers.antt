@@ -1,4 +1,4 @@
-use Rattle.range_reads.proofs.Common.{◌+◌, arith, common_steps, apart_bound, bound_at, ends_upto, holds_at, item_at}
+use Rattle.range_reads.proofs.Common.{◌+◌, ◌<◌, length, arith, common_steps, apart_bound, bound_at, ends_upto, holds_at, item_at}
 use Rattle.range_reads.proofs.lookup.stored_for.Goals as goal
 
 pub returns-in-None-clause-value : goal.returns-in-None-clause-value
@@ -13,8 +13,9 @@ returns-then-ends_before-clause-value g c =
     let lawful = g.met.K.PartialEnum.lawful in
     let stored = c.args.stored.now in
     let found = c.find_last_started-last.ensures.found in
-    let position = rw c.in-Some.is at found.position in
-    let within = g.met.C.Storage.good_is_in_range stored c.in-Some.p position.0 in
+    let upto = rw c.in-Some.is at found.in_range in
+    let within : g.C.Storage.rank stored c.in-Some.p < length (g.C.Storage.items stored) =
+    omega (arith, upto) in
     apart_bound order lawful g.V.PartialEq.eq (g.C.Storage.items stored) c.args.key
     (g.C.Storage.rank stored c.in-Some.p + 1) c.known.ensures
     (ends_upto order lawful g.V.PartialEq.eq _ _ _ c.get-item.result.now c.requires within
@@ -27,8 +28,10 @@ returns g c =
     let same = g.V.PartialEq.eq in
     let item = c.get-item.result.now in
     let found = c.find_last_started-last.ensures.found in
-    let position = rw c.in-Some.is at found.position in
-    let within = g.met.C.Storage.good_is_in_range c.args.stored.now c.in-Some.p position.0 in
+    let upto = rw c.in-Some.is at found.in_range in
+    let stored = c.args.stored.now in
+    let within : g.C.Storage.rank stored c.in-Some.p < length (g.C.Storage.items stored) =
+    omega (arith, upto) in
     let held =
     holds_at order lawful same _ c.args.key _ item c.known.ensures within c.get-item.ensures
     (rw c.in-Some.is at found.upto) c.if-ends_before.ensures.before in

@@ -12,7 +12,7 @@ returns-in-None-clause-found g c =
     let storage = g.C.Storage in
     let stored = c.args.stored.now in
     found_at g.K.MaybeBounded.order g.met.K.PartialEnum.lawful g.V.PartialEq.eq
-    (storage.is_good stored) (storage.rank stored) (storage.items stored)
+    (storage.rank stored) (storage.items stored)
     (reference_position g.K.MaybeBounded.order c.args.bound.now) _ c.first.result 0
     c.first.ensures refl c.in-None.ensures.found
 
@@ -21,7 +21,7 @@ returns-in-Some-clause-found g c =
     let storage = g.C.Storage in
     let stored = c.args.stored.now in
     found_at g.K.MaybeBounded.order g.met.K.PartialEnum.lawful g.V.PartialEq.eq
-    (storage.is_good stored) (storage.rank stored) (storage.items stored)
+    (storage.rank stored) (storage.items stored)
     (reference_position g.K.MaybeBounded.order c.args.bound.now) _ c.next.result
     (storage.rank stored c.in-Some.p + 1) c.next.ensures
-    (c.in-Some.ensures.found.0, refl) c.in-Some.ensures.found.1
+    refl c.in-Some.ensures.found

@@ -12,6 +12,6 @@ returns-clause-found g c =
     let storage = g.C.Storage in
     let stored = c.args.stored.now in
     last_started g.K.MaybeBounded.order g.met.K.PartialEnum.lawful g.V.PartialEq.eq
-    (storage.is_good stored) (storage.rank stored) (storage.items stored)
+    (storage.rank stored) (storage.items stored)
     (reference_position g.K.MaybeBounded.order c.args.bound.now) c.search-found.result
     c.search-found.ensures.found

@@ -8,7 +8,7 @@ returns-clause-window g c =
     let stored = c.args.stored.now in
     let order = g.K.MaybeBounded.order in
     window_is order g.met.K.PartialEnum.lawful g.V.PartialEq.eq g.met.V.Eq.laws
-    (storage.is_good stored) (storage.rank stored) (storage.items stored)
+    (storage.rank stored) (storage.items stored)
     (g.R.AsRange.range c.args.range.now) (start_position order (bound_of c.start.result))
     (end_position order (bound_of c.end.result)) c.find.result.0 c.find.result.1
     c.walk-count.result.1 c.walk-count.result.2 c.walk-count.result.0 c.known_range.ensures

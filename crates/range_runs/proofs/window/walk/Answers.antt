@@ -8,8 +8,7 @@ loop-at-preserved g c =
     let items = storage.items stored in
     let place = rank_or_len (storage.rank stored) (length items) c.args.from in
     let here = rw c.in-Some.is at c.loop-at.invariant.position in
-    let within : storage.rank stored c.in-Some.p < length items =
-    g.met.C.Storage.good_is_in_range stored c.in-Some.p here.0 in
+    let within : storage.rank stored c.in-Some.p < length items = here.0 in
     let next : storage.rank stored c.in-Some.p + 1 ≡ place + (c.loop-at.count + 1) =
     omega (arith, here.1) in
     let index : place + (c.loop-at.count + 1) - 1 ≡ storage.rank stored c.in-Some.p =
@@ -17,7 +16,7 @@ loop-at-preserved g c =
     record {
       position = rw next at c.next-at.ensures;
       in_range = omega (arith, here.1, within);
-      last_is = (here.0, next, omega arith);
+      last_is = (next, omega arith);
       meets = grind (arith, common_steps, get_or_read);
       counted = record { at_most = omega arith; at_least = omega arith };
     }
@@ -34,8 +33,7 @@ returns-then-starts_past g c =
     let place = rank_or_len (storage.rank stored) (length items) c.args.from in
     let was = c.loop-at.invariant in
     let here = rw c.in-Some.is at was.position in
-    let within : storage.rank stored c.in-Some.p < length items =
-    g.met.C.Storage.good_is_in_range stored c.in-Some.p here.0 in
+    let within : storage.rank stored c.in-Some.p < length items = here.0 in
     let index : place + c.loop-at.count ≡ storage.rank stored c.in-Some.p = sym here.1 in
     let x = c.get.result.now in
     let past = not_le g.met.K.PartialEnum.lawful (reference_position order c.args.end.now)

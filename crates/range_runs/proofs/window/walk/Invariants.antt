@@ -8,10 +8,10 @@ invariant-loop-at g l =
     let items = storage.items l.stored in
     let place = rank_or_len (storage.rank l.stored) (length items) l.fn.from in
     record {
-      position : IsAt (storage.is_good l.stored) (storage.rank l.stored) (length items) l.at
+      position : IsAt (storage.rank l.stored) (length items) l.at
           (place + l.count);
       in_range : place + l.count ≤ length items;
-      last_is : IsLastOf (storage.is_good l.stored) (storage.rank l.stored) l.last place l.count;
+      last_is : IsLastOf (storage.rank l.stored) l.last place l.count;
       meets : (d : Item (AnyRange g.row.K.Denot) g.row.V.Denot) → 0 < l.count
           → Le (position_cmp g.K.MaybeBounded.order.cmp)
           (start_position g.K.MaybeBounded.order (get_or items (place + l.count - 1) d).key.start)

@@ -6,7 +6,7 @@ pub returns-clause-items : goal.returns-clause-items
 returns-clause-items g c = λ _.
     let order = g.K.MaybeBounded.order in
     rw (← c.self.view_is, c.new-2.ensures, c.run_between-ends.ensures.items)
-    (overlapping_found g.met.K.PartialEnum.lawful g.met.V.Eq.laws _ _ _ c.self.invariant _ _ _
+    (overlapping_found g.met.K.PartialEnum.lawful g.met.V.Eq.laws _ _ c.self.invariant _ _ _
     (ap (start_position order) c.start.ensures) (ap (end_position order) c.end.ensures) _ _ _
     c.find-first.ensures.found c.find_last_started-last.ensures.found)
 

@@ -14,11 +14,10 @@ loop-at-preserved-then-keeps g c =
     let p = c.in-Some.p in
     let here = rw c.in-Some.is at c.loop-at.invariant.position in
     let was = rw c.in-Some.is at c.loop-at.invariant.told in
-    let within : storage.rank stored p < length items =
-    g.met.C.Storage.good_is_in_range stored p here.0 in
+    let within : storage.rank stored p < length items = here.0 in
     let next : rank_or_len (storage.rank stored) (length items) c.next-at.result
     ≡ storage.rank stored p + 1 =
-    place_at (storage.is_good stored) (storage.rank stored) (length items) c.next-at.result
+    place_at (storage.rank stored) (length items) c.next-at.result
     (storage.rank stored p + 1) c.next-at.ensures in
     record {
       position = rw next c.next-at.ensures;
@@ -36,12 +35,11 @@ loop-at-preserved g c =
     let p = c.in-Some.p in
     let here = rw c.in-Some.is at c.loop-at.invariant.position in
     let was = rw c.in-Some.is at c.loop-at.invariant.told in
-    let within : storage.rank stored p < length items =
-    g.met.C.Storage.good_is_in_range stored p here.0 in
+    let within : storage.rank stored p < length items = here.0 in
     let removed = c.remove_at-removed.ensures in
     let next : rank_or_len (storage.rank after) (length (storage.items after))
     c.remove_at-removed.result.1 ≡ storage.rank stored p =
-    place_at (storage.is_good after) (storage.rank after) (length (storage.items after))
+    place_at (storage.rank after) (length (storage.items after))
     c.remove_at-removed.result.1 _ removed.following in
     record {
       position = rw next removed.following;
@@ -61,12 +59,11 @@ loop-at-smaller g c =
     let after = c.remove_at-removed.new.self in
     let p = c.in-Some.p in
     let here = rw c.in-Some.is at c.loop-at.invariant.position in
-    let within : storage.rank stored p < length items =
-    g.met.C.Storage.good_is_in_range stored p here.0 in
+    let within : storage.rank stored p < length items = here.0 in
     let removed = c.remove_at-removed.ensures in
     let next : rank_or_len (storage.rank after) (length (storage.items after))
     c.remove_at-removed.result.1 ≡ storage.rank stored p =
-    place_at (storage.is_good after) (storage.rank after) (length (storage.items after))
+    place_at (storage.rank after) (length (storage.items after))
     c.remove_at-removed.result.1 _ removed.following in
     let now : rank_or_len (storage.rank stored) (length items) c.loop-at.at
     ≡ storage.rank stored p =

@@ -9,7 +9,7 @@ invariant-loop-at g l =
     let items = storage.items stored in
     let place = rank_or_len (storage.rank stored) (length items) l.at in
     record {
-      position : IsAt (storage.is_good stored) (storage.rank stored) (length items) l.at place;
+      position : IsAt (storage.rank stored) (length items) l.at place;
       callable : goal.F-IsAlwaysCallable g l.f;
       told : IsRetaining (CalledAtItem g.F.FnMut) (storage.items l.initial.self-inside.stored)
           l.fn.f items place l.f;

@@ -7,7 +7,7 @@ invariant-loop-at g l =
     let items = storage.items l.stored in
     let place = rank_or_len (storage.rank l.stored) (length items) l.at in
     record {
-      position : IsAt (storage.is_good l.stored) (storage.rank l.stored) (length items) l.at place;
+      position : IsAt (storage.rank l.stored) (length items) l.at place;
       known : (k : ℕ) (d : Item (AnyRange g.row.K.Denot) g.row.V.Denot) → k < place
           → IsKeyRange g.K.MaybeBounded.order (get_or items k d).key;
     }

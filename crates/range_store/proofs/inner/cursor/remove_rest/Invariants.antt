@@ -8,7 +8,7 @@ invariant-loop-removed g l =
     let before = storage.items l.fn.stored in
     let place = rank_or_len (storage.rank l.fn.stored) (length before) l.fn.cursor.at in
     record {
-      position : IsAt (storage.is_good l.stored) (storage.rank l.stored)
+      position : IsAt (storage.rank l.stored)
           (length (storage.items l.stored)) l.at place;
       changed : storage.items l.stored ≡ take place before ++ drop (place + l._removed) before;
       space : storage.room l.fn.stored + l._removed ≤ storage.room l.stored;

@@ -1,6 +1,6 @@
 use Rattle.std.proofs.Common.{◌≡◌, ◌-◌, ◌≤◌, true, length, take, vec_capacity}
 use Rattle.std.specs.List.{AllZip}
-use Rattle.range_tree.specs.Holding.{box_items, box_rank, IsGood}
+use Rattle.range_tree.specs.Holding.{box_items, box_rank}
 use Rattle.range_store.specs.ListRanks.{IsAt}
 use Rattle.range_tree.proofs.btree.BoxStorageStorage.clone.Given as goal
 
@@ -9,7 +9,7 @@ invariant-loop-at g l =
     let items = box_items l.self in
     let copies = l.copies.items in
     record {
-      position : IsAt (IsGood l.self) (box_rank l.self) (length items) l.at (length copies);
+      position : IsAt (box_rank l.self) (length items) l.at (length copies);
       copied : AllZip (λ x y. g.T.PartialEq.eq y x ≡ true) (take (length copies) items) copies;
       space : length items ≤ vec_capacity l.copies;
     }

@@ -1,6 +1,7 @@
 use Rattle.std.proofs.Common.{length, refl, ap, arith}
+use Rattle.range_tree.specs.Holding.{good_below}
 use Rattle.range_tree.specs.EndLeaves.{end_leaves_kept}
-use Rattle.range_tree.proofs.Lent.{good_same}
+use Rattle.range_tree.proofs.Lent.{rank_same}
 use Rattle.range_tree.proofs.Reserving.{kept_items, kept_shape, kept_tree}
 use Rattle.range_tree.proofs.btree.BoxStorageStorage.reserve.Goals as goal
 
@@ -18,10 +19,10 @@ returns-clause-list g c =
 pub returns-clause-positions : goal.returns-clause-positions
 returns-clause-positions g c q good =
     let s = c.args.self.now in
-    good_same (record s {
+    rank_same (record s {
       nodes = c.reserve.new.self;
       whole = c.self-1.given.0;
       counted = c.self-1.given.1.0;
       levelled = c.self-1.given.1.1.0;
       ended = c.self-1.given.1.1.1.0;
-    }) (kept_shape c.reserve.ensures.kept) refl refl q good
+    }) (kept_shape c.reserve.ensures.kept) refl refl q (good_below good)
