@@ -101,6 +101,7 @@ def over_proved():
         runs = [pool.submit(conversations.count, it, conversations.play_built) for it in programs]
         runs.append(pool.submit(counting, "random conversations", ["crates/rangecalc/fuzz", "--conversations", "1000"]))
         runs.append(pool.submit(counting, "random lists", ["crates/cidr/fuzz", "--lists", "300"]))
+        runs.append(pool.submit(counting, "tables by cc and rustc", ["crates/tokens/peers/tables.py", "crates/tokens/out/tokens", "--few"]))
         return [*refused.result(), *[it.result() for it in runs]]
 
 

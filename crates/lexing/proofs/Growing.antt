@@ -9,8 +9,8 @@ use Rattle.state_sets.specs.Listed.{KeepsAll}
 use Rattle.state_sets.specs.Tokens.{IsFirstAmong}
 use Rattle.state_sets.proofs.Lists.{slice_get-push, keeps_pushed}
 use Rattle.lexing.specs.Lexers.{rules_in, Accepts}
-use Rattle.lexing.specs.Machines.{Row, RowBinds, Goes, IsRowOf, AreDense, AreStates}
-use Rattle.lexing.specs.Building.{AreFirst, IsRowAt, AddsDense}
+use Rattle.lexing.specs.Machines.{Row, Goes, IsRowOf, AreStates}
+use Rattle.lexing.specs.Building.{AreFirst, IsRowAt}
 
 -- what stands at an index of before has stood there
 stood : {X : Type 0} (before after : List X) → KeepsAll before after → (i : ℕ) (x : X)
@@ -19,15 +19,13 @@ stood before after keeps i x within at = grind (arith, slice_get_cases before i,
 
 -- the first set, and no state
 pub states_none : (lexer : Lexer) (sets : List (BTreeSet ℕ)) (states : States)
-    → AreFirst (rules_in lexer) sets → states.rows.items ≡ [] → states.dense.items ≡ []
-    → states.first_rules.items ≡ [] → AreStates lexer sets states
-states_none lexer sets states (set, only, starts) rows dense rules = record {
+    → AreFirst (rules_in lexer) sets → states.rows.items ≡ [] → states.first_rules.items ≡ []
+    → AreStates lexer sets states
+states_none lexer sets states (set, only, starts) rows rules = record {
   start = (set, rw only refl, starts);
   row = λ i row s at. absurd (grind arith);
   first = λ i found s at. absurd (grind arith);
-  ascii = λ i c row next below at. absurd (grind arith);
   marked = grind arith;
-  full = grind arith;
   few = grind arith;
 }
 
@@ -44,7 +42,6 @@ module _ (lexer : Lexer) (sets after : List (BTreeSet ℕ)) (keeps : KeepsAll se
       (among : (set : BTreeSet ℕ) → slice_get after (length before.rows.items) ≡ Some set
       → IsFirstAmong (Accepts lexer) set first)
       (rows : new.rows.items ≡ before.rows.items ++ row ∷ [])
-      (adds : AddsDense row 128 before.dense.items new.dense.items)
       (rules : new.first_rules.items ≡ before.first_rules.items ++ first ∷ []) where
     row_at : (i : ℕ) (r : Row) → slice_get new.rows.items i ≡ Some r
         → ((slice_get before.rows.items i ≡ Some r) × (i < length before.rows.items))
@@ -52,16 +49,6 @@ module _ (lexer : Lexer) (sets after : List (BTreeSet ℕ)) (keeps : KeepsAll se
     row_at i r at =
         let parts = slice_get-push before.rows.items row i r in
         grind (arith, slice_get_within before.rows.items i r)
-
-    dense_more : AreDense new.rows.items new.dense.items
-    dense_more i c r next ascii at here =
-        grind (
-          arith,
-          row_at i r,
-          was.ascii i c r next ascii,
-          stood before.dense.items new.dense.items adds.0 (128 * i + c) next,
-          adds.2 c next ascii,
-        )
 
     row_still : (i : ℕ) (r : Row) (set : BTreeSet ℕ) → slice_get new.rows.items i ≡ Some r
         → slice_get after i ≡ Some set → IsRowOf (rules_in lexer) after set r
@@ -94,12 +81,6 @@ module _ (lexer : Lexer) (sets after : List (BTreeSet ℕ)) (keeps : KeepsAll se
           start = (set, keeps 0 set at, is);
           row = row_still;
           first = first_still;
-          ascii = dense_more;
           marked = grind (arith, common_steps, was.marked);
-          full = grind (arith, common_steps, was.full, adds.1);
           few = grind (arith, common_steps);
         }
-
--- one character more in a dense row
-pub dense_none : (row : Row) (dense : List (Option ℕ)) → AddsDense row 0 dense dense
-dense_none row dense = (λ i x h. h, omega arith, λ c next h at. absurd (omega (arith, h)))

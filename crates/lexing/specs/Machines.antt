@@ -1,5 +1,5 @@
 -- What the states of a machine stand for.
-use Rattle.std.specs.Prelude.{◌≡◌, ℕ, ◌+◌, ◌*◌, ◌<◌, ◌≤◌, List, length, Option, Some, None, IsTrue, slice_get, nat_eq}
+use Rattle.std.specs.Prelude.{◌≡◌, ℕ, ◌≤◌, List, length, Option, Some, None, IsTrue, slice_get, nat_eq}
 use Rattle.std.specs.Ordering.{nat_cmp}
 use Rattle.std.specs.BTreeSet.{BTreeSet, contains}
 use Rattle.btree_range_map.specs.AnyRange.{AnyRange}
@@ -36,11 +36,6 @@ module _ (rules : Rules) (sets : List (BTreeSet ℕ)) where
   IsRowOf set row = (c : ℕ) → IsCharacter c → (next : Option ℕ) → RowBinds row c next
       → Goes set c next
 
--- the dense rows say of each character of ASCII what the rows say
-abbrev pub AreDense : List Row → List (Option ℕ) → Type 0
-AreDense rows dense = (i c : ℕ) (row : Row) (next : Option ℕ) → c < 128
-    → slice_get rows i ≡ Some row → slice_get dense (128 * i + c) ≡ Some next → RowBinds row c next
-
 module _ (lexer : Lexer) where
   -- of the sets the first is that of the start states, and the states stand for the first of them
   pub record AreStates (sets : List (BTreeSet ℕ)) (states : States) : Type 0 where
@@ -50,9 +45,7 @@ module _ (lexer : Lexer) where
     pub first : (i : ℕ) (found : Option ℕ) (set : BTreeSet ℕ)
         → slice_get states.first_rules.items i ≡ Some found → slice_get sets i ≡ Some set
         → IsFirstAmong (Accepts lexer) set found
-    pub ascii : AreDense states.rows.items states.dense.items
     pub marked : length states.first_rules.items ≡ length states.rows.items
-    pub full : length states.dense.items ≡ 128 * length states.rows.items
     pub few : length states.rows.items ≤ length sets
 
   -- each state stands for a set of states of the lexer's automaton

@@ -42,7 +42,12 @@ impl Machine {
         ensures refused { IfErr result (IsBuildReason (rules_in lexer) budget) }
     {
         let states = states_of(alloc, &lexer, budget)?;
-        Ok(Machine { lexer, states })
+        let steps = states.ascii_steps(alloc)?;
+        Ok(Machine {
+            lexer,
+            states,
+            steps,
+        })
     }
 }
 

@@ -1,12 +1,14 @@
 //! An automaton with one state at a time, made from that of a lexer.
-ghost use Rattle.std.specs.Prelude.{◌≡◌, ◌*◌, ◌<◌, IfSome, vec_len};
+ghost use Rattle.std.specs.Prelude.{◌≡◌, ◌*◌, ◌<◌, ◌≤◌, Option, length, vec_len};
+ghost use Rattle.std.specs.Str.{IsCharBoundary};
 ghost use Rattle.lexing.specs.Machines.{IsMachine};
+ghost use Rattle.lexing.specs.Steps.{AreSteps};
 
 use crate::lexer::Lexer;
 use crate::scanner::Scanner;
 use crate::states::States;
+use crate::step::{Reading, Step};
 use btree_range_map::MapError;
-use btree_range_map::range::traits::MaybeBounded;
 use state_sets::Match;
 
 /// The machine of a lexer: it finds the same tokens, by one look-up a character, and allocates
@@ -17,13 +19,17 @@ use state_sets::Match;
 pub struct Machine {
     pub(crate) lexer: Lexer,
     pub(crate) states: States,
-    ghost full: { vec_len states.dense ≡ 128 * vec_len states.rows },
+    // Where each state leads by the characters of ASCII, 128 steps for each.
+    pub(crate) steps: Vec<Step>,
     ghost marked: { vec_len states.first_rules ≡ vec_len states.rows },
-    ghost sound: { ∥ IsMachine lexer states ∥₁ },
+    ghost few: { vec_len states.rows ≤ 2147483647 },
+    ghost full: { vec_len steps ≡ 128 * vec_len states.rows },
+    ghost sound: { ∥ IsMachine lexer states × AreSteps states steps.items ∥₁ },
 }
 
 impl Machine {
-    ghost use Rattle.lexing.specs.MachineSteps.{GoesTo, lexer_of, state_count};
+    ghost use Rattle.state_sets.specs.declared.longest.Match.{Match};
+    ghost use Rattle.lexing.specs.MachineSteps.{IsLast, IsRead, lexer_of, state_count};
 
     /// The lexer that the machine was built from. Allocates nothing.
     pub fn lexer(&self) -> &Lexer
@@ -39,19 +45,52 @@ impl Machine {
         self.states.rows.len()
     }
 
-    /// The state that the character leads to from the state, if there is one.
+    /// Where the character of the text at the place leads from the state.
     #[inline(always)]
-    fn next(&self, state: u32, c: char) -> Option<u32>
-        requires { state < state_count self.now }
-        ensures goes { GoesTo self.now state c result }
-        ensures known { IfSome result (λ next. next < state_count self.now) }
+    fn read(&self, text: &str, state: u32, at: usize) -> Reading
+        requires state { state < state_count self.now }
+        requires boundary { IsCharBoundary text.now at }
+        requires more { at < length text.now }
+        ensures { IsRead self.now text.now state at result }
     {
-        c.known();
-        if c.is_ascii() {
-            self.states.dense[128 * state as usize + c as usize]
+        let byte = text.as_bytes()[at];
+        if byte < 128 {
+            Reading {
+                step: self.steps[128 * state as usize + byte as usize],
+                after: at + 1,
+            }
         } else {
-            self.states.rows[state as usize].get(c).copied()
+            self.read_by_row(text, state, at)
         }
+    }
+
+    /// The same, by the row of the state.
+    #[inline(never)]
+    fn read_by_row(&self, text: &str, state: u32, at: usize) -> Reading
+        requires state { state < state_count self.now }
+        requires boundary { IsCharBoundary text.now at }
+        requires more { at < length text.now }
+        ensures { IsRead self.now text.now state at result }
+    {
+        let Some(c) = text[at..].chars().next() else {
+            unreachable!();
+        };
+        Reading {
+            step: self.states.step(&self.states.rows[state as usize], c),
+            after: at + c.len_utf8(),
+        }
+    }
+
+    /// The token that ends in the state, of so many bytes; none of no bytes.
+    fn token(&self, state: u32, len: usize) -> Option<Match>
+        requires { state < state_count self.now }
+        ensures { (longest : Option Match) → IsLast self.now state len longest → result ≡ longest }
+    {
+        if len == 0 {
+            return None;
+        }
+        let rule = self.states.first_rules[state as usize]?;
+        Some(Match { rule, len })
     }
 }
 
@@ -65,19 +104,22 @@ impl Scanner for Machine {
     /// Costs one look-up a character, up to the first that leads nowhere. Allocates nothing.
     fn longest_match(&self, text: &str) -> Result<Option<Match>, MapError> {
         let mut state = 0;
+        let mut at = 0;
+        let mut last = 0;
         let mut len = 0;
-        let mut longest = None;
-        for c in text.chars() {
-            match self.next(state, c) {
-                Some(next) => state = next,
-                None => return Ok(longest),
-            }
-            len += c.len_utf8();
-            if let Some(rule) = self.states.first_rules[state as usize] {
-                longest = Some(Match { rule, len });
+        while at < text.len() {
+            let Reading { step, after } = self.read(text, state, at);
+            let Some(next) = step.state() else {
+                return Ok(self.token(last, len));
+            };
+            state = next;
+            at = after;
+            if step.ends() {
+                last = state;
+                len = at;
             }
         }
-        Ok(longest)
+        Ok(self.token(last, len))
     }
 
     fn is_skipped(&self, rule: u32) -> bool {
