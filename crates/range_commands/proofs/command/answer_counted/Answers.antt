@@ -1,8 +1,7 @@
 use Rattle.std.proofs.Common.{ap, refl}
 use Rattle.std.proofs.lemmas.Bool.{false≢true}
-use Rattle.range_commands.proofs.CountedRuns.{change_if}
 use Rattle.range_commands.proofs.Replies.{meets_some, meets_none}
-use Rattle.range_commands.proofs.command.answer_by.Goals as goal
+use Rattle.range_commands.proofs.command.answer_counted.Goals as goal
 
 pub returns-in-Err-Connected : goal.returns-in-Err-Connected
 returns-in-Err-Connected g c =
@@ -52,12 +51,11 @@ returns-in-Ok-remove_counted g c =
                 (meets_none g.K.MaybeBounded.order items c.in-Remove.range unmet);
           };
       takes =
-          rw c.in-Remove.is (change_if c.args.is_counted
-          (record {
+          rw c.in-Remove.is record {
             at_most = λ unrefused. done.most;
             at_least = done.least;
             none = done.empty_uncounted;
-          }));
+          };
     }
 
 pub returns-in-Remove : goal.returns-in-Remove
@@ -73,10 +71,9 @@ returns-in-Remove g c =
             refused.refused,
           );
       takes =
-          rw c.in-Remove.is (change_if c.args.is_counted
-          (record {
+          rw c.in-Remove.is record {
             at_most = λ done. absurd done;
             at_least = refused.least;
             none = refused.empty_uncounted;
-          }));
+          };
     }
