@@ -1,4 +1,4 @@
-/* Maps and sets whose keys are gathered into ranges, proved in Rattle, for C99 and C++11. README.md, which lies beside it
+/* Maps and sets whose keys are gathered into ranges, and lexers, proved in Rattle, for C99 and C++11. README.md, which lies beside it
  * in the archive's share folder, says what a caller owes.
  *
  * Each call answers by a status; one that fails has changed nothing, and has written nothing behind its pointers,
@@ -47,7 +47,11 @@ typedef enum {
     BRM_NOT_JSON = 8,   /* the text is no JSON */
     BRM_NOT_READ = 9,   /* the JSON is no collection of the kind that the handle holds */
     BRM_OCCUPIED = 10,  /* the range meets a stored one */
-    BRM_OUT_OF_ORDER = 11 /* some range does not lie after all others */
+    BRM_OUT_OF_ORDER = 11, /* some range does not lie after all others */
+    BRM_BAD_RULE = 12,  /* a rule of a lexer is not taken: a fault tells which, and why */
+    BRM_TOO_LARGE = 13, /* the lexer would have more states than its budget */
+    BRM_NOT_TEXT = 14,  /* the bytes are no UTF-8 */
+    BRM_LONG_PREFIX = 15 /* a prefix has more bits than a key */
 } brm_status;
 
 /* What a status says, for a message. */
@@ -65,6 +69,10 @@ static inline const char *brm_status_text(brm_status status) {
     case BRM_NOT_READ: return "the JSON is no collection of this kind";
     case BRM_OCCUPIED: return "the range meets a stored one";
     case BRM_OUT_OF_ORDER: return "some range does not lie after all others";
+    case BRM_BAD_RULE: return "a rule is not taken";
+    case BRM_TOO_LARGE: return "the lexer would have too many states";
+    case BRM_NOT_TEXT: return "the bytes are not UTF-8";
+    case BRM_LONG_PREFIX: return "a prefix has more bits than a key";
     }
     return "no status";
 }
@@ -112,6 +120,14 @@ typedef struct {
     brm_range_u128 range;
     uint64_t value;
 } brm_entry_u128;
+
+/* The keys that begin with so many bits of the network, and their value. A key has 128 bits: an IPv4 address is best taken as
+ * the key of its number, and has 96 bits more in its prefixes than it is written with. */
+typedef struct {
+    brm_u128 network;
+    uint64_t value;
+    uint32_t length;
+} brm_prefix_u128;
 
 /* What a key is bound to: a value, or none, and then the value is 0. */
 typedef struct {
@@ -284,6 +300,12 @@ brm_status brm_map_u128_pieces(const brm_handle *map, const brm_range_u128 *rang
 /* Binds the keys of each of so many ranges to the value beside it, one after the other, and tells of how many, also with
  * BRM_NO_MEMORY: those before the one for which memory ran out stay bound. */
 brm_status brm_map_u128_insert_many(brm_handle *map, const brm_entry_u128 *entries, size_t size, size_t *count);
+/* Writes the shortest table of prefixes of the map: the longest prefix that holds a key has its value, and none holds a key that is
+ * not bound. An array that is too short stays as it was, and the number of prefixes is told as well. */
+brm_status brm_map_u128_shortest(const brm_handle *map, brm_prefix_u128 *prefixes, size_t capacity, size_t *count);
+/* Opens a closed handle on the map of prefixes in any order: each key is bound to the value of the longest prefix that holds it, of
+ * equal prefixes the last. Bits of a network past its length are not looked at. */
+brm_status brm_map_u128_from_prefixes(brm_handle *made, const brm_prefix_u128 *prefixes, size_t size);
 
 /* Sets of keys of 128 bits. */
 brm_status brm_set_u128_create(brm_handle *set);
@@ -794,6 +816,64 @@ static inline brm_status brm_set_u128_len(const brm_handle *set, brm_key_count *
     if (brm_count(set) > 0 && sum.high == 0 && sum.low == 0) return BRM_NO_ROOM;
     *count = sum;
     return BRM_DONE;
+}
+
+/* A lexer, while it is open: it cuts texts into tokens. Starts as BRM_LEXER_CLOSED; it is kept as a handle is, and no other
+ * call takes it. */
+typedef struct {
+    brm_handle handle;
+} brm_lexer;
+
+#ifdef __cplusplus
+#define BRM_LEXER_CLOSED (brm_lexer{{false, nullptr}})
+#else
+#define BRM_LEXER_CLOSED ((brm_lexer){{false, NULL}})
+#endif
+
+/* A rule: what its tokens match, a pattern in UTF-8, and whether they are left out. The name is for the caller. */
+typedef struct {
+    const char *name;
+    size_t name_size;
+    const char *pattern;
+    size_t pattern_size;
+    bool is_skipped;
+} brm_rule;
+
+/* Why a rule is not taken. */
+enum {
+    BRM_RULE_SYNTAX = 1,        /* the pattern is none, for what stands from `start` up to `end` in it */
+    BRM_RULE_ASSERTION = 2,     /* it has an assertion, such as ^ or \b */
+    BRM_RULE_MATCHES_BYTES = 3, /* it may match bytes that are no UTF-8 */
+    BRM_RULE_TOO_LARGE = 4,     /* with those before it, it is too large */
+    BRM_RULE_NOT_TEXT = 5       /* its name or its pattern is no UTF-8 */
+};
+
+/* The first rule that is not taken, by its number from 0 on, the reason, and how many bytes of what is wrong were written. */
+typedef struct {
+    size_t rule, start, end, text_size;
+    uint32_t reason;
+} brm_rule_fault;
+
+/* A token: its bytes from `start` up to `end`, the line and the column where it begins, each from 1, and the number of its rule.
+ * Where no token begins, is_token is false, both start and end are that place, and the rule is 0. Columns count characters. */
+typedef struct {
+    size_t start, end, line, column;
+    uint32_t rule;
+    bool is_token;
+} brm_token;
+
+/* Opens a closed lexer of so many rules, which has at most so many states: 10,000 are plenty. A token is the longest piece of the
+ * text from its place on that the pattern of a rule matches, by the first such rule. Of BRM_BAD_RULE the fault is written, and what is
+ * wrong to the front of the text, as much as its capacity takes, with no zero behind it. */
+brm_status brm_lexer_create(brm_lexer *lexer, const brm_rule *rules, size_t size, uint32_t budget, brm_rule_fault *fault, char *text, size_t capacity);
+
+/* Writes the tokens of a text in UTF-8 in their order, as many as the array takes, and how many there are in all. Where that is more
+ * than its capacity, ask again with so many. Allocates nothing. */
+brm_status brm_lexer_tokens(const brm_lexer *lexer, const char *text, size_t size, brm_token *tokens, size_t capacity, size_t *count);
+
+/* Closes a lexer, and frees its memory. A closed one stays closed. */
+static inline void brm_lexer_destroy(brm_lexer *lexer) {
+    if (lexer) brm_destroy(&lexer->handle);
 }
 
 #ifdef __cplusplus

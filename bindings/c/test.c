@@ -1080,6 +1080,62 @@ static void wide_maps(void) {
     brm_destroy(&other);
 }
 
+static brm_prefix_u128 prefix(uint64_t high, uint64_t low, uint32_t length, uint64_t value) {
+    return (brm_prefix_u128){brm_u128_of(high, low), value, length};
+}
+
+static bool is_prefix(brm_prefix_u128 p, uint64_t high, uint64_t low, uint32_t length, uint64_t value) {
+    return is_key(p.network, high, low) && p.length == length && p.value == value;
+}
+
+/* The shortest table of a map, and the map of that table again, with each allocation refused; what has no such table. */
+static void prefixes_of_wide_maps(void) {
+    brm_handle map = BRM_HANDLE_CLOSED, again = BRM_HANDLE_CLOSED, other = BRM_HANDLE_CLOSED;
+    brm_range_u128 ten = {{0x0a000000, 0}, {0x0affffff, 0}, 0}, one = {{0x0a010000, 0}, {0x0a01ffff, 0}, 0};
+    brm_range_u128 last = {{UINT64_MAX, UINT64_MAX}, {0, 0}, BRM_END_UNBOUNDED};
+    brm_prefix_u128 found[4] = {prefix(7, 7, 7, 7), prefix(7, 7, 7, 7), prefix(7, 7, 7, 7), prefix(7, 7, 7, 7)};
+    size_t count = 77;
+    EXPECT(brm_map_u128_shortest(&map, found, 4, &count) == BRM_CLOSED && brm_map_u64_create(&other) == BRM_DONE);
+    EXPECT(brm_map_u128_shortest(&other, found, 4, &count) == BRM_OTHER_KIND && count == 77);
+    EXPECT(brm_map_u128_from_prefixes(&other, found, 1) == BRM_OPEN);
+    EXPECT(brm_map_u128_create(&map) == BRM_DONE && brm_map_u128_shortest(&map, found, 0, &count) == BRM_DONE && count == 0);
+    EXPECT(brm_map_u128_insert(&map, &ten, 1) == BRM_DONE && brm_map_u128_insert(&map, &one, 2) == BRM_DONE);
+    EXPECT(brm_map_u128_insert(&map, &last, 3) == BRM_DONE);
+    EXPECT(brm_map_u128_shortest(&map, found, 2, &count) == BRM_NO_ROOM && count == 3 && is_prefix(found[0], 7, 7, 7, 7));
+    int status = BRM_NO_MEMORY;
+    long wanted = 0;
+    for (; status == BRM_NO_MEMORY; wanted++) {
+        count = 77, granted = wanted;
+        status = brm_map_u128_shortest(&map, found, 4, &count);
+        granted = -1;
+        EXPECT(status == BRM_DONE || (count == 77 && is_prefix(found[0], 7, 7, 7, 7)));
+    }
+    EXPECT(status == BRM_DONE && wanted > 1 && count == 3 && is_prefix(found[3], 7, 7, 7, 7));
+    EXPECT(is_prefix(found[0], 0, 0x0a000000, 104, 1) && is_prefix(found[1], 0, 0x0a010000, 112, 2));
+    EXPECT(is_prefix(found[2], UINT64_MAX, UINT64_MAX, 128, 3));
+    for (status = BRM_NO_MEMORY, wanted = 0; status == BRM_NO_MEMORY; wanted++) {
+        granted = wanted;
+        status = brm_map_u128_from_prefixes(&again, found, 3);
+        granted = -1;
+        EXPECT(status == BRM_DONE || !again.is_open);
+    }
+    EXPECT(status == BRM_DONE && wanted > 1 && brm_equal(&map, &again) == BRM_DONE);
+    brm_destroy(&again);
+    /* equal prefixes, one by another network of it; all keys; and a prefix that is too long */
+    brm_prefix_u128 given[] = {prefix(0, 6, 127, 1), prefix(0, 7, 127, 2), prefix(5, 9, 0, 3), prefix(0, 0, 129, 4)};
+    EXPECT(brm_map_u128_from_prefixes(&again, given, 4) == BRM_LONG_PREFIX && !again.is_open);
+    given[3].length = 256;
+    EXPECT(brm_map_u128_from_prefixes(&again, given, 4) == BRM_LONG_PREFIX);
+    EXPECT(brm_map_u128_from_prefixes(&again, given, 3) == BRM_DONE && brm_count(&again) == 3);
+    EXPECT(brm_map_u128_shortest(&again, found, 4, &count) == BRM_DONE && count == 2);
+    EXPECT(is_prefix(found[0], 0, 0, 0, 3) && is_prefix(found[1], 0, 6, 127, 2));
+    brm_destroy(&again);
+    EXPECT(brm_map_u128_from_prefixes(&again, given, 0) == BRM_DONE && brm_count(&again) == 0);
+    brm_destroy(&again);
+    brm_destroy(&map);
+    brm_destroy(&other);
+}
+
 /* Their sets, their texts, and memory that runs out. */
 static void wide_sets(void) {
     brm_handle set = BRM_HANDLE_CLOSED, others = BRM_HANDLE_CLOSED;
@@ -1161,6 +1217,124 @@ static void changed_by_functions(void) {
     brm_destroy(&made);
 }
 
+static brm_rule rule_of(const char *name, const char *pattern, bool is_skipped) {
+    brm_rule rule = {name, strlen(name), pattern, strlen(pattern), is_skipped};
+    return rule;
+}
+
+static bool is_token(brm_token token, uint32_t rule, size_t start, size_t end, size_t line, size_t column) {
+    return token.is_token && token.rule == rule && token.start == start && token.end == end && token.line == line && token.column == column;
+}
+
+static bool is_no_token(brm_token token, size_t at, size_t line, size_t column) {
+    return !token.is_token && token.start == at && token.end == at && token.line == line && token.column == column;
+}
+
+/* How many tokens of the text there are, which the lexer writes to four slots. */
+static size_t cut(const brm_lexer *lexer, const char *text, brm_token tokens[4]) {
+    size_t count = 99;
+    for (int i = 0; i < 4; i++) tokens[i] = (brm_token){77, 77, 77, 77, 77, false};
+    EXPECT(brm_lexer_tokens(lexer, text, strlen(text), tokens, 4, &count) == BRM_DONE);
+    return count;
+}
+
+static void lexers(void) {
+    brm_rule rules[] = {rule_of("if", "if", false), rule_of("word", "\\p{L}+", false), rule_of("space", "\\s+", true)};
+    brm_rule_fault fault = {9, 9, 9, 9, 9};
+    brm_lexer lexer = BRM_LEXER_CLOSED;
+    brm_token tokens[4];
+    size_t count = 99;
+    char text[64] = "unwritten";
+    EXPECT(brm_lexer_create(&lexer, rules, 3, 100, &fault, text, sizeof text) == BRM_DONE);
+    EXPECT(brm_lexer_create(&lexer, rules, 3, 100, &fault, text, sizeof text) == BRM_OPEN);
+    EXPECT(fault.rule == 9 && strcmp(text, "unwritten") == 0);
+    EXPECT(cut(&lexer, "if ifs\n\xc3\x9f", tokens) == 3);
+    EXPECT(is_token(tokens[0], 0, 0, 2, 1, 1) && is_token(tokens[1], 1, 3, 6, 1, 4) && is_token(tokens[2], 1, 7, 9, 2, 1));
+    EXPECT(is_no_token((brm_token){77, 77, 77, 77, 77, false}, 77, 77, 77) && tokens[3].start == 77);
+    EXPECT(cut(&lexer, "", tokens) == 0 && tokens[0].start == 77);
+    EXPECT(cut(&lexer, "\xc3\x9f 1\xe2\x82\xac""2a", tokens) == 5);
+    EXPECT(is_token(tokens[0], 1, 0, 2, 1, 1) && is_no_token(tokens[1], 3, 1, 3) && is_no_token(tokens[2], 4, 1, 4));
+    EXPECT(is_no_token(tokens[3], 7, 1, 5));
+    EXPECT(brm_lexer_tokens(&lexer, "a b c", 5, tokens, 0, &count) == BRM_DONE && count == 3 && tokens[0].start == 0);
+    EXPECT(brm_lexer_tokens(&lexer, "a\xff", 2, tokens, 4, &count) == BRM_NOT_TEXT && count == 3 && tokens[0].start == 0);
+    // what has no ranges
+    brm_handle made = BRM_HANDLE_CLOSED, *held = &lexer.handle;
+    size_t size = 99;
+    EXPECT(brm_clone(held, &made) == BRM_OTHER_KIND && !made.is_open);
+    EXPECT(brm_save(held, (uint8_t *)text, sizeof text, &size) == BRM_OTHER_KIND && size == 99);
+    EXPECT(brm_load(held, (const uint8_t *)"[]", 2) == BRM_OTHER_KIND);
+    EXPECT(brm_count(held) == 0 && brm_clear(held) == BRM_DONE && brm_map_u64_contains(held, 5) == BRM_OTHER_KIND);
+    EXPECT(cut(&lexer, "if", tokens) == 1);
+    EXPECT(brm_map_u64_create(&made) == BRM_DONE);
+    EXPECT(brm_equal(held, &made) == BRM_OTHER_KIND && brm_equal(&made, held) == BRM_OTHER_KIND);
+    brm_lexer of_map = {made};
+    EXPECT(brm_lexer_tokens(&of_map, "a", 1, tokens, 4, &count) == BRM_OTHER_KIND && count == 3);
+    brm_destroy(&made);
+    brm_lexer_destroy(&lexer);
+    brm_lexer_destroy(&lexer);
+    brm_lexer_destroy(NULL);
+    EXPECT(brm_lexer_tokens(&lexer, "a", 1, tokens, 4, &count) == BRM_CLOSED && count == 3);
+}
+
+/* What is told of a second rule with the pattern. */
+static brm_rule_fault fault_of(const char *pattern, size_t size, char text[64]) {
+    brm_rule rules[] = {rule_of("word", "[a-z]+", false), {"bad", 3, pattern, size, false}, rule_of("worse", "(", false)};
+    brm_rule_fault fault = {9, 9, 9, 9, 9};
+    brm_lexer lexer = BRM_LEXER_CLOSED;
+    memset(text, 0, 64);
+    EXPECT(brm_lexer_create(&lexer, rules, 3, 100, &fault, text, 63) == BRM_BAD_RULE);
+    EXPECT(!lexer.handle.is_open && fault.rule == 1 && fault.text_size == strlen(text));
+    return fault;
+}
+
+static void bad_rules(void) {
+    char text[64];
+    brm_rule_fault fault = fault_of("ab[c", 4, text);
+    EXPECT(fault.reason == BRM_RULE_SYNTAX && fault.start == 2 && fault.end == 3 && strcmp(text, "unclosed character class") == 0);
+    fault = fault_of("^a", 2, text);
+    EXPECT(fault.reason == BRM_RULE_ASSERTION && fault.start == 0 && fault.end == 0 && strcmp(text, "assertions are not taken") == 0);
+    EXPECT(fault_of("(?-u:\\xff)", 10, text).reason == BRM_RULE_SYNTAX);
+    EXPECT(fault_of("(?:[a-z]{1000}){1000}", 21, text).reason == BRM_RULE_TOO_LARGE);
+    EXPECT(fault_of("a\xff", 2, text).reason == BRM_RULE_NOT_TEXT);
+    // a buffer for a part of what is wrong, and a name that is no text
+    brm_rule rules[] = {{"\xff", 1, "a", 1, false}, rule_of("open", "(", false)};
+    brm_rule large[] = {rule_of("large", "(?:a|b)*a(?:a|b){12}", false)};
+    brm_lexer lexer = BRM_LEXER_CLOSED;
+    memcpy(text, "........", 8);
+    EXPECT(brm_lexer_create(&lexer, rules + 1, 1, 100, &fault, text, 4) == BRM_BAD_RULE && fault.text_size == 4);
+    EXPECT(fault.rule == 0 && memcmp(text, "uncl....", 8) == 0);
+    EXPECT(brm_lexer_create(&lexer, rules, 2, 100, &fault, text, 0) == BRM_BAD_RULE && fault.text_size == 0);
+    EXPECT(fault.rule == 0 && fault.reason == BRM_RULE_NOT_TEXT);
+    EXPECT(brm_lexer_create(&lexer, large, 1, 1000, &fault, text, 0) == BRM_TOO_LARGE && !lexer.handle.is_open);
+    EXPECT(brm_lexer_create(&lexer, large, 0, 0, &fault, text, 0) == BRM_TOO_LARGE);
+    EXPECT(brm_lexer_create(&lexer, large, 0, 1, &fault, text, 0) == BRM_DONE);
+    brm_token tokens[4];
+    EXPECT(cut(&lexer, "ab", tokens) == 2 && is_no_token(tokens[1], 1, 1, 2));
+    brm_lexer_destroy(&lexer);
+}
+
+/* Each allocation of a lexer is refused once: none is made then, nothing is told, and nothing stays allocated. */
+static void refused_lexers(void) {
+    brm_rule rules[] = {rule_of("word", "[a-z]+", false), rule_of("number", "[0-9]+(?:\\.[0-9]+)?", false), rule_of("space", " ", true)};
+    brm_rule_fault fault = {9, 9, 9, 9, 9};
+    brm_lexer lexer = BRM_LEXER_CLOSED;
+    brm_token tokens[4];
+    brm_status status = BRM_NO_MEMORY;
+    char text[1];
+    long refused = 0;
+    for (; status == BRM_NO_MEMORY; refused++) {
+        granted = refused;
+        status = brm_lexer_create(&lexer, rules, 3, 100, &fault, text, 0);
+        granted = -1;
+        EXPECT((status == BRM_DONE) == lexer.handle.is_open && fault.rule == 9);
+    }
+    EXPECT(status == BRM_DONE && refused > 50);
+    granted = 0;
+    EXPECT(brm_lexer_tokens(&lexer, "a 1.5", 5, tokens, 4, &(size_t){0}) == BRM_DONE && is_token(tokens[1], 1, 2, 5, 1, 3));
+    granted = -1;
+    brm_lexer_destroy(&lexer);
+}
+
 int main(void) {
     maps();
     many();
@@ -1189,8 +1363,12 @@ int main(void) {
     status_texts();
     texts();
     wide_maps();
+    prefixes_of_wide_maps();
     wide_sets();
     changed_by_functions();
+    lexers();
+    bad_rules();
+    refused_lexers();
     printf("C: %s\n", failures ? "FAILED" : "passed");
     return failures != 0;
 }

@@ -184,6 +184,7 @@ static void read_wide(const brm_handle *map, job *it) {
     brm_entry_u128 entry = {{{0, 0}, {0, 0}, 0}, 0}, entries[10];
     brm_range_u128 gaps[10];
     brm_piece_u128 pieces[10];
+    brm_prefix_u128 prefixes[3 * RANGES];
     brm_binding bound[2];
     brm_u128 keys[] = {*at(4), *at(5)};
     size_t read = 0;
@@ -208,6 +209,8 @@ static void read_wide(const brm_handle *map, job *it) {
     it->wrong += brm_map_u128_overlapping(map, &every, entries, 10, &read) != BRM_DONE || entries[9].value != 9;
     it->wrong += brm_map_u128_gaps(map, &every, gaps, 10, &read) != BRM_DONE || gaps[9].start.low != 95;
     it->wrong += brm_map_u128_pieces(map, &every, pieces, 10, &read) != BRM_DONE || pieces[8].binding.value != 4;
+    /* from an even key on: two keys, or a longer block, and the rest of five */
+    it->wrong += brm_map_u128_shortest(map, prefixes, 3 * RANGES, &read) != BRM_DONE || read < 2 * RANGES;
     it->wrong += brm_map_u128_get_many(map, keys, bound, 2) != BRM_DONE || !bound[0].is_bound || bound[1].is_bound;
     it->wrong += brm_save(map, text, sizeof text, &size) != BRM_NO_ROOM;
 }

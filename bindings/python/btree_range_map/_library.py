@@ -14,6 +14,7 @@ import struct
 from typing import TYPE_CHECKING, Any, Iterator
 
 DONE, NO_MEMORY, CLOSED, NONE, CONNECTED, OTHER_KIND, OPEN, NO_ROOM, NOT_JSON, NOT_READ, OCCUPIED = range(11)
+BAD_RULE, TOO_LARGE, NOT_TEXT = range(12, 15)
 START_EXCLUDED, START_UNBOUNDED, END_EXCLUDED, END_UNBOUNDED = 1, 2, 4, 8
 
 #: How many ranges a batch has at most.

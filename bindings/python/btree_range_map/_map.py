@@ -17,6 +17,7 @@ from . import _library as _c
 from ._collection import Collection, Keyed, NotLoaded, check
 from ._keys import IntegerKind, TimeKind, kind_named
 from ._library import library as _calls
+from ._prefixes import bits_of, longest, network_of, prefix_of, shortest
 from ._ranges import Range, written
 from ._set import RangeSet
 from ._values import Values
@@ -662,6 +663,40 @@ class RangeMap(Collection[K], Generic[K, V]):
         made = self._emptied()
         merged = ((self._between(first, last), merge(one, two)) for first, last, one, two in pieces)
         made.update([(keys, value) for keys, value in merged if value is not UNBOUND])
+        return made
+
+    def shortest(self) -> list[tuple[Any, V]]:
+        """The shortest table of prefixes with values that the map is, ascending: the longest prefix that holds a key has its
+        value, and none holds a key that is not bound. No such table is shorter; that is proved.
+
+        A prefix of "ipv4" and "ipv6" keys is a network, one of "u8" to "u128" keys the first key and how many bits are the
+        same; other keys have none. It needs memory for a copy of the ranges.
+
+        >>> from ipaddress import IPv4Network
+        >>> hops = RangeMap({IPv4Network("10.0.0.0/8"): "north", IPv4Network("10.1.0.0/16"): "south"}, keys="ipv4")
+        >>> hops.shortest()
+        [(IPv4Network('10.0.0.0/8'), 'north'), (IPv4Network('10.1.0.0/16'), 'south')]
+        """
+        bits = bits_of(self._keys)
+        with self._lock:
+            self._check_open()
+            entries = [entry for read, _ in self._batches() for entry in zip(*read)]
+            ranges = [(*self._first_and_last(*entry[:3]), entry[3]) for entry in entries]
+            table, found = self._values.table, shortest(bits, ranges)
+            return [(network_of(self._keys, first, length), table[number]) for first, length, number in found]
+
+    @staticmethod
+    def from_prefixes(prefixes: Iterable[tuple[Any, V]], *, keys: str) -> RangeMap[Any, V]:
+        """The map of prefixes with values in any order: each key is bound to the value of the longest prefix that holds it, of
+        equal prefixes the last. A prefix is what `shortest` gives; its first key may be any of its keys.
+
+        >>> RangeMap.from_prefixes([((6, 7), "long"), ((0, 4), "short")], keys="u8")
+        RangeMap({0:6: 'short', 6:8: 'long', 8:16: 'short'}, keys='u8')
+        """
+        made: RangeMap[Any, V] = RangeMap(keys=keys)
+        bits, given = bits_of(made._keys), list(prefixes)
+        numbered = [(*prefix_of(made._keys, network), number) for number, (network, _) in enumerate(given)]
+        made.update([(made._between(first, last), given[number][1]) for first, last, number in longest(bits, numbered)])
         return made
 
     def to_json(self) -> str:

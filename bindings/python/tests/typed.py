@@ -5,7 +5,7 @@ import ipaddress
 import uuid
 from typing import Dict, Iterator, List, Optional, Tuple, Union
 
-from btree_range_map import UNBOUND, Range, RangeMap, RangeSet, Unbound
+from btree_range_map import UNBOUND, Lexer, Range, RangeMap, RangeSet, Rule, Token, Unbound
 
 ports = RangeMap([(slice(0, 1024), "system"), (80, "web"), (Range(5, 9), "a"), (range(3), "b")])
 owner: Optional[str] = ports.get(80)
@@ -48,3 +48,11 @@ found: List[Optional[str]] = ports.get_many([1, 2])
 given: Dict[int, str] = {1: "a"}
 both: RangeMap[int, str] = ports | given
 last: Tuple[Range[int], str] = ports.popitem()
+lexer = Lexer([("word", "[a-z]+"), Rule("space", " ", skip=True)], states=100)
+for token in lexer.tokens("a b"):
+    name: str = token.name
+    column: int = token.column
+token = "a"  # error
+pieces: List[Token] = list(lexer.tokens(b"a b"))
+lexer.tokens(5)  # error
+Lexer([("word", 5)])  # error

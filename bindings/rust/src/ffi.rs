@@ -4,11 +4,16 @@ use std::ffi::c_void;
 
 pub const DONE: u32 = 0;
 const CONNECTED: u32 = 4;
-const NO_ROOM: u32 = 7;
+pub const NO_ROOM: u32 = 7;
 const NOT_JSON: u32 = 8;
 const NOT_READ: u32 = 9;
 const OCCUPIED: u32 = 10;
 const OUT_OF_ORDER: u32 = 11;
+pub const BAD_RULE: u32 = 12;
+pub const TOO_LARGE: u32 = 13;
+
+/// The reason of a rule whose pattern is none.
+pub const SYNTAX: u32 = 1;
 
 pub const START_EXCLUDED: u32 = 1;
 pub const START_UNBOUNDED: u32 = 2;
@@ -102,6 +107,48 @@ impl RawBinding {
 pub struct RawPiece<K> {
     pub range: RawRange<K>,
     pub binding: RawBinding,
+}
+
+/// A prefix of keys of 128 bits, with their value.
+#[repr(C)]
+#[derive(Clone, Copy, Default)]
+pub struct RawPrefix {
+    pub network: Wide,
+    pub value: u64,
+    pub length: u32,
+}
+
+/// A rule of a lexer.
+#[repr(C)]
+pub struct RawRule {
+    pub name: *const u8,
+    pub name_size: usize,
+    pub pattern: *const u8,
+    pub pattern_size: usize,
+    pub is_skipped: bool,
+}
+
+/// The first rule that is not taken, and why.
+#[repr(C)]
+#[derive(Default)]
+pub struct RawFault {
+    pub rule: usize,
+    pub start: usize,
+    pub end: usize,
+    pub text_size: usize,
+    pub reason: u32,
+}
+
+/// A token, or the place where none begins.
+#[repr(C)]
+#[derive(Clone, Copy, Debug, Default)]
+pub struct RawToken {
+    pub start: usize,
+    pub end: usize,
+    pub line: usize,
+    pub column: usize,
+    pub rule: u32,
+    pub is_token: bool,
 }
 
 /// A call that writes to an array what it finds in a range.
@@ -237,6 +284,13 @@ unsafe extern "C" {
         to: *mut RawBinding,
         room: usize,
     ) -> u32;
+    pub fn brm_map_u128_shortest(
+        map: *const RawHandle,
+        to: *mut RawPrefix,
+        capacity: usize,
+        count: &mut usize,
+    ) -> u32;
+    pub fn brm_map_u128_from_prefixes(made: *mut RawHandle, from: *const RawPrefix, size: usize) -> u32;
     pub fn brm_raw_overlay(map: *const RawHandle, other: *const RawHandle, made: *mut RawHandle) -> u32;
     pub fn brm_raw_restrict(map: *const RawHandle, keys: *const RawHandle, made: *mut RawHandle) -> u32;
     pub fn brm_raw_without(map: *const RawHandle, keys: *const RawHandle, made: *mut RawHandle) -> u32;
@@ -257,6 +311,23 @@ unsafe extern "C" {
         made: *mut RawHandle,
     ) -> u32;
     pub fn brm_raw_set_complement(set: *const RawHandle, made: *mut RawHandle) -> u32;
+    pub fn brm_lexer_create(
+        lexer: *mut RawHandle,
+        rules: *const RawRule,
+        size: usize,
+        budget: u32,
+        fault: &mut RawFault,
+        text: *mut u8,
+        capacity: usize,
+    ) -> u32;
+    pub fn brm_lexer_tokens(
+        lexer: *const RawHandle,
+        text: *const u8,
+        size: usize,
+        to: *mut RawToken,
+        capacity: usize,
+        count: &mut usize,
+    ) -> u32;
     pub fn brm_raw_set_is_subset(set: *const RawHandle, other: *const RawHandle) -> u32;
     pub fn brm_raw_set_is_disjoint(set: *const RawHandle, other: *const RawHandle) -> u32;
 }

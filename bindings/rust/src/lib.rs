@@ -1,4 +1,4 @@
-//! Maps and sets whose keys are gathered into ranges. The code behind them is proved in Rattle, and is linked as a
+//! Maps and sets whose keys are gathered into ranges, and lexers. The code behind them is proved in Rattle, and is linked as a
 //! static library.
 //!
 //! ```
@@ -16,23 +16,27 @@
 //!
 //! [`RangeMap`] has values of any type that is `Eq`, [`RangeSet`] has keys alone, and [`NumberMap`] is the
 //! proved map as it is, with numbers as values, calls that answer by an error where memory runs out, and JSON.
-//! [`serde_with!`] makes what `serde` needs. The crate needs std, and no other crate.
+//! [`Lexer`] cuts texts into tokens by rules. [`serde_with!`] makes what `serde` needs. The crate needs std, and no other crate.
 #![warn(missing_docs)]
 
 mod batches;
 mod ffi;
+mod lexer;
 mod map;
 mod numbers;
+mod prefixes;
 mod range;
 mod serde;
 mod set;
 mod values;
 
+pub use lexer::{Lexer, NoToken, NotBuilt, Rule, Token, Tokens};
 pub use map::{IntoIter as MapIntoIter, Iter as MapIter, RangeMap};
 pub use numbers::{
     Gaps as NumberGaps, Iter as NumberIter, NumberMap, Overlapping as NumberOverlapping,
     Pieces as NumberPieces,
 };
+pub use prefixes::{Address, Prefix};
 pub use range::{Key, Range};
 pub use set::{Iter as SetIter, RangeSet};
 

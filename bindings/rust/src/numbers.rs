@@ -30,7 +30,7 @@ use std::ops::RangeBounds;
 /// # Ok::<(), btree_range_map_proved::NoMemory>(())
 /// ```
 pub struct NumberMap<K: Key> {
-    handle: Handle,
+    pub(crate) handle: Handle,
     _keys: PhantomData<K>,
 }
 
@@ -52,6 +52,13 @@ fn shown<K: Key>(entry: RawEntry<K::Native>) -> (Range<K>, u64) {
 fn found<K: Key>(call: impl FnOnce(&mut RawEntry<K::Native>) -> u32) -> Option<(Range<K>, u64)> {
     let mut entry = RawEntry::default();
     (call(&mut entry) == ffi::DONE).then(|| shown::<K>(entry))
+}
+
+impl<K: Key> From<Handle> for NumberMap<K> {
+    /// The map that the handle is open on, whose keys these are.
+    fn from(handle: Handle) -> NumberMap<K> {
+        NumberMap { handle, _keys: PhantomData }
+    }
 }
 
 // SAFETY, of each call below: the handle is the map's own, open on a map of these keys, and written by no other call, by

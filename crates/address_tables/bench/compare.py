@@ -44,6 +44,20 @@ def disjoint(spans, width):
     return count
 
 
+def joined(spans, width):
+    """Returns how many prefixes are left where halves of one value become one, until there are none."""
+    kept = []
+    for first, last, value in spans:
+        while first <= last:
+            free = min((first & -first).bit_length() - 1 if first else width, (last - first + 1).bit_length() - 1)
+            kept.append((first, free, value))
+            first += 1 << free
+            while len(kept) > 1 and kept[-2] == (kept[-1][0] - (1 << kept[-1][1]), *kept[-1][1:]) and kept[-2][0] >> kept[-1][1] & 1 == 0:
+                low, size, value = kept[-2]
+                kept[-2:] = [(low, size + 1, value)]
+    return len(kept)
+
+
 def gather(spans, width):
     """Returns the labels of all blocks, each before those of its halves: None where an address has no value."""
     at = 0
@@ -107,7 +121,8 @@ def main():
         blocks = spans(path, WIDTHS[family])
         few, slow = timed(lambda: shortest(gather(blocks, WIDTHS[family]), None))
         apart, also = timed(disjoint, blocks, WIDTHS[family])
-        print(f"IPv{family}: Python: shortest {few} in {slow:.2f} s, disjoint {apart} in {also:.2f} s")
+        halves = joined(blocks, WIDTHS[family])
+        print(f"IPv{family}: Python: shortest {few} in {slow:.2f} s, disjoint {apart} in {also:.2f} s, halves joined {halves}")
         _, load, least = made[family, "load"]
         for call, wanted in zip(CALLS, (len(blocks), few, apart, len(blocks))):
             count, seconds, memory = made[family, call]

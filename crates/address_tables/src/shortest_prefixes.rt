@@ -73,7 +73,7 @@ fn shortest_or<'a, A: Address, V: Eq + Drop>(
     let _items = table.iter();
     let spans = spans_of(alloc, table, values.as_slice())?;
     let place = other_place(values.as_slice(), otherwise);
-    let numbered = shortest_table(alloc, spans.as_slice(), place, count, A::WIDTH)?;
+    let numbered = shortest_table(alloc, spans, place, count, A::WIDTH)?;
     let entries = entries_of(alloc, numbered.as_slice(), values.as_slice())?;
     Ok(entries)
 }

@@ -1,6 +1,7 @@
 //! The calls for C. Each takes a handle that may be closed, and says so.
 
 mod any;
+mod lexer;
 mod map_algebra;
 mod set_algebra;
 mod signed_map;

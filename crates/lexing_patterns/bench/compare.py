@@ -1,11 +1,13 @@
 """Cuts a text into tokens by rules, in several ways: compare.py WORK RULES TEXT
 
-`compare.sh` calls it. WORK has the program `scan`, and takes what is made. The rules become scanners of flex and re2c, over
-bytes, and a pattern of Python, whose parser reads them for all three.
+`compare.sh` calls it. WORK has the programs `scan` and `tokens`, and takes what is made. The rules become scanners of flex and
+re2c, over bytes, and a pattern of Python, whose parser reads them for all three; and a table by `tokens --table c`.
+Where there is `valgrind`, it counts the instructions for the first tenth of the text.
 """
 
 import pathlib
 import re
+import shutil
 import subprocess
 import sys
 import time
@@ -56,6 +58,23 @@ static void scan(char *text, size_t length) {
     YY_BUFFER_STATE buffer = yy_scan_buffer(text, length + 2);
     yylex();
     yy_delete_buffer(buffer);
+}
+%s"""
+TABLE = r"""%s
+#include "table.h"
+static void scan(char *text, size_t length) {
+    size_t from = 0, bytes;
+    uint32_t character;
+    int rule;
+    while (from < length) {
+        if ((bytes = token_next(text + from, length - from, &rule)) == 0) {
+            from += token_character(text + from, length - from, &character);
+            continue;
+        }
+        at = from += bytes;
+        if (!token_rules[rule].skipped)
+            TOKEN(rule);
+    }
 }
 %s"""
 RE2C = r"""%s
@@ -123,8 +142,13 @@ def spelled_part(kind, value, group):
     sys.exit(f"no pattern for all three: {kind}")
 
 
-def scanners(work, rules):
+def scanners(work, path, rules):
     """Makes the scanners, and gives the name of each with the command that runs it."""
+    table = subprocess.run([work / "tokens", "--table", "c", path], capture_output=True, check=True).stdout
+    (work / "table.h").write_bytes(table)
+    (work / "table.c").write_text(TABLE % (CLOCK, MAIN))
+    subprocess.run(["cc", "-O2", "-o", "table", "table.c"], cwd=work, check=True)
+    yield "table in C", [work / "table"]
     lines = [(number, name, spelled(_parser.parse(pattern), "(")) for number, name, pattern in rules]
     action = lambda number, name: "" if name == "skip" else f"TOKEN({number});"
     of_flex = "\n".join(f"{pattern} {action(number, name)};" for number, name, pattern in lines)
@@ -163,20 +187,33 @@ def by_python(rules, text):
     return least, count, total % (1 << 64)
 
 
+def instructions(words, text):
+    """Returns the instructions that a pass over a tenth of the text takes: of two passes, less those of one."""
+    part = text.read_bytes()[: text.stat().st_size // 10].decode(errors="ignore").encode()
+    counted = []
+    for times in ("1", "2"):
+        command = ["valgrind", "--tool=callgrind", "--callgrind-out-file=/dev/null", *words, times]
+        said = subprocess.run(command, input=part, capture_output=True, check=True).stderr.decode()
+        counted.append(int(re.search(r"Collected : (\d+)", said)[1]))
+    return (counted[1] - counted[0]) / len(part)
+
+
 def main():
     work, path, text = map(pathlib.Path, sys.argv[1:])
     rules = list(rules_of(path))
-    found = {}
-    commands = [("machine", [work / "scan", path]), *scanners(work, rules)]
+    found, counts = {}, {}
+    commands = [("machine", [work / "scan", path]), *scanners(work, path, rules)]
     for name, words in commands:
         with text.open() as given:
             said = subprocess.run([*words, str(TIMES)], stdin=given, capture_output=True, check=True).stdout
         found[name] = tuple(map(int, said.split()))
+        if shutil.which("valgrind"):
+            counts[name] = f", {instructions(words, text):.1f} instructions a byte"
     found["Python's re"] = by_python(rules, text)
     ours, count, total, states = found["machine"]
     print(f"{path.stem}: {text.stat().st_size} bytes, {count} tokens, {states} states")
     for name, (spent, *others) in found.items():
-        print(f"  {name}: {spent / 1e6:.0f} ms, {spent / ours:.2f} of the machine's")
+        print(f"  {name}: {spent / 1e6:.0f} ms, {spent / ours:.2f} of the machine's{counts.get(name, '')}")
         if others[:2] != [count, total]:
             print(f"  {name}: other tokens, {others[0]}")
 

@@ -1,8 +1,9 @@
 #!/bin/sh
 # compare.sh [MEGABYTES]: cuts so many megabytes (10) of the headers of libc6-dev and linux-libc-dev by rules of C, and as
-# many of the kit's JSON by those of JSON, into tokens: by a machine, by scanners that flex and re2c make of the same rules,
-# and by Python's `re`. All have to find the same. Prints the quickest of some times, and the ratios to the machine's.
-# Builds the library without its proof. Needs `rt`, flex, re2c, `cc`, python3 and dpkg.
+# many of the kit's JSON by those of JSON, into tokens: by a machine, by the table in C that `tokens` writes, by scanners that
+# flex and re2c make of the same rules, and by Python's `re`. All have to find the same. Prints the quickest of some times,
+# the ratios to the machine's, and instructions where there is `valgrind`. Builds the library and `tokens` without their
+# proof. Needs `rt`, flex, re2c, `cc`, python3 and dpkg.
 set -eu
 bench=$(cd "$(dirname "$0")" && pwd)
 top=$(cd "$bench/../../.." && pwd)
@@ -13,7 +14,9 @@ trap 'rm -rf "$work"' EXIT
 echo 'scan: anyhow lexing lexing_patterns' >> "$work/crates.txt"
 mkdir -p "$work/crates/scan/src"
 cp "$bench/scan.txt" "$work/crates/scan/src/main.rt"
-python3 "$top/bindings/unproved.py" "$work" "$work/crates/scan"
+for crate in scan tokens; do
+    python3 "$top/bindings/unproved.py" "$work" "$work/crates/$crate"
+done
 
 # The files whose names are given, over and over, until there are enough bytes.
 enough() {

@@ -14,7 +14,7 @@ pub enum PatternError {
     #[error("{0}")]
     Syntax(regex_syntax::Error),
     /// It has an assertion, such as `^`, `$` or `\b`: a token is matched by its own text alone.
-    #[error("assertions are not taken")]
+    #[error("assertions such as ^, $ and \\b are not taken")]
     Assertion,
     /// It may match bytes that are no UTF-8.
     #[error("bytes that are no UTF-8 are not taken")]

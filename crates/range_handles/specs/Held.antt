@@ -2,7 +2,7 @@
 use Rattle.std.specs.Prelude.{ℕ, [], length, Option, Some, None, ⊤}
 use Rattle.range_handles.specs.Lists.{Ranges, SignedRanges, WideRanges, KeyRanges, SignedKeyRanges, WideKeyRanges}
 use Rattle.range_handles.specs.declared.collection.Collection.{Collection}
-use Rattle.range_handles.specs.declared.collection.Collection.TheVariants.{Unsigned, Signed, Set, SignedSet, Wide, WideSet}
+use Rattle.range_handles.specs.declared.collection.Collection.TheVariants.{Unsigned, Signed, Set, SignedSet, Wide, WideSet, Lexer}
 
 -- a map of `u64` keys is held
 abbrev pub HoldsMap : Option Collection → Type 0
@@ -59,6 +59,17 @@ abbrev pub wide_set_items : Option Collection → WideKeyRanges
 wide_set_items (Some (WideSet items)) = items
 wide_set_items _ = []
 
+-- a map or a set is held, and no lexer
+abbrev pub HoldsRanges : Option Collection → Type 0
+HoldsRanges None = ⊥
+HoldsRanges (Some (Lexer machine)) = ⊥
+HoldsRanges _ = ⊤
+
+-- a lexer is held
+abbrev pub HoldsLexer : Option Collection → Type 0
+HoldsLexer (Some (Lexer machine)) = ⊤
+HoldsLexer _ = ⊥
+
 -- how many ranges are stored
 abbrev pub range_count : Option Collection → ℕ
 range_count (Some (Unsigned items)) = length items
@@ -67,9 +78,10 @@ range_count (Some (Set items)) = length items
 range_count (Some (SignedSet items)) = length items
 range_count (Some (Wide items)) = length items
 range_count (Some (WideSet items)) = length items
+range_count (Some (Lexer machine)) = 0
 range_count None = 0
 
--- the same kind, with no range
+-- the same kind, with no range; a lexer has none
 abbrev pub emptied : Option Collection → Option Collection
 emptied (Some (Unsigned items)) = Some (Unsigned [])
 emptied (Some (Signed items)) = Some (Signed [])
@@ -77,4 +89,5 @@ emptied (Some (Set items)) = Some (Set [])
 emptied (Some (SignedSet items)) = Some (SignedSet [])
 emptied (Some (Wide items)) = Some (Wide [])
 emptied (Some (WideSet items)) = Some (WideSet [])
+emptied (Some (Lexer machine)) = Some (Lexer machine)
 emptied None = None

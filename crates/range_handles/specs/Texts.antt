@@ -1,6 +1,6 @@
 -- What an open handle is saved as, and what a text is read as.
 use Rattle.std.specs.Prelude.{◌≡◌, ℕ, ℤ, List, nat_eq, Bool, is_some, Option, Some, None}
-use Rattle.serde_json.specs.Data.{Data}
+use Rattle.serde_json.specs.Data.{Data, null}
 use Rattle.serde_json.specs.Read.{read}
 use Rattle.serde_json.specs.Written.{compact_text}
 use Rattle.btree_range_map.specs.Faults.{IsSetRead, set_fault}
@@ -12,7 +12,7 @@ use Rattle.btree_range_map.specs.Shapes.{map_shape, set_shape}
 use Rattle.address_keys.specs.Addresses.{ipv6_order}
 use Rattle.address_keys.specs.Json.{IsIpv6Read, ipv6_shape, reads_ipv6}
 use Rattle.range_handles.specs.declared.collection.Collection.{Collection}
-use Rattle.range_handles.specs.declared.collection.Collection.TheVariants.{Unsigned, Signed, Set, SignedSet, Wide, WideSet}
+use Rattle.range_handles.specs.declared.collection.Collection.TheVariants.{Unsigned, Signed, Set, SignedSet, Wide, WideSet, Lexer}
 
 -- a `u64`, and an `i64`, is read of the JSON value
 abbrev pub reads_unsigned : Data → Bool
@@ -27,7 +27,7 @@ reads_signed d = is_some (signed_of 9223372036854775807 d)
 abbrev pub IsSignedRead : Data → ℤ → Type 0
 IsSignedRead d z = signed_of 9223372036854775807 d ≡ Some z
 
--- the JSON value that a collection is written as
+-- the JSON value that a collection is written as; a lexer is not written
 abbrev pub data_of : Collection → Data
 data_of (Unsigned items) = map_shape unsigned_shape unsigned_shape items
 data_of (Signed items) = map_shape signed_shape unsigned_shape items
@@ -35,6 +35,7 @@ data_of (Set items) = set_shape unsigned_shape items
 data_of (SignedSet items) = set_shape signed_shape items
 data_of (Wide items) = map_shape ipv6_shape unsigned_shape items
 data_of (WideSet items) = set_shape ipv6_shape items
+data_of (Lexer machine) = null
 
 -- what the JSON value is read as
 abbrev pub IsDataRead : Data → Collection → Type 0
@@ -47,6 +48,7 @@ IsDataRead d (SignedSet items) = IsSetRead IsSignedRead i64_order d items
 IsDataRead d (Wide items) =
     IsMapRead ipv6_order reads_ipv6 reads_unsigned IsIpv6Read IsUnsignedRead nat_eq d items
 IsDataRead d (WideSet items) = IsSetRead IsIpv6Read ipv6_order d items
+IsDataRead d (Lexer machine) = ⊥
 
 -- a fault of the value as one of the collection's kind
 abbrev pub IsDataFault : Collection → Data → JsonError → Type 0
@@ -59,10 +61,12 @@ IsDataFault (SignedSet items) d e = set_fault reads_signed d ≡ Some e
 IsDataFault (Wide items) d e =
     IsMapFault ipv6_order reads_ipv6 reads_unsigned IsIpv6Read IsUnsignedRead d e
 IsDataFault (WideSet items) d e = set_fault reads_ipv6 d ≡ Some e
+IsDataFault (Lexer machine) d e = ⊥
 
 -- the text that what is held is saved as
 abbrev pub IsTextOf : Option Collection → List ℕ → Type 0
 IsTextOf None text = ⊥
+IsTextOf (Some (Lexer machine)) text = ⊥
 IsTextOf (Some collection) text = text ≡ compact_text (data_of collection)
 
 -- what the text is read as is held

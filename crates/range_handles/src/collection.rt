@@ -1,23 +1,24 @@
 //! What an open handle leads to.
-ghost use Rattle.std.specs.Prelude.{◌≡◌, ◌≢◌, ◌⊎◌, Some, None, IfOk, IfErr, IsUtf8};
+ghost use Rattle.std.specs.Prelude.{◌≡◌, ◌≢◌, ◌⊎◌, ◌↔◌, Some, None, IfOk, IfErr, IsTrue, IsUtf8};
 ghost use Rattle.serde_json.specs.Read.{read as read_text};
 ghost use Rattle.serde_json.specs.View.{view};
 ghost use Rattle.serde_json.specs.Written.{compact_text};
 ghost use Rattle.btree_range_map.specs.JsonError.TheVariants.{Memory};
 ghost use Rattle.range_handles.specs.Alike.{AreAlike, IsCopy};
 ghost use Rattle.range_handles.specs.Fewest.{IsLeastRangeCount};
-ghost use Rattle.range_handles.specs.Held.{range_count, emptied};
+ghost use Rattle.range_handles.specs.Held.{HoldsRanges, range_count, emptied};
 ghost use Rattle.range_handles.specs.Texts.{data_of, IsDataFault, IsDataRead, IsFaultyText, IsTextRead};
 
 use crate::kept_map::KeptMap;
 use crate::kept_set::KeptSet;
 use address_keys::Ipv6;
 use btree_range_map::json::JsonError;
+use lexing::Machine;
 use range_ffi::status::{DONE, NO_MEMORY, NONE, NOT_JSON, NOT_READ, OTHER_KIND, answer};
 use serde_json::Value;
 use std::alloc::{AllocError, Global};
 
-/// A map or a set, which a contract sees as its ranges.
+/// A map or a set, which a contract sees as its ranges, or the machine of a lexer, which has none.
 #[derive(Drop)]
 pub enum Collection {
     Unsigned(KeptMap<u64>),
@@ -26,9 +27,17 @@ pub enum Collection {
     SignedSet(KeptSet<i64>),
     Wide(KeptMap<Ipv6>),
     WideSet(KeptSet<Ipv6>),
+    Lexer(Machine),
 }
 
 impl Collection {
+    /// Whether this is a map or a set.
+    pub fn has_ranges(&self) -> bool
+        ensures { IsTrue result ↔ HoldsRanges (Some self.now) }
+    {
+        !matches!(self, Collection::Lexer(_))
+    }
+
     /// How many ranges are stored.
     pub fn range_count(&self) -> usize
         ensures value { result ≡ range_count (Some self.now) }
@@ -41,6 +50,7 @@ impl Collection {
             Collection::SignedSet(set) => set.range_count(),
             Collection::Wide(map) => map.range_count(),
             Collection::WideSet(set) => set.range_count(),
+            Collection::Lexer(_) => 0,
         }
     }
 
@@ -55,10 +65,11 @@ impl Collection {
             Collection::SignedSet(set) => set.clear(),
             Collection::Wide(map) => map.clear(),
             Collection::WideSet(set) => set.clear(),
+            Collection::Lexer(_) => {}
         }
     }
 
-    /// A collection of the same kind, with equal ranges and equal values.
+    /// A collection of the same kind, with equal ranges and equal values. There is none of a lexer.
     pub fn copied(&self) -> Result<Collection, AllocError>
         ensures { IfOk result (λ copy. IsCopy (Some copy) (Some self.now)) }
     {
@@ -69,17 +80,20 @@ impl Collection {
             Collection::SignedSet(set) => Ok(Collection::SignedSet(set.copied()?)),
             Collection::Wide(map) => Ok(Collection::Wide(map.copied()?)),
             Collection::WideSet(set) => Ok(Collection::WideSet(set.copied()?)),
+            Collection::Lexer(_) => Err(AllocError),
         }
     }
 
-    /// Whether the other is of this kind, and binds each key as this one does.
+    /// Whether the other is of this kind, and binds each key as this one does. Lexers are not compared.
     pub fn equals(&self, other: &Collection) -> u32
         ensures yes { result ≡ DONE → AreAlike (Some self.now) (Some other.now) }
         ensures no { result ≡ NONE → ¬ AreAlike (Some self.now) (Some other.now) }
-        ensures answer { emptied (Some self.now) ≡ emptied (Some other.now)
+        ensures answer { HoldsRanges (Some self.now)
+            → emptied (Some self.now) ≡ emptied (Some other.now)
             → (result ≡ DONE) ⊎ (result ≡ NONE) }
         ensures other { (¬ emptied (Some self.now) ≡ emptied (Some other.now))
             → result ≡ OTHER_KIND }
+        ensures lexer { (¬ HoldsRanges (Some self.now)) → result ≡ OTHER_KIND }
     {
         match (self, other) {
             (Collection::Unsigned(map), Collection::Unsigned(second)) => answer(map.equals(second)),
@@ -94,7 +108,7 @@ impl Collection {
         }
     }
 
-    /// The JSON text that it is saved as.
+    /// The JSON text that it is saved as. There is none of a lexer.
     pub fn text(&self, alloc: Global) -> Result<Vec<u8>, AllocError>
         ensures { IfOk result (λ text. text.items ≡ compact_text (data_of self.now)) }
     {
@@ -105,6 +119,7 @@ impl Collection {
             Collection::SignedSet(set) => set.text(alloc),
             Collection::Wide(map) => map.text(alloc),
             Collection::WideSet(set) => set.text(alloc),
+            Collection::Lexer(_) => Err(AllocError),
         }
     }
 
@@ -122,6 +137,7 @@ impl Collection {
             Collection::SignedSet(_) => Ok(Collection::SignedSet(KeptSet::read(alloc, value)?)),
             Collection::Wide(_) => Ok(Collection::Wide(KeptMap::read(alloc, value)?)),
             Collection::WideSet(_) => Ok(Collection::WideSet(KeptSet::read(alloc, value)?)),
+            Collection::Lexer(_) => Err(JsonError::Memory),
         }
     }
 

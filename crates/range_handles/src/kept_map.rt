@@ -66,6 +66,13 @@ impl<K: Key> KeptMap<K> {
         }
     }
 
+    /// The map as it is.
+    pub fn of(map: RangeMap<K, u64>) -> KeptMap<K>
+        ensures { result ≡ box_items map }
+    {
+        KeptMap { map }
+    }
+
     /// The map, for what only reads it.
     pub fn as_map(&self) -> &RangeMap<K, u64>
         ensures { box_items result.now ≡ self.now }

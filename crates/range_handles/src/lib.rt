@@ -1,4 +1,4 @@
-//! Maps and sets of ranges behind handles, for callers from other languages.
+//! Maps and sets of ranges behind handles, for callers from other languages, and lexers.
 //!
 //! A handle is a struct of the caller's own: closed, or open on a collection whose type the caller
 //! does not see. A call on a collection that may be of another kind answers by a status of

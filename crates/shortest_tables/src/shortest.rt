@@ -33,23 +33,24 @@ fn empty_marks(alloc: Global, count: u32) -> Result<Marks, AllocError>
 /// values.
 pub fn shortest_table(
     alloc: Global,
-    spans: &[Span<u32>],
+    spans: Vec<Span<u32>>,
     otherwise: Option<u32>,
     count: u32,
     width: u8,
 ) -> Result<Vec<Entry<u32>>, AllocError>
-    requires spans { AreAscending count 0 spans.now }
+    requires spans { AreAscending count 0 spans.items }
     requires otherwise { IsNumbered count otherwise }
     requires small { width ≤ 128 }
     ensures blocks { IfOk result (λ table. AllByRecursion (IsBlock width) table.items) }
     ensures values { IfOk result (λ table. AllByRecursion (λ e. e.value < count) table.items) }
     ensures routes { IfOk result
-        (λ table. RoutesAs width (value_at otherwise spans.now) table.items) }
+        (λ table. RoutesAs width (value_at otherwise spans.items) table.items) }
     ensures fewest { IfOk result
-        (λ table. AreFewest width (value_at otherwise spans.now) table.items) }
+        (λ table. AreFewest width (value_at otherwise spans.items) table.items) }
 {
     let mut marks = empty_marks(alloc, count)?;
-    gather(alloc, spans, otherwise, 0, width, &mut marks)?;
+    gather(alloc, spans.as_slice(), otherwise, 0, width, &mut marks)?;
+    drop(spans);
     let mut table = Vec::new(alloc);
     push_entries(&mut marks, 0, width, width, None, &mut table)?;
     table.reverse();

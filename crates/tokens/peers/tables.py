@@ -1,11 +1,13 @@
 #!/usr/bin/env python3
 """tables.py TOKENS [COUNT [SEED]]: holds what `tokens --table` writes to `tokens` itself.
+tables.py TOKENS --few: the same of two small files of rules and three random ones, with few texts. The gate runs it.
 
 TOKENS is the program. The rules that come with it are written as tables, and COUNT (20) files of random rules, half of whose
 characters stand where UTF-8 takes a byte more. `cc` compiles the tables in C, with all warnings as errors, and `rustc` those in
-Rust where there is one. Each cuts files of this machine, or random texts: the names, the texts and the number of characters
-where no token begins have to be those of `tokens --json`. Then one number of each table is changed, and has to be noticed for
-some text, for most tables. The status is 1 where something differs.
+Rust. One that this machine lacks is left out. Each cuts files of this machine, or random texts: the names, the texts and the
+number of characters where no token begins have to be those of `tokens --json`. Then a number of each table is changed, up to
+four times another one, until some text tells; of most tables one has to. The last line counts tables; the status is 1 where
+something differs.
 """
 
 import json
@@ -18,7 +20,11 @@ import sys
 import tempfile
 
 DATA = pathlib.Path(__file__).resolve().parent.parent / "data"
-FILES = {"c": "/usr/include/**/*.h", "json": "/usr/**/*.json", "toml": "/root/**/*.toml", "rust": "/root/**/*.rs"}
+# The rules that come with the program, each with the files that it cuts, or none for random texts; and those of `--few`.
+FILES = {"calculator": None, "c": "/usr/include/**/*.h", "json": "/usr/**/*.json", "toml": "/root/**/*.toml", "rust": "/root/**/*.rs"}
+FEW = {"calculator": None, "toml": f"{DATA.parents[2]}/bindings/**/*.toml"}
+COMPILERS = {"c": "cc", "rust": "rustc"}
+TRIES = 4
 LETTERS = "ab0 .\x7f\x80\u07ff\u0800\ud7ff\ue000\uffff\U00010000\U0010ffff"
 IN_C = r"""
 #include <stdio.h>
@@ -139,15 +145,15 @@ def differs(tokens, rules, programs, path):
     return None
 
 
-def texts_of(draw, folder, language):
-    """Gives paths of texts: of a language some files of this machine, else random ones."""
-    if language in FILES:
-        found = [it for it in sorted(pathlib.Path("/").glob(FILES[language][1:])) if it.is_file() and it.stat().st_size < 1 << 20]
-        for path in draw.sample(found, min(20, len(found))):
+def texts_of(draw, folder, files, count):
+    """Gives paths of so many texts: of these files, else random ones."""
+    if files:
+        found = [it for it in sorted(pathlib.Path("/").glob(files[1:])) if it.is_file() and it.stat().st_size < 1 << 20]
+        for path in draw.sample(found, min(count, len(found))):
             if is_text(path.read_bytes()):
                 yield path
         return
-    for number in range(20):
+    for number in range(count):
         path = folder / f"text{number}"
         path.write_text("".join(draw.choices(LETTERS, k=draw.randrange(60))), newline="")
         yield path
@@ -161,38 +167,50 @@ def is_text(content):
     return True
 
 
-def tried(tokens, draw, rules, language, targets):
+def tried(tokens, draw, rules, files, targets, count):
     """Returns whether all agree on the rules, how many texts there were, and whether a changed number is noticed."""
     with tempfile.TemporaryDirectory() as room:
         folder = pathlib.Path(room)
         programs = [built(tokens, rules, folder, it) for it in targets]
-        texts = list(texts_of(draw, folder, language))
+        texts = list(texts_of(draw, folder, files, count))
         for path in texts:
             found = differs(tokens, rules, programs, path)
             if found:
                 print(f"{rules}: {found} differs at {path}:\n{rules.read_text()}\n{path.read_bytes()!r}")
                 return False, len(texts), False
-        spoiled = built(tokens, rules, folder, "c", draw.randrange(1 << 30))
-        return True, len(texts), spoiled and any(differs(tokens, rules, [spoiled], it) for it in texts)
+        return True, len(texts), any(notices(tokens, draw, rules, folder, targets[0], texts) for _ in range(TRIES))
+
+
+def notices(tokens, draw, rules, folder, target, texts):
+    """Returns whether some text tells a table of which a number is changed from the right one."""
+    spoiled = built(tokens, rules, folder, target, draw.randrange(1 << 30))
+    return spoiled is not None and any(differs(tokens, rules, [spoiled], it) for it in texts)
+
+
+def drawn(draw, folder, count):
+    """Gives so many files of random rules."""
+    for number in range(count):
+        path = folder / f"rules{number}"
+        drawn_rules(draw, path)
+        yield path, None
 
 
 def main():
-    tokens = str(pathlib.Path(sys.argv[1]).resolve())
-    count, seed = (int(it) for it in [*sys.argv[2:], *("20", "1")[len(sys.argv) - 2 :]])
-    targets = ["c", "rust"] if shutil.which("rustc") else ["c"]
-    draw = random.Random(seed)
+    tokens, is_few = str(pathlib.Path(sys.argv[1]).resolve()), sys.argv[2:] == ["--few"]
+    count, seed = ("3", "1") if is_few else [*sys.argv[2:], *("20", "1")[len(sys.argv) - 2 :]]
+    targets = [language for language, compiler in COMPILERS.items() if shutil.which(compiler)]
+    draw = random.Random(int(seed))
     good = bad = texts = noticed = 0
-    with tempfile.TemporaryDirectory() as room:
-        drawn = []
-        for number in range(count):
-            drawn.append((pathlib.Path(room) / f"rules{number}", None))
-            drawn_rules(draw, drawn[-1][0])
-        known = [(DATA / it, it) for it in ("calculator", "json", "toml", "c", "rust")]
-        for rules, language in [*known, *drawn]:
-            agrees, number, is_noticed = tried(tokens, draw, rules, language, targets)
-            good, bad, texts, noticed = good + agrees, bad + (not agrees), texts + number, noticed + bool(is_noticed)
-    print(f"{good} tables agree on {texts} texts in {' and '.join(targets)}, {bad} differ; of {noticed} a changed number is noticed")
-    return int(bad > 0 or noticed * 2 < good)
+    if targets:
+        with tempfile.TemporaryDirectory() as room:
+            known = [(DATA / name, files) for name, files in (FEW if is_few else FILES).items()]
+            for rules, files in [*known, *drawn(draw, pathlib.Path(room), int(count))]:
+                agrees, number, is_noticed = tried(tokens, draw, rules, files, targets, 6 if is_few else 20)
+                good, bad, texts, noticed = good + agrees, bad + (not agrees), texts + number, noticed + bool(is_noticed)
+    is_blind = noticed * 2 < good
+    print(f"{texts} texts, in {' and '.join(targets) or 'no language'}; of {noticed} tables a changed number is noticed")
+    print(f"{good} passed, {bad + is_blind} failed, {len(COMPILERS) - len(targets)} skipped")
+    return int(bad > 0 or is_blind)
 
 
 if __name__ == "__main__":

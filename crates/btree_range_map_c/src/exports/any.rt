@@ -3,7 +3,7 @@ ghost use Rattle.std.specs.Prelude.{◌≡◌, ◌≢◌, ◌⊎◌, ◌++◌, �
 ghost use Rattle.serde_json.specs.Read.{read};
 ghost use Rattle.range_handles.specs.Alike.{AreAlike, IsCopy};
 ghost use Rattle.range_handles.specs.Fewest.{IsLeastRangeCount};
-ghost use Rattle.range_handles.specs.Held.{range_count, emptied};
+ghost use Rattle.range_handles.specs.Held.{HoldsRanges, range_count, emptied};
 ghost use Rattle.range_handles.specs.Texts.{IsTextOf, IsTextRead, IsFaultyText};
 
 use range_ffi::status::{
@@ -51,7 +51,8 @@ pub extern "C" fn brm_count(handle: &mut Handle) -> usize
     handle.seal.as_mut().range_count()
 }
 
-/// Opens a closed handle on a collection of the same kind, with equal ranges and values.
+/// Opens a closed handle on a collection of the same kind, with equal ranges and values. A lexer is
+/// not cloned.
 ///
 /// Allocates its ranges, and one block more. Goes once over what is held.
 #[unsafe(no_mangle)]
@@ -61,14 +62,19 @@ pub extern "C" fn brm_raw_clone(alloc: Global, handle: &mut Handle, made: &mut H
     ensures refused { result ≢ DONE → made.new.seal.held ≡ made.old.seal.held }
     ensures open { made.old.is_open ≡ true → result ≡ OPEN }
     ensures closed { made.old.is_open ≡ false → handle.old.is_open ≡ false → result ≡ CLOSED }
-    ensures answer { made.old.is_open ≡ false → handle.old.is_open ≡ true
+    ensures answer { made.old.is_open ≡ false → HoldsRanges handle.old.seal.held
         → (result ≡ DONE) ⊎ (result ≡ NO_MEMORY) }
+    ensures other { made.old.is_open ≡ false → handle.old.is_open ≡ true
+        → (¬ HoldsRanges handle.old.seal.held) → result ≡ OTHER_KIND }
 {
     if made.is_open {
         return OPEN;
     }
     if !handle.is_open {
         return CLOSED;
+    }
+    if !handle.seal.as_mut().has_ranges() {
+        return OTHER_KIND;
     }
     match handle.seal.as_mut().copied() {
         Ok(copy) => made.fill(alloc, copy),
@@ -77,7 +83,7 @@ pub extern "C" fn brm_raw_clone(alloc: Global, handle: &mut Handle, made: &mut H
 }
 
 /// Whether both hold the same: `DONE` where each key is bound alike, or in both or in neither,
-/// `NONE` where one is not, `OTHER_KIND` of collections of two kinds.
+/// `NONE` where one is not, `OTHER_KIND` of collections of two kinds and of lexers.
 ///
 /// Goes once over both.
 #[unsafe(no_mangle)]
@@ -88,12 +94,14 @@ pub extern "C" fn brm_raw_equal(handle: &mut Handle, other: &mut Handle) -> u32
     ensures no { result ≡ NONE → ¬ AreAlike handle.old.seal.held other.old.seal.held }
     ensures closed { (handle.old.is_open ≡ false) ⊎ (other.old.is_open ≡ false)
         → result ≡ CLOSED }
-    ensures answer { handle.old.is_open ≡ true → other.old.is_open ≡ true
+    ensures answer { HoldsRanges handle.old.seal.held → other.old.is_open ≡ true
         → emptied handle.old.seal.held ≡ emptied other.old.seal.held
         → (result ≡ DONE) ⊎ (result ≡ NONE) }
     ensures other { handle.old.is_open ≡ true → other.old.is_open ≡ true
         → (¬ emptied handle.old.seal.held ≡ emptied other.old.seal.held)
         → result ≡ OTHER_KIND }
+    ensures lexer { handle.old.is_open ≡ true → other.old.is_open ≡ true
+        → (¬ HoldsRanges handle.old.seal.held) → result ≡ OTHER_KIND }
 {
     if !handle.is_open || !other.is_open {
         return CLOSED;
@@ -139,11 +147,16 @@ pub extern "C" fn brm_save(
     ensures unwritten { result ≢ DONE → buffer.new ≡ buffer.old }
     ensures untold { result ≢ DONE → result ≢ NO_ROOM → size.new ≡ size.old }
     ensures closed { handle.old.is_open ≡ false → result ≡ CLOSED }
-    ensures answer { handle.old.is_open ≡ true
+    ensures answer { HoldsRanges handle.old.seal.held
         → (result ≡ DONE) ⊎ ((result ≡ NO_ROOM) ⊎ (result ≡ NO_MEMORY)) }
+    ensures other { handle.old.is_open ≡ true → (¬ HoldsRanges handle.old.seal.held)
+        → result ≡ OTHER_KIND }
 {
     if !handle.is_open {
         return CLOSED;
+    }
+    if !handle.seal.as_mut().has_ranges() {
+        return OTHER_KIND;
     }
     match handle.seal.as_mut().text(alloc) {
         Ok(text) => copy_text(text.as_slice(), buffer, size),
@@ -162,11 +175,16 @@ pub extern "C" fn brm_load(alloc: Global, handle: &mut Handle, text: &[u8]) -> u
     ensures not_json { result ≡ NOT_JSON → IsUtf8 text.now → read text.now ≡ None }
     ensures not_read { result ≡ NOT_READ → IsFaultyText handle.old.seal.held text.now }
     ensures closed { handle.old.is_open ≡ false → result ≡ CLOSED }
-    ensures answer { handle.old.is_open ≡ true → (result ≡ DONE)
+    ensures answer { HoldsRanges handle.old.seal.held → (result ≡ DONE)
         ⊎ ((result ≡ NO_MEMORY) ⊎ ((result ≡ NOT_JSON) ⊎ (result ≡ NOT_READ))) }
+    ensures other { handle.old.is_open ≡ true → (¬ HoldsRanges handle.old.seal.held)
+        → result ≡ OTHER_KIND }
 {
     if !handle.is_open {
         return CLOSED;
+    }
+    if !handle.seal.as_mut().has_ranges() {
+        return OTHER_KIND;
     }
     handle.seal.as_mut().load(alloc, text)
 }

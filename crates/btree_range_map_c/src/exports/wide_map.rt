@@ -11,6 +11,7 @@ ghost use Rattle.range_handles.specs.Held.{HoldsWideMap, wide_items};
 ghost use Rattle.range_handles.specs.Lists.{WideRanges};
 
 mod many;
+mod tables;
 mod together;
 
 use range_ffi::status::{CLOSED, CONNECTED, DONE, NO_MEMORY, NONE, OCCUPIED, OPEN, OTHER_KIND};

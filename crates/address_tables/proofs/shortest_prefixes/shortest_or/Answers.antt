@@ -15,7 +15,7 @@ shortest_table-requires-clause-spans g c =
     let count : length (map (λ v. v.now) c.in_ok-values.values.items) ≡ c.in-Ok.count =
     omega (arith, long, mapped, c.len.ensures) in
     let spans = rw c.as_slice.ensures.value at c.in_ok-spans.ensures in
-    rw (c.as_slice-3.ensures.value, spans, ← count)
+    rw (spans, ← count)
     (spans_ascend g.met.A.Address.family g.V.PartialEq.eq
     (map (λ v. v.now) c.in_ok-values.values.items) (box_items c.args.table.now)
     canonical.stored.known (canonical.coarse g.met.A.Complete.complete) c.in_ok-values.ensures.1)
@@ -35,7 +35,7 @@ entries_of-requires-clause-values g c =
     let long = rw c.as_slice.ensures.value at c.as_slice.ensures.len in
     let count : length c.in_ok-values.values.items ≡ c.in-Ok.count =
     omega (arith, long, c.len.ensures) in
-    rw (c.as_slice-4.ensures.value, c.as_slice-5.ensures.value, count)
+    rw (c.as_slice-3.ensures.value, c.as_slice-4.ensures.value, count)
     c.in_ok-numbered.ensures.values
 
 pub returns : goal.returns
@@ -56,13 +56,13 @@ returns g c =
     omega (arith, long, c.len.ensures) in
     let blocks = rw c.WIDTH.ensures at c.in_ok-numbered.ensures.blocks in
     let below = rw (← count) at c.in_ok-numbered.ensures.values in
-    let named = rw (c.as_slice-4.ensures.value, c.as_slice-5.ensures.value)
+    let named = rw (c.as_slice-3.ensures.value, c.as_slice-4.ensures.value)
     at c.in_ok-entries.ensures in
     let spans = rw c.as_slice.ensures.value at c.in_ok-spans.ensures in
     let place = rw c.as_slice-2.ensures.value at c.other_place-place.ensures in
-    let routes = rw (c.WIDTH.ensures, c.as_slice-3.ensures.value, spans, place)
+    let routes = rw (c.WIDTH.ensures, spans, place)
     at c.in_ok-numbered.ensures.routes in
-    let fewest = rw (c.WIDTH.ensures, c.as_slice-3.ensures.value, spans, place)
+    let fewest = rw (c.WIDTH.ensures, spans, place)
     at c.in_ok-numbered.ensures.fewest in
     record {
       prefixes = whole family borrowed es rs blocks named;

@@ -17,9 +17,9 @@ push_entries-requires-clause-fits c = let p : 2 ^ c.args.width ≤ 2 ^ 128 = pow
 
 pub returns-clause-blocks : goal.returns-clause-blocks
 returns-clause-blocks c =
-    let f = block c.args.otherwise c.args.spans.now c.args.width 0 in
-    let made = Made nat_eq Decides-eqb c.args.otherwise c.args.spans.now c.args.width in
-    let added = c.in_ok-gather.ensures.added in
+    let f = block c.args.otherwise c.args.spans.items c.args.width 0 in
+    let made = Made nat_eq Decides-eqb c.args.otherwise c.args.spans.items c.args.width in
+    let added = rw c.as_slice.ensures.value at c.in_ok-gather.ensures.added in
     let written = c.in_ok-push_entries.ensures f added.0 c.in_ok-marks.marks.nodes.items
     c.in_ok-marks.marks.labels.items added.1 added.2 in
     let e : c.reverse.new.self.items ≡ made =
@@ -29,9 +29,9 @@ returns-clause-blocks c =
 
 pub returns-clause-values : goal.returns-clause-values
 returns-clause-values c =
-    let f = block c.args.otherwise c.args.spans.now c.args.width 0 in
-    let made = Made nat_eq Decides-eqb c.args.otherwise c.args.spans.now c.args.width in
-    let added = c.in_ok-gather.ensures.added in
+    let f = block c.args.otherwise c.args.spans.items c.args.width 0 in
+    let made = Made nat_eq Decides-eqb c.args.otherwise c.args.spans.items c.args.width in
+    let added = rw c.as_slice.ensures.value at c.in_ok-gather.ensures.added in
     let written = c.in_ok-push_entries.ensures f added.0 c.in_ok-marks.marks.nodes.items
     c.in_ok-marks.marks.labels.items added.1 added.2 in
     let e : c.reverse.new.self.items ≡ made =
@@ -39,29 +39,29 @@ returns-clause-values c =
     ∙ ap (λ x. x ++ reverse made) c.new-table.ensures.items) ∙ reverse-reverse made in
     rw e (placed_numbered c.args.count c.args.width c.args.width 0 (table nat_eq c.args.width f)
     (table_numbered c.args.count c.args.width f None
-    (λ a. value_numbered c.args.otherwise c.args.count 0 c.args.spans.now c.requires.otherwise
+    (λ a. value_numbered c.args.otherwise c.args.count 0 c.args.spans.items c.requires.otherwise
     c.requires.spans (number c.args.width 0 a))))
 
 pub returns-clause-routes : goal.returns-clause-routes
 returns-clause-routes c =
-    let made = Made nat_eq Decides-eqb c.args.otherwise c.args.spans.now c.args.width in
-    let added = c.in_ok-gather.ensures.added in
+    let made = Made nat_eq Decides-eqb c.args.otherwise c.args.spans.items c.args.width in
+    let added = rw c.as_slice.ensures.value at c.in_ok-gather.ensures.added in
     let written = c.in_ok-push_entries.ensures
-    (block c.args.otherwise c.args.spans.now c.args.width 0) added.0 c.in_ok-marks.marks.nodes.items
+    (block c.args.otherwise c.args.spans.items c.args.width 0) added.0 c.in_ok-marks.marks.nodes.items
     c.in_ok-marks.marks.labels.items added.1 added.2 in
     let e : c.reverse.new.self.items ≡ made =
     c.reverse.ensures.items ∙ ap (λ x. reverse x) (written.2
     ∙ ap (λ x. x ++ reverse made) c.new-table.ensures.items) ∙ reverse-reverse made in
-    rw e (routes_as nat_eq Decides-eqb c.args.otherwise c.args.spans.now c.args.width)
+    rw e (routes_as nat_eq Decides-eqb c.args.otherwise c.args.spans.items c.args.width)
 
 pub returns-clause-fewest : goal.returns-clause-fewest
 returns-clause-fewest c =
-    let made = Made nat_eq Decides-eqb c.args.otherwise c.args.spans.now c.args.width in
-    let added = c.in_ok-gather.ensures.added in
+    let made = Made nat_eq Decides-eqb c.args.otherwise c.args.spans.items c.args.width in
+    let added = rw c.as_slice.ensures.value at c.in_ok-gather.ensures.added in
     let written = c.in_ok-push_entries.ensures
-    (block c.args.otherwise c.args.spans.now c.args.width 0) added.0 c.in_ok-marks.marks.nodes.items
+    (block c.args.otherwise c.args.spans.items c.args.width 0) added.0 c.in_ok-marks.marks.nodes.items
     c.in_ok-marks.marks.labels.items added.1 added.2 in
     let e : c.reverse.new.self.items ≡ made =
     c.reverse.ensures.items ∙ ap (λ x. reverse x) (written.2
     ∙ ap (λ x. x ++ reverse made) c.new-table.ensures.items) ∙ reverse-reverse made in
-    rw e (are_fewest nat_eq Decides-eqb c.args.otherwise c.args.spans.now c.args.width)
+    rw e (are_fewest nat_eq Decides-eqb c.args.otherwise c.args.spans.items c.args.width)

@@ -1,0 +1,6 @@
+-- Lemmas.
+mod Ends
+mod Fields
+mod Marks
+pub mod Numbers
+mod Written

@@ -1,0 +1,4 @@
+-- Lemmas over what the commands read and print.
+pub mod Files
+pub mod Numbers
+pub mod Printed

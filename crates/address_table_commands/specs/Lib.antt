@@ -1,0 +1,3 @@
+-- What the commands over tables print, and why they do not.
+pub mod Files
+pub mod Results

@@ -1,0 +1,13 @@
+-- Lemmas.
+mod Added
+mod Counts
+mod Found
+mod Framed
+mod Held
+mod Last
+mod ReadRows
+mod Selected
+mod Shown
+mod Stored
+mod TilesOf
+mod Told

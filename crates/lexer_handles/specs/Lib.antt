@@ -1,0 +1,4 @@
+pub mod Faults
+pub mod Refusals
+pub mod Rules
+pub mod Tokens
