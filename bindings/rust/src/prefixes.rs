@@ -155,7 +155,8 @@ impl<K: Address> NumberMap<K> {
 
 impl<K: Address, V: Eq> RangeMap<K, V> {
     /// The shortest table of prefixes with values that the map is, ascending by their networks: the longest prefix that holds a
-    /// key has its value, and none holds a key that is not bound. No such table is shorter; that is proved.
+    /// key has its value, and none holds a key that is not bound. No such table is shorter.
+    /// Both are proved of the call in C; that a map is copied into keys of 128 bits is tested.
     ///
     /// Each value is compared with each different one. It needs memory for a copy of the ranges.
     ///
