@@ -667,7 +667,8 @@ class RangeMap(Collection[K], Generic[K, V]):
 
     def shortest(self) -> list[tuple[Any, V]]:
         """The shortest table of prefixes with values that the map is, ascending: the longest prefix that holds a key has its
-        value, and none holds a key that is not bound. No such table is shorter; that is proved.
+        value, and none holds a key that is not bound. No such table is shorter.
+        Both are proved of the call in C; that a map is copied is tested.
 
         A prefix of "ipv4" and "ipv6" keys is a network, one of "u8" to "u128" keys the first key and how many bits are the
         same; other keys have none. It needs memory for a copy of the ranges.
