@@ -11,7 +11,7 @@ import sys
 import tempfile
 import time
 
-from tools import conversations, examples, faults, library, mutants, programs
+from tools import conversations, examples, faults, kept, library, mutants, programs
 from tools.repository import PROCESSORS, PROVED, TOP, Counts, Crate, below, counted, crates, lanes, listed, run, task, tell, told, tried, watched
 
 RESULT = re.compile(r"^test result: .*?(\d+) passed; (\d+) failed", re.M)
@@ -37,9 +37,9 @@ def proofs(names, told_kept=lambda _: None, of=None):
     of = of or len(listed(PROVED))
     environment = {"RT_JOBS": str(lanes()), **os.environ, "PYTHONUNBUFFERED": "1"}
     how = {"stdout": subprocess.PIPE, "stderr": subprocess.STDOUT, "errors": "replace", "env": environment}
-    whole = subprocess.Popen(["rt", "ci", *names], cwd=TOP, **how)
     line, number = "", 0
-    with task("proofs") as under_way:
+    with kept.part(names) as (top, given), task("proofs") as under_way:
+        whole = subprocess.Popen(["rt", "ci", *given], cwd=top, **how)
         for line in map(str.rstrip, whole.stdout):
             if not line.endswith(": proved") and not line.startswith("statements "):
                 tell(line)
@@ -48,7 +48,10 @@ def proofs(names, told_kept=lambda _: None, of=None):
                 number += 1
                 under_way.what = f"proofs, crate {number + 1} of {of}"
                 told_kept(found[1])
-    return counted(line, whole.wait())
+        counts = counted(line, whole.wait())
+        if not counts.failed:
+            kept.note(top)
+        return counts
 
 
 def gate():
@@ -67,7 +70,7 @@ def gate():
             if name == library.NAME and not languages:
                 languages.append(lane.submit(bindings))
 
-        proved = proofs([], run_languages)
+        proved = proofs([], run_languages if kept.keeps_apart() else lambda _: None)
         if not proved.failed:
             run_languages(library.NAME)
         over = [] if proved.failed else [*over_proved(), users_crate()]
@@ -214,14 +217,14 @@ def calls(crate):
 
 def unless_passed(crate, call, digest, room):
     """Runs a task, unless it passed before on the same files."""
-    kept = crate.folder / "out" / f"quick-{call.__name__}"
-    if kept.exists() and kept.read_text() == digest:
+    passed = crate.folder / "out" / f"quick-{call.__name__}"
+    if passed.exists() and passed.read_text() == digest:
         return told(f"{crate.name}: {call.__name__}, as before", Counts(1), time.monotonic(), "")
     with task(f"{crate.name}: {call.__name__}"):
         counts = call(crate, room)
     if not counts.failed:
-        kept.parent.mkdir(exist_ok=True)
-        kept.write_text(digest)
+        passed.parent.mkdir(exist_ok=True)
+        passed.write_text(digest)
     return counts
 
 

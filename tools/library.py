@@ -18,7 +18,7 @@ def build(out):
     """Writes libNAME.a into the folder `out`. Returns why not, or nothing."""
     rt = kept.toolchain()
     rt.Crate.cuts_libraries = True
-    with kept.taken(rt) as (crates, lacking):
+    with kept.taken() as (crates, lacking):
         crate = crates[NAME]
         needed = [it for it in lacking if it in {NAME, *(other.name for other in crate.below())}]
         if needed:
