@@ -5,7 +5,8 @@ use Rattle.range_nodes.specs.Heap.{Heap, child_count, node_items, node_children,
 use Rattle.range_nodes.specs.declared.nodes.TheConstants.{CAPACITY, MIN_LEN}
 use Rattle.range_tree.specs.Nodes.{weave, items_below, used, Shaped, ShapedBut, child_lists, before_child, after_child}
 use Rattle.std.specs.List.{flat_map}
-use Rattle.range_tree.specs.Weave.{weave_at, length-before_next}
+use Rattle.range_tree.specs.Weave.{weave_at}
+use Rattle.range_tree.proofs.Weaving.{length-before_next}
 
 pub Shaped-from_but : {T : Type 0} (s : Heap T) (d n : ℕ) → ShapedBut MIN_LEN CAPACITY s d n
     → Shaped s (suc d) n

@@ -14,23 +14,15 @@ use Rattle.range_nodes.proofs.Occurrences.{occurrences-append, occurrences-cons}
 use Rattle.range_tree.specs.Frame.{AgreeAt, AgreeAt-left, AgreeAt-right, SameChildren, same_children}
 use Rattle.range_tree.proofs.Below.{weave_items_below, used_is}
 use Rattle.range_tree.proofs.Moves.{here_le, occurrences_self, SameNodes, Moves-like, Moves-then, Writes-moves, Stores-moves}
-use Rattle.range_tree.specs.Weave.{weave_halves}
+use Rattle.range_tree.proofs.Weaving.{weave_halves}
 
 module _ {T : Type 0} where
-  -- the subtree of n has another list, and the same nodes
-  pub record IsRewritten (old new : Heap T) (d n : ℕ) (list : List T) : Type 0 where
-    pub listed : items_below new (suc d) n ≡ list
-    pub moved : Moves old new (used old (suc d) n) (used new (suc d) n)
-    pub shape : (least : ℕ) → least ≤ MIN_LEN → ShapedBut least CAPACITY old d n
-        → ShapedBut least CAPACITY new d n
-
   -- two nodes over d levels, of which one may lack an item
   pub record IsPair (s : Heap T) (d l r : ℕ) : Type 0 where
     pub left : ShapedBut (MIN_LEN - 1) CAPACITY s d l
     pub right : ShapedBut (MIN_LEN - 1) CAPACITY s d r
     pub owned : (k : ℕ) → occurrences k (used s (suc d) l ++ used s (suc d) r) ≤ here s k
     pub enough : MIN_LEN + MIN_LEN ≤ length (node_items s l) + 1 + length (node_items s r)
-    pub fits : length (node_items s l) + 1 + length (node_items s r) ≤ CAPACITY + MIN_LEN
 
   -- they became one or two, with the item x between what they held
   pub record Rejoins (old new : Heap T) (d l : ℕ) (x : T) (r : ℕ)

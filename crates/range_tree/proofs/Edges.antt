@@ -1,5 +1,5 @@
 -- The paths to edges, and what stands at one.
-use Rattle.std.proofs.Common.{◌≡◌, ℕ, zero, suc, ◌+◌, ◌^◌, ◌<◌, ◌≤◌, [], ◌∷◌, length, get_or, refl, ap, arith}
+use Rattle.std.proofs.Common.{◌≡◌, ℕ, zero, suc, ◌+◌, ◌^◌, ◌<◌, ◌≤◌, List, [], ◌∷◌, length, get_or, refl, ap, arith}
 use Rattle.std.proofs.Math.Nat.{pow-suc, pow-le-pow_right}
 use Rattle.std.proofs.lemmas.List.{length-append}
 use Rattle.std.specs.List.{flat_map}
@@ -8,7 +8,7 @@ use Rattle.range_tree.specs.declared.btree.path.Edge.{Edge}
 use Rattle.range_tree.specs.declared.btree.path.TheConstants.{PATH_BASE, MAX_LEVELS}
 use Rattle.range_tree.specs.Nodes.{items_below, used, ShapedBut, child_lists, before_child}
 use Rattle.range_tree.specs.Edges.{turn, inside, IsEdge, offset}
-use Rattle.range_tree.specs.Frame.{AgreeAt, AgreeAt-right, agree_kid, same_children}
+use Rattle.range_tree.specs.Frame.{AgreeAt, AgreeAt-right, same_children, used_kid}
 use Rattle.range_tree.proofs.Below.{items_below_at, items_below_leaf}
 use Rattle.range_tree.proofs.Rank.{kid_shaped}
 use Rattle.range_nodes.proofs.Occurrences.{occurrences_here}
@@ -40,6 +40,10 @@ pub leaf_index : {T : Type 0} (s : Heap T) (n : ℕ) (g : Edge) → IsEdge s zer
     → g.index ≤ length (node_items s n)
 unfolding IsEdge
 leaf_index s n g is = is.2
+
+pub leaf_path : {T : Type 0} (s : Heap T) (n : ℕ) (g : Edge) → IsEdge s zero n g → g.path ≡ 0
+unfolding IsEdge
+leaf_path s n g is = is.1
 
 pub leaf_place : {T : Type 0} (s : Heap T) (n : ℕ) (g : Edge) → offset s zero n g ≡ g.index
 unfolding offset
@@ -85,6 +89,10 @@ place_within {T} {s} (suc d) {n} g {least} {most} shaped is =
     let further = place_within d (inside g) (kid_shaped d i shaped low) (edge_inside s d n g is) in
     let whole = items_below_at (omega arith) shaped i low in
     grind (arith, place_inside, length-append)
+
+pub agree_kid : {T : Type 0} (s t : Heap T) (d i : ℕ) (ks : List ℕ)
+    → AgreeAt s t (flat_map (used s d) ks) → i < length ks → AgreeAt s t (used s d (get_or ks i 0))
+agree_kid s t d i ks agree within k among = agree k (used_kid s d i ks k among within)
 
 module _ {T : Type 0} where
   -- an edge is the same in two slabs that agree at the nodes below

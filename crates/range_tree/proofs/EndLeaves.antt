@@ -8,7 +8,7 @@ use Rattle.range_tree.specs.declared.btree.path.Edge.{Edge}
 use Rattle.range_tree.specs.declared.btree.path.EndLeaves.{EndLeaves}
 use Rattle.range_tree.specs.Edges.{turn, inside, IsEdge, offset}
 use Rattle.range_tree.specs.EndLeaves.{first_start, IsLastPath, AreEndLeaves, HasEndLeaves, end_leaves_kept}
-use Rattle.range_tree.specs.Holding.{box_items, box_levels, box_offset, IsBoxEdge}
+use Rattle.range_tree.specs.Holding.{box_items, box_offset, IsBoxEdge}
 use Rattle.range_tree.specs.Nodes.{items_below, ShapedBut, before_child, after_child}
 use Rattle.range_tree.specs.Written.{place_of_start, root_shaped}
 use Rattle.range_tree.proofs.Below.{items_below_at, items_below_leaf, length-before_more, none_after_last}
@@ -122,6 +122,14 @@ leaf_keeps_ends {T} {s} {t} {leaf} {items} {levels} {root} {ends} written has =
       | inr other ↦ ap (λ node. children_of node)
           (written.others k other)
     ]) has
+
+module _ {T : Type 0} where
+  -- the items below the root of a tree that has one
+  box_levels : (s : BoxStorage T) → 0 < s.levels
+      → items_below s.nodes (suc (s.levels - 1)) s.root ≡ box_items s
+  box_levels s some =
+      let level : suc (s.levels - 1) ≡ s.levels = omega (arith, some) in
+      ap (λ levels. items_below s.nodes levels s.root) level
 
 module _ {T : Type 0} (s : BoxStorage T) (some : 0 < s.levels) where
   ends : AreEndLeaves s.nodes (s.levels - 1) s.root s.ends

@@ -12,7 +12,8 @@ use Rattle.range_tree.specs.Nodes.{weave, rest_of, front_of, before, after, item
 use Rattle.range_tree.specs.Contents.{IsContent, Settles}
 use Rattle.range_nodes.specs.Occurrences.{occurrences}
 use Rattle.range_nodes.proofs.Occurrences.{occurrences-append, occurrences-cons, occurrences_itself}
-use Rattle.range_tree.specs.Weave.{list_splits_at, weave_splice, insert_middle, length-weave, length-before}
+use Rattle.range_tree.specs.Weave.{list_splits_at, length-weave, length-before}
+use Rattle.range_tree.proofs.Weaving.{weave_splice, insert_middle}
 use Rattle.range_tree.specs.Frame.{AgreeAt, AgreeAt-left, AgreeAt-right, SameChildren, same_children}
 use Rattle.range_tree.proofs.Below.{children_length, items_below_at, used_is, Shaped-from_but, Shaped-but}
 use Rattle.range_tree.proofs.Moves.{Moves-like, Moves-beside, Moves-agree}

@@ -7,11 +7,11 @@ use Rattle.range_nodes.specs.Heap.{Heap, Writes, node_items, node_children, node
 use Rattle.range_nodes.specs.declared.nodes.TheConstants.{CAPACITY, MIN_LEN}
 use Rattle.range_tree.specs.declared.btree.BoxStorage.{BoxStorage}
 use Rattle.range_tree.specs.declared.btree.path.Edge.{Edge}
-use Rattle.range_tree.specs.Nodes.{items_below, Shaped, ShapedBut, Owned, IsTree, before_child, after_child}
+use Rattle.range_tree.specs.Nodes.{items_below, Shaped, ShapedBut, Owned, IsRewritten, IsTree, before_child, after_child}
 use Rattle.range_tree.specs.Edges.{turn, inside, IsEdge, offset}
 use Rattle.range_tree.specs.Holding.{box_items, IsBoxEdge, box_offset}
 use Rattle.range_tree.proofs.Below.{items_below_at, items_below_leaf, shaped_within_wider, Shaped-from_but}
-use Rattle.range_tree.proofs.Contents.{IsRewritten, Holds, written_holds, held_items_below, held_used, bare_content}
+use Rattle.range_tree.proofs.Contents.{Holds, written_holds, held_items_below, held_used, bare_content}
 use Rattle.range_tree.proofs.Edges.{leaf_edge, leaf_place, edge_above, place_inside}
 use Rattle.range_tree.proofs.Growing.{kid_owned}
 use Rattle.range_tree.proofs.Moves.{Writes-moves}
@@ -20,7 +20,8 @@ use Rattle.range_tree.specs.Written.{root_shaped}
 use Rattle.range_tree.proofs.Shortening.{ListsAnew, kid_kept, kid_moved, kid_listed, kid_front, kid_children, remove_middle}
 use Rattle.range_tree.proofs.InLeaf.{IsLeafOf, leaf_of_edge}
 use Rattle.range_tree.proofs.Roots.{tree_owned}
-use Rattle.range_tree.specs.Weave.{insert_middle, regroup}
+use Rattle.range_tree.specs.Weave.{regroup}
+use Rattle.range_tree.proofs.Weaving.{insert_middle}
 
 module _ {T : Type 0} where
   -- below the node n, the leaf of the edge g has these items; the others stand before and after

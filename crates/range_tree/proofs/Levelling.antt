@@ -9,7 +9,8 @@ use Rattle.range_tree.specs.Nodes.{weave, rest_of, front_of, before, items_below
 use Rattle.range_tree.specs.Edges.{turn, inside, IsEdge, offset, IsSeat, seat_offset}
 use Rattle.range_tree.specs.Contents.{IsContent}
 use Rattle.range_nodes.proofs.Occurrences.{occurrences-append, occurrences-cons}
-use Rattle.range_tree.specs.Weave.{list_splits_at, weave_splice, length-before}
+use Rattle.range_tree.specs.Weave.{list_splits_at, length-before}
+use Rattle.range_tree.proofs.Weaving.{weave_splice}
 use Rattle.range_tree.proofs.Below.{weave_items_below}
 use Rattle.range_tree.proofs.Moves.{Moves-then, Writes-moves}
 use Rattle.range_tree.proofs.Contents.{IsPair, Rejoins, held_items_below, held_used, written_holds, written_agree}

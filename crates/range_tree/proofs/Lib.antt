@@ -5,6 +5,7 @@ pub mod Contents
 pub mod Descending
 pub mod Edges
 pub mod EndLeaves
+pub mod Filling
 pub mod Front
 pub mod Growing
 pub mod InLeaf
@@ -32,4 +33,5 @@ pub mod Shares
 pub mod ShortNodes
 pub mod Shortening
 pub mod Taking
+pub mod Weaving
 pub mod Whole

@@ -7,7 +7,7 @@ use Rattle.range_tree.specs.declared.btree.path.Edge.{Edge}
 use Rattle.range_tree.specs.Nodes.{items_below, before, ShapedBut, IsLevelled, child_size}
 use Rattle.range_tree.specs.Edges.{inside, seat_of, IsEdge, IsSeat, seat_offset}
 use Rattle.range_tree.proofs.Edges.{leaf_index, turn_within}
-use Rattle.range_tree.specs.Weave.{length-before_next}
+use Rattle.range_tree.proofs.Weaving.{length-before_next}
 use Rattle.range_tree.proofs.Joining.{seat_from_left, seat_from_right}
 use Rattle.range_tree.proofs.Levelling.{pair_of}
 

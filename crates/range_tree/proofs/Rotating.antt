@@ -209,7 +209,8 @@ module _ {T : Type 0} {s : Heap T} {low n j : ℕ} (levelled : IsLevelled s low 
   edge_itself d k e is = grind arith
 
   -- the child at j lent an item to the one after it
-  module _ {u : Heap T} (rotates : RotatesRight s u n j) (spare : MIN_LEN < child_size s n j) where
+  module _ {u : Heap T} (rotates : RotatesRight s u n j) (spare : MIN_LEN < child_size s n j)
+      (room : child_size s n (j + 1) < CAPACITY) where
     to_right : IsShared rotates.down rotates.down_is rotates.rotates.first rotates.rotates.second u
         rotates.up (a - 1)
     to_right =
@@ -246,9 +247,21 @@ module _ {T : Type 0} {s : Heap T} {low n j : ℕ} (levelled : IsLevelled s low 
         seat.0 (rw moved leaf) (rw moved at) into turned inner in
         (up.0, up.1 ∙ seat.1)
 
+    -- an edge below the child at j, before the item that went
+    pub next_edge_before : (e h : Edge) → IsEdge s low l e → seat_of low e < child_size s n j
+        → turn h ≡ j → inside h ≡ e
+        → IsEdge u (suc low) n h × (offset u (suc low) n h ≡ seat_offset s (suc low) xs ks j e)
+    next_edge_before e h is early turned inner =
+        let seat = pair_seat rotates.down levelled rotates.down_is j e (seat_of low e) (inl refl) is
+        (λ none. refl) (λ some. absurd (omega (arith, some))) in
+        let itself = edge_itself low l e is in
+        let up = stays_left rotates.down rotates.down_is to_right (seat_of low e) (inside e) e h
+        (omega (arith, early)) seat.0 itself.0 itself.1 (λ some. refl) turned inner in
+        (up.0, up.1 ∙ seat.1)
+
   -- the child after j lent an item to that at j
   module _ {u : Heap T} (rotates : RotatesLeft s u n j)
-      (spare : MIN_LEN < child_size s n (j + 1)) where
+      (spare : MIN_LEN < child_size s n (j + 1)) (room : child_size s n j < CAPACITY) where
     to_left : IsShared rotates.down rotates.down_is rotates.rotates.first rotates.rotates.second u
         rotates.up (a + 1)
     to_left =
@@ -279,6 +292,21 @@ module _ {T : Type 0} {s : Heap T} {low n j : ℕ} (levelled : IsLevelled s low 
         let up = stays_left rotates.down rotates.down_is to_left (seat_of low e) (inside e) e h
         (omega (arith, seat_low low e levelled.left is)) seat.0 itself.0 itself.1 (λ some. refl)
         turned inner in
+        (up.0, up.1 ∙ seat.1)
+
+    -- an edge below the child after j, behind the item that went
+    pub previous_edge_behind : (e g h : Edge) → IsEdge s low r e → 0 < seat_of low e
+        → (low ≡ 0 → g ≡ record { leaf = r; path = 0; index = seat_of low e - 1 })
+        → (0 < low → turn g ≡ seat_of low e - 1) → (0 < low → inside g ≡ inside e) → turn h ≡ j + 1
+        → inside h ≡ g
+        → IsEdge u (suc low) n h × (offset u (suc low) n h ≡ seat_offset s (suc low) xs ks (j + 1) e)
+    previous_edge_behind e g h is later leaf at into turned inner =
+        let q = a + 1 + seat_of low e in
+        let seat = pair_seat rotates.down levelled rotates.down_is (j + 1) e q (inr refl) is
+        (λ none. absurd (omega (arith, none))) (λ some. refl) in
+        let moved : a + 1 + seat_of low e - (a + 1) - 1 ≡ seat_of low e - 1 = omega arith in
+        let up = moves_right rotates.down rotates.down_is to_left q (inside e) g h
+        (omega (arith, later)) seat.0 (rw moved leaf) (rw moved at) into turned inner in
         (up.0, up.1 ∙ seat.1)
 
   -- the two were joined

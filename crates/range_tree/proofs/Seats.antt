@@ -9,9 +9,9 @@ use Rattle.range_tree.specs.declared.btree.path.Edge.{Edge}
 use Rattle.range_tree.specs.declared.btree.path.TheConstants.{MAX_LEVELS}
 use Rattle.range_tree.specs.Nodes.{weave, before, items_below, used, tops, separators}
 use Rattle.range_tree.specs.Edges.{turn, inside, IsEdge, offset, IsSeat, seat_offset}
-use Rattle.range_tree.proofs.Edges.{same_edge, path_small}
+use Rattle.range_tree.proofs.Edges.{agree_kid, same_edge, path_small}
 use Rattle.range_store.proofs.Edits.{take-append-add}
-use Rattle.range_tree.specs.Frame.{agree_kid, AgreeAt}
+use Rattle.range_tree.specs.Frame.{AgreeAt}
 use Rattle.range_tree.proofs.Contents.{Holds}
 use Rattle.range_tree.specs.Weave.{length-before, length-weave}
 

@@ -7,7 +7,8 @@ use Rattle.std.proofs.lemmas.List.Elements.{All-append, All-cons, All-take, All-
 use Rattle.range_nodes.specs.Heap.{Heap, node_of, Writes, node_items, node_children, node_child}
 use Rattle.range_nodes.specs.declared.nodes.TheConstants.{CAPACITY, MIN_LEN}
 use Rattle.range_tree.specs.Nodes.{before, after, items_below, used, Shaped, ShapedBut, Owned, Moves, Shrinks, MayBeRebalanced, child_lists, before_child}
-use Rattle.range_tree.specs.Weave.{list_splits_at, weave_splice}
+use Rattle.range_tree.specs.Weave.{list_splits_at}
+use Rattle.range_tree.proofs.Weaving.{weave_splice}
 use Rattle.range_tree.proofs.Below.{children_length, items_below_at, weave_items_below, used_is, items_below_leaf}
 use Rattle.range_tree.proofs.Moves.{Moves-then, Writes-moves}
 use Rattle.range_tree.proofs.Growing.{Runs, run_kept, run_moved, run_lists, same_before, same_after}

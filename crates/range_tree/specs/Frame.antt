@@ -97,7 +97,3 @@ pub used_kid : {T : Type 0} (s : Heap T) (d i : ℕ) (ks : List ℕ) (k : ℕ)
     → 0 < occurrences k (used s d (get_or ks i 0)) → i < length ks
     → 0 < occurrences k (flat_map (used s d) ks)
 used_kid s d i ks k among within = omega (arith, among, used_kid_le s d i ks k within)
-
-pub agree_kid : {T : Type 0} (s t : Heap T) (d i : ℕ) (ks : List ℕ)
-    → AgreeAt s t (flat_map (used s d) ks) → i < length ks → AgreeAt s t (used s d (get_or ks i 0))
-agree_kid s t d i ks agree within k among = agree k (used_kid s d i ks k among within)

@@ -57,13 +57,6 @@ module _ {T : Type 0} where
     pub is : IsBoxEdge s edge
     pub some : 0 < box_offset s edge
 
-  -- the items below the root of a tree that has one
-  pub box_levels : (s : BoxStorage T) → 0 < s.levels
-      → items_below s.nodes (suc (s.levels - 1)) s.root ≡ box_items s
-  box_levels s some =
-      let level : suc (s.levels - 1) ≡ s.levels = omega (arith, some) in
-      ap (λ levels. items_below s.nodes levels s.root) level
-
   edge_or_not : (s : Heap T) (d n : ℕ) (g : Edge) → IsEdge s d n g ⊎ (IsEdge s d n g → ⊥)
   unfolding IsEdge
   edge_or_not s zero n g =

@@ -114,6 +114,18 @@ module _ {T : Type 0} where
     pub shape : (least : ℕ) → least ≤ MIN_LEN → EnoughFor least split (length (node_items old n))
         → All (ShapedBut least CAPACITY new d) (tops n split)
 
+  -- the subtree of n, over d levels, has another list, and the same nodes
+  pub record IsRewritten (old new : Heap T) (d n : ℕ) (list : List T) : Type 0 where
+    pub listed : items_below new (suc d) n ≡ list
+    pub moved : Moves old new (used old (suc d) n) (used new (suc d) n)
+    pub shape : (least : ℕ) → least ≤ MIN_LEN → ShapedBut least CAPACITY old d n
+        → ShapedBut least CAPACITY new d n
+
+  -- items went from leaf to leaf there: the list is the same, and so are the children of each node
+  pub record Refills (old new : Heap T) (d n : ℕ) : Type 0 where
+    pub rewritten : IsRewritten old new d n (items_below old (suc d) n)
+    pub children : (k : ℕ) → node_children new k ≡ node_children old k
+
   -- with the nodes outside the subtree there is capacity for the nodes that it needs for so many
   -- more items
   pub record HasTreeRoom (s : Heap T) (d n more : ℕ) : Type 0 where
@@ -171,8 +183,6 @@ module _ {T : Type 0} where
     pub behind : All (Shaped s (suc low)) (drop (j + 2) (node_children s n))
     pub enough : MIN_LEN + MIN_LEN ≤ length (node_items s (node_child s n j)) + 1 + length
         (node_items s (node_child s n (j + 1)))
-    pub fits : length (node_items s (node_child s n j)) + 1 +
-        length (node_items s (node_child s n (j + 1))) ≤ CAPACITY + MIN_LEN
 
   -- how many items the child of n at k has
   abbrev pub child_size : Heap T → ℕ → ℕ → ℕ

@@ -85,15 +85,6 @@ module _ {T : Type 0} where
     pub children : (k : ℕ) → node_children t k ≡ node_children s k
     pub len : node_count t ≡ node_count s
 
-  pub same_nodes : (s t : Heap T) → ((k : ℕ) → node_of t k ≡ node_of s k)
-      → node_count t ≡ node_count s → SameShape s t
-  same_nodes s t same len = record {
-    present = λ k. rw (same k) refl;
-    sizes = λ k. rw (same k) refl;
-    children = λ k. rw (same k) refl;
-    len = len;
-  }
-
   pub turned : (s t : Heap T) → SameShape s t → SameShape t s
   turned s t same = record {
     present = λ k. sym (same.present k);

@@ -6,6 +6,7 @@ ghost use Rattle.range_tree.specs.EndLeaves.{HasEndLeaves, HasEndLeaves-prop};
 ghost use Rattle.range_tree.specs.Nodes.{items_below, IsRoomy, IsRoomy-prop};
 
 mod building;
+mod filling;
 mod insertion;
 mod path;
 mod removal;

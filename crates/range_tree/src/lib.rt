@@ -13,6 +13,8 @@
 //! - the items after a position that lie together, in a leaf: `proofs/LeafItems.antt`
 //! - how a search goes down: `src/btree/searching.rt`, `proofs/Descending.antt`
 //! - how a node is written or cut: `src/btree/insertion.rt`, `specs/Contents.antt`
+//! - what a full leaf at an end of the list gives to its neighbour: `src/btree/filling.rt`,
+//!   `proofs/Filling.antt`
 //! - how an empty tree is built of a list, from its leaves up, and how many items each child
 //!   gets: `src/btree/building.rt`, `specs/Building.antt`, `proofs/{Building,Shares}.antt`
 //! - how a short node gets an item: `src/btree/removal.rt`, `proofs/{Rotating,ShortNodes}.antt`

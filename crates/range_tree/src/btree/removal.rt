@@ -25,6 +25,7 @@ pub fn borrow_from_left<T: Drop>(
 ) -> Edge
     requires levelled { IsLevelled nodes.old low number index }
     requires spare { MIN_LEN < child_size nodes.old number index }
+    requires room { child_size nodes.old number (index + 1) < CAPACITY }
     requires deep { low + 1 < MAX_LEVELS }
     requires edge { IsEdge nodes.old low (node_child nodes.old number (index + 1)) edge }
     ensures shrinks { KeepsList nodes.old nodes.new (suc low) number }
@@ -50,6 +51,7 @@ pub fn borrow_from_right<T: Drop>(
 ) -> Edge
     requires levelled { IsLevelled nodes.old low number index }
     requires spare { MIN_LEN < child_size nodes.old number (index + 1) }
+    requires room { child_size nodes.old number index < CAPACITY }
     requires deep { low + 1 < MAX_LEVELS }
     requires edge { IsEdge nodes.old low (node_child nodes.old number index) edge }
     ensures shrinks { KeepsList nodes.old nodes.new (suc low) number }

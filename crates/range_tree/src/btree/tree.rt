@@ -7,6 +7,7 @@ ghost use Rattle.range_tree.specs.Holding.{box_items, box_room, IsBoxEdge, box_o
 
 use crate::btree::BoxStorage;
 use crate::btree::building::{Layout, build, layout_of};
+use crate::btree::filling::fill_beside;
 use crate::btree::insertion::{Insertion, insert_below};
 use crate::btree::path::{
     Edge, Home, around_leaf, end_leaves, find_home, preceding, seen_above, stands_first,
@@ -109,7 +110,10 @@ impl<T: Drop> BoxStorage<T> {
         ensures offset { box_offset self.new result ≡ edge_or_end self.old edge + 1 }
     {
         match edge {
-            Some(edge) => self.insert_between(edge, item),
+            Some(edge) => {
+                let edge = self.make_room(edge);
+                self.insert_between(edge, item)
+            }
             None => {
                 self.root = self.nodes.store_leaf(item);
                 self.levels = 1;
@@ -122,6 +126,25 @@ impl<T: Drop> BoxStorage<T> {
                 }
             }
         }
+    }
+
+    // Makes room in a full leaf where the list begins or ends, if its neighbour has some. So items that
+    // come in order fill their leaves. Tells where the edge then lies.
+    fn make_room(&mut self, edge: Edge) -> Edge
+        requires edge { IsBoxEdge self.old edge }
+        ensures list { box_items self.new ≡ box_items self.old }
+        ensures room { box_room self.new ≡ box_room self.old }
+        ensures edge { IsBoxEdge self.new result }
+        ensures offset { box_offset self.new result ≡ box_offset self.old edge }
+    {
+        let comes_last = edge.index == CAPACITY && edge.leaf == self.ends.last.leaf;
+        let comes_first = edge.index == 0
+            && edge.leaf == self.ends.first
+            && self.nodes.item_count(edge.leaf) == CAPACITY;
+        if !comes_last && !comes_first {
+            return edge;
+        }
+        fill_beside(&mut self.nodes, self.levels - 1, self.root, edge)
     }
 
     // Puts an item at an edge, and returns the edge after it.

@@ -22,15 +22,15 @@ seen_above-requires-clause-path g c =
 
 pub returns : goal.returns
 returns g c =
-    let edge = next_edge c.requires.levelled c.rotate_right.ensures c.requires.spare
+    let edge = next_edge c.requires.levelled c.rotate_right.ensures c.requires.spare c.requires.room
     c.args.edge c.edge_at-inner.result c.seen_above.result c.requires.edge
     (rw (c.child_at-right.ensures, c.seat.ensures) at c.edge_at-inner.ensures.leaf)
     (rw c.seat.ensures at c.edge_at-inner.ensures.turn)
     (rw c.seen_inside.ensures at c.edge_at-inner.ensures.inside) c.seen_above.ensures.turn
     c.seen_above.ensures.inside in
     record {
-      shrinks = next_shrinks c.requires.levelled c.rotate_right.ensures c.requires.spare;
-      kept = next_kept c.requires.levelled c.rotate_right.ensures c.requires.spare;
+      shrinks = next_shrinks c.requires.levelled c.rotate_right.ensures c.requires.spare c.requires.room;
+      kept = next_kept c.requires.levelled c.rotate_right.ensures c.requires.spare c.requires.room;
       edge = edge.0;
       offset = edge.1;
     }

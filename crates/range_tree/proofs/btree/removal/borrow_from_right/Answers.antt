@@ -13,11 +13,11 @@ seen_above-requires-clause-path g c =
 
 pub returns : goal.returns
 returns g c =
-    let edge = previous_edge c.requires.levelled c.rotate_left.ensures c.requires.spare c.args.edge
+    let edge = previous_edge c.requires.levelled c.rotate_left.ensures c.requires.spare c.requires.room c.args.edge
     c.seen_above.result c.requires.edge c.seen_above.ensures.turn c.seen_above.ensures.inside in
     record {
-      shrinks = previous_shrinks c.requires.levelled c.rotate_left.ensures c.requires.spare;
-      kept = previous_kept c.requires.levelled c.rotate_left.ensures c.requires.spare;
+      shrinks = previous_shrinks c.requires.levelled c.rotate_left.ensures c.requires.spare c.requires.room;
+      kept = previous_kept c.requires.levelled c.rotate_left.ensures c.requires.spare c.requires.room;
       edge = edge.0;
       offset = edge.1;
     }

@@ -81,6 +81,7 @@ borrow_from_left-requires g c =
         c.item_count-then-index-gt0.ensures,
         ap (λ k. length (node_items c.args.nodes.now k)) c.child_at-before.ensures,
       );
+      room = rw next (omega (arith, short));
       deep = c.requires.deep;
       edge = rw next c.requires.edge;
     }
@@ -100,6 +101,7 @@ borrow_from_right-requires g c =
         c.item_count-then-index-item_count.ensures,
         ap (λ k. length (node_items c.args.nodes.now k)) c.child_at-behind.ensures,
       );
+      room = omega (arith, short);
       deep = c.requires.deep;
       edge = c.requires.edge;
     }
