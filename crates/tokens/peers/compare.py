@@ -128,8 +128,7 @@ def json_differences(path, text, found):
     except (ValueError, RecursionError):
         return 0, [("refused", path)]
     for number, (kind, start, piece) in enumerate(found):
-        taken = json_taken(kind, piece.decode())
-        if not taken:
+        if not text.startswith(piece, start) or not json_taken(kind, piece.decode()):
             return number, [("differs", path, kind, start, piece)]
     if json.loads(" ".join(piece.decode() for _, _, piece in found)) != loaded:
         return 0, [("is another value", path)]
@@ -153,7 +152,7 @@ def toml_differences(path, text, found):
     for number, (kind, start, piece) in enumerate(found):
         if kind in TOML_VALUES and not isinstance(tomllib.loads(f"x = {piece.decode()}")["x"], TOML_VALUES[kind]):
             return number, [("differs", path, kind, start, piece)]
-        if kind not in TOML_VALUES and kind not in ("key", "newline", "mark"):
+        if not text.startswith(piece, start) or kind not in TOML_VALUES and kind not in ("key", "newline", "mark"):
             return number, [("differs", path, kind, start, piece)]
     if not alike(tomllib.loads(" ".join(piece.decode() for _, _, piece in found)), loaded):
         return 0, [("is another value", path)]
