@@ -5,7 +5,7 @@ TOKENS is the program. LANGUAGE is one of
 
     c       `clang -cc1 -dump-raw-tokens`; with no file all headers below /usr/include, /usr/lib/gcc and /usr/lib/llvm*,
             but for those of C++
-    json    the reader of Python's `json`; with no file all that ends in .json below /usr and the kit
+    json    the reader of Python's `json`; with no file all that ends in .json below /usr and the kit, of at most 256 kB
     toml    the reader of Python's `tomllib`; with no file all that ends in .toml below /usr and the home folder
     rust    `rustc`, through a macro that hands it each text; with no file all that ends in .rs there
 
@@ -30,6 +30,8 @@ import tomllib
 RULES = pathlib.Path(__file__).resolve().parent.parent / "data"
 RUSTC = shutil.which("rustc") or next(pathlib.Path("/root/.rustup").glob("toolchains/stable*/bin/rustc"), "rustc")
 MARKS = {"c": "mark_between_files", "rust": "mark_between_files", "toml": "mark_between_files", "json": '"mark between files"'}
+# A file of JSON beyond this is left out, and a batch of files is closed before this, for their tokens take many times as much.
+LARGEST, BATCH = 256 << 10, 4 << 20
 SPLICE = re.compile(rb"(?:\\[ \t]*\r?\n)+")
 
 
@@ -56,9 +58,15 @@ def told(lines, text):
     """Gives the kind, first byte and text of each token."""
     starts = [0] + [it.end() for it in re.finditer(b"\n", text)]
     for line in lines:
-        start = starts[line["line"] - 1]
-        start += len(text[start:].split(b"\n", 1)[0].decode()[: line["column"] - 1].encode())
+        start = byte_at(text, starts, line["line"], line["column"])
         yield line["rule"], start, line["text"].encode()
+
+
+def byte_at(text, starts, line, column):
+    """Returns the byte of a line and a column, each from 1, of a text whose lines start there."""
+    # A character has at most four bytes, and one that is cut off is behind the column.
+    front = text[starts[line - 1] : starts[line - 1] + 4 * (column - 1)]
+    return starts[line - 1] + len(front.decode(errors="ignore")[: column - 1].encode())
 
 
 def by_clang(path, text):
@@ -120,8 +128,7 @@ def json_differences(path, text, found):
     except (ValueError, RecursionError):
         return 0, [("refused", path)]
     for number, (kind, start, piece) in enumerate(found):
-        taken = json_taken(kind, piece.decode())
-        if not taken:
+        if not text.startswith(piece, start) or not json_taken(kind, piece.decode()):
             return number, [("differs", path, kind, start, piece)]
     if json.loads(" ".join(piece.decode() for _, _, piece in found)) != loaded:
         return 0, [("is another value", path)]
@@ -145,7 +152,7 @@ def toml_differences(path, text, found):
     for number, (kind, start, piece) in enumerate(found):
         if kind in TOML_VALUES and not isinstance(tomllib.loads(f"x = {piece.decode()}")["x"], TOML_VALUES[kind]):
             return number, [("differs", path, kind, start, piece)]
-        if kind not in TOML_VALUES and kind not in ("key", "newline", "mark"):
+        if not text.startswith(piece, start) or kind not in TOML_VALUES and kind not in ("key", "newline", "mark"):
             return number, [("differs", path, kind, start, piece)]
     if not alike(tomllib.loads(" ".join(piece.decode() for _, _, piece in found)), loaded):
         return 0, [("is another value", path)]
@@ -219,8 +226,7 @@ def by_rustc(path, text):
     starts = [0] + [it.end() for it in re.finditer(b"\n", text)]
     found = []
     for kind, line, column, length in map(str.split, lines):
-        start = starts[int(line) - 2]
-        start += len(text[start:].split(b"\n", 1)[0].decode()[: int(column) - 1].encode())
+        start = byte_at(text, starts, int(line) - 1, int(column))
         piece = text[start : start + int(length)]
         # A comment of documentation is given as an attribute, whose tokens all stand at the comment.
         if not re.match(rb"//|/\*", piece + text[start + int(length) :][:1]):
@@ -256,9 +262,27 @@ def below(ending, *tops):
     return sorted({it for top in tops for it in pathlib.Path("/").glob(f"{top}/**/*{ending}") if it.is_file()})
 
 
+def in_batches(paths):
+    """Gives the paths in lists of at most 50 files, and beyond one file of so many bytes."""
+    batch, size = [], 0
+    for path in paths:
+        size += path.stat().st_size
+        if batch and (len(batch) == 50 or size > BATCH):
+            yield batch
+            batch, size = [], path.stat().st_size
+        batch.append(path)
+    if batch:
+        yield batch
+
+
+def results_of(language, tokens, paths):
+    """Returns the results of a batch, for a process of its own."""
+    return list(batch(language, tokens, paths))
+
+
 LANGUAGES = {
     "c": (c_differences, lambda: [it for it in below(".h", "usr/include", "usr/lib/gcc", "usr/lib/llvm*") if "/c++/" not in str(it)]),
-    "json": (json_differences, lambda: below(".json", "usr", "opt/rattle")),
+    "json": (json_differences, lambda: [it for it in below(".json", "usr", "opt/rattle") if it.stat().st_size <= LARGEST]),
     "toml": (toml_differences, lambda: below(".toml", "usr", "root")),
     "rust": (rust_differences, lambda: below(".rs", "usr", "root")),
 }
@@ -288,9 +312,8 @@ def main():
     paths = [pathlib.Path(it) for it in paths] or LANGUAGES[language][1]()
     same = whole = 0
     said = collections.Counter()
-    batches = [paths[at : at + 50] for at in range(0, len(paths), 50)]
-    with concurrent.futures.ThreadPoolExecutor(4) as pool:
-        for results in pool.map(lambda it: list(batch(language, tokens, it)), batches):
+    with concurrent.futures.ProcessPoolExecutor(4) as pool:
+        for results in pool.map(functools.partial(results_of, language, tokens), in_batches(paths)):
             for number, found in results:
                 same += number
                 whole += not found
