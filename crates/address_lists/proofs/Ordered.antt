@@ -78,12 +78,12 @@ all_such P values i ended all =
     (take_all i values (omega (arith, ended))) all
 
 -- what is said of an answer, in each case
-pub found_none : {P : Type 0} {Q : ℕ → Type 0} (found : Option ℕ) → found ≡ None
+pub found_none : (P : Type 0) (Q : ℕ → Type 0) (found : Option ℕ) → found ≡ None
     → MatchOption found P Q → P
-found_none None is said = said
-found_none (Some n) is said = cc
+found_none P Q None is said = said
+found_none P Q (Some n) is said = cc
 
-pub found_some : {P : Type 0} {Q : ℕ → Type 0} (found : Option ℕ) (n : ℕ) → found ≡ Some n
+pub found_some : (P : Type 0) (Q : ℕ → Type 0) (found : Option ℕ) (n : ℕ) → found ≡ Some n
     → MatchOption found P Q → Q n
-found_some None n is said = cc
-found_some {P} {Q} (Some m) n is said = subst Q (some_same m n is) said
+found_some P Q None n is said = cc
+found_some P Q (Some m) n is said = subst Q (some_same m n is) said

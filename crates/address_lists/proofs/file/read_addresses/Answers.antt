@@ -54,7 +54,7 @@ returns-clause-read g c =
     (subst (λ s. IfSome (g.R.Read.remaining c.args.input.now) (λ bytes. IsStart bytes s later))
     c.in-Some.is c.in_ok-start.ensures.found)
     (grind arith) (λ bytes first. c.read_lines.ensures.read bytes
-    (subst (λ l. IsFirstLine bytes l later) (sym c.as_slice.ensures.value) first))
+    (subst (λ l. IsFirstLine bytes l later) (sym c.as_slice-line.ensures.value) first))
 
 pub returns-clause-fault : goal.returns-clause-fault
 returns-clause-fault g c =
@@ -64,5 +64,5 @@ returns-clause-fault g c =
     (subst (λ s. IfSome (g.R.Read.remaining c.args.input.now) (λ bytes. IsStart bytes s later))
     c.in-Some.is c.in_ok-start.ensures.found)
     (grind arith) (λ bytes first. c.read_lines.ensures.bad bytes
-    (subst (λ l. IsFirstLine bytes l later) (sym c.as_slice.ensures.value) first))
+    (subst (λ l. IsFirstLine bytes l later) (sym c.as_slice-line.ensures.value) first))
     c.read_lines.ensures.skipped

@@ -13,7 +13,7 @@ returns-in-Ok-None-clause-fine g c =
     let InOrder = IsInOrder g.A.Json.is_read g.A.Address.number g.A.Json.reads in
     all_elements InOrder (view c.args.value.now) c.in-Some.elements.now.items c.in-Some.ensures
     (subst (λ (values : List Value). AllByRecursion InOrder (map view values))
-    c.as_slice.ensures.value (found_none c.in-Ok-None.field-0 (search rules) c.in-Ok-None.ensures))
+    c.as_slice.ensures.value (found_none _ _ c.in-Ok-None.field-0 (search rules) c.in-Ok-None.ensures))
 
 pub returns-in-Ok-Some-clause-fault : goal.returns-in-Ok-Some-clause-fault
 returns-in-Ok-Some-clause-fault g c =
@@ -29,6 +29,6 @@ returns-in-Ok-Some-clause-fault g c =
             (λ (vs : List Value). IsFirstReversed g.A.Json.is_read g.A.Address.number g.A.Json.reads
             (map view vs) place)
             c.as_slice.ensures.value
-            (found_some c.in-Ok-Some.field-0 place (search rules) c.in-Ok-Some.ensures),
+            (found_some _ _ c.in-Ok-Some.field-0 place (search rules) c.in-Ok-Some.ensures),
       ),
     )
