@@ -1,5 +1,6 @@
 //! What the arguments ask for.
 
+use crate::table::{TableRequest, table_request};
 use crate::usage::{program, wrong};
 use address_text::Family;
 use address_text::write::Around;
@@ -70,6 +71,8 @@ pub enum Task<'a> {
     LookUp(&'a str, Sought),
     /// The lines of texts are searched for its addresses.
     Search(&'a str, Vec<&'a str>, Wanted),
+    /// Tables of addresses with values are read.
+    Table(TableRequest<'a>),
 }
 
 /// What is printed of the lines of texts.
@@ -98,6 +101,7 @@ impl<'a> Task<'a> {
             Task::Combine(_, files, _) => files.as_slice().get(place).copied(),
             Task::Compare(first, second) => [*first, *second].get(place).copied(),
             Task::LookUp(file, _) | Task::Search(file, _, _) => [*file].get(place).copied(),
+            Task::Table(request) => request.file(place),
         }
     }
 }
@@ -130,7 +134,7 @@ fn standard_inputs(names: &[&str]) -> usize {
     names.iter().filter(|name| **name == "-").count()
 }
 
-fn family_of(found: &ArgMatches<'_>) -> Option<Family> {
+pub(crate) fn family_of(found: &ArgMatches<'_>) -> Option<Family> {
     if found.get_flag("v4") {
         Some(Family::V4)
     } else if found.get_flag("v6") {
@@ -167,6 +171,14 @@ fn form_of<'a>(name: &str, found: &ArgMatches<'a>) -> Form<'a> {
         (Some([set]), _) => Form::Ipset(set),
         (_, Some([table, set])) => Form::Nft(table, set),
         _ => plain_form(name, found),
+    }
+}
+
+/// What is printed of a list.
+pub(crate) fn output_of<'a>(name: &str, found: &ArgMatches<'a>) -> Output<'a> {
+    Output {
+        only: family_of(found),
+        form: form_of(name, found),
     }
 }
 
@@ -245,11 +257,7 @@ fn combined<'a>(
         return Err(no_name(alloc, name, word)?);
     }
     let files = names_of(alloc, found)?;
-    let output = Output {
-        only: family_of(found),
-        form: form_of(name, found),
-    };
-    Ok(Task::Combine(command_of(name), files, output))
+    Ok(Task::Combine(command_of(name), files, output_of(name, found)))
 }
 
 fn sought_of(alloc: Global, words: &[&str]) -> Result<Sought, clap::Error> {
@@ -282,6 +290,12 @@ fn search_of<'a>(
     Ok(Task::Search(list, texts_of(alloc, found)?, wanted))
 }
 
+/// What the innermost command is given.
+fn asked_of<'f, 'a>(found: &'f ArgMatches<'a>) -> &'f ArgMatches<'a> {
+    let (_, inner) = found.subcommand().unwrap_or(("", found));
+    inner
+}
+
 fn task_of<'a>(alloc: Global, name: &str, found: &ArgMatches<'a>) -> Result<Task<'a>, clap::Error> {
     let first = found.get_str("FILE").unwrap_or("-");
     match name {
@@ -291,6 +305,7 @@ fn task_of<'a>(alloc: Global, name: &str, found: &ArgMatches<'a>) -> Result<Task
             Ok(Task::LookUp(first, sought_of(alloc, words)?))
         }
         "grep" => Ok(search_of(alloc, first, found)?),
+        "table" => Ok(Task::Table(table_request(alloc, found)?)),
         _ => combined(alloc, name, found),
     }
 }
@@ -345,11 +360,12 @@ pub fn read_request<'a>(alloc: Global, words: &'a [String]) -> Result<Request<'a
     if let Some(fault) = fault_of_names(alloc, name, found)? {
         return Err(wrong(alloc, name, ErrorKind::ArgumentConflict, fault)?);
     }
+    let asked = asked_of(found);
     Ok(Request {
         task: task_of(alloc, name, found)?,
-        is_strict: found.get_flag("strict"),
-        skips_bad_lines: found.get_flag("skip-bad"),
-        is_quiet: found.get_flag("quiet"),
+        is_strict: asked.get_flag("strict"),
+        skips_bad_lines: asked.get_flag("skip-bad"),
+        is_quiet: asked.get_flag("quiet"),
         is_old_form: found.contains_id("from"),
     })
 }
