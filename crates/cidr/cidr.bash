@@ -14,19 +14,24 @@ _cidr() {
     grep) options="$options --quiet --invert-match --count --line-number" ;;
     table)
       if [ "$COMP_CWORD" = 2 ]; then
-        COMPREPLY=($(compgen -W "merge longest disjoint shortest only without select help --help" -- "$word"))
+        COMPREPLY=($(compgen -W "merge longest disjoint shortest only without select get values help --help" -- "$word"))
         return
       fi
-      options="$options --v4 --v6 --csv --decimal --header"
+      options="$options --csv --decimal --header"
       case ${COMP_WORDS[2]} in
         longest) ;;
         *) options="$options --longest" ;;
+      esac
+      case ${COMP_WORDS[2]} in
+        get) ;;
+        *) options="$options --v4 --v6" ;;
       esac
       case ${COMP_WORDS[2]} in
         merge | longest | disjoint | only | without) options="$options --lines --json --nginx --nft" ;;&
         shortest) options="$options --default --lines --json --nginx" ;;
         only | without) options="$options --in" ;;
         select) options="$options --ranges --single --json" ;;
+        get) options="$options --quiet" ;;
       esac
       ;;
   esac

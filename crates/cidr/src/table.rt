@@ -12,14 +12,15 @@ ghost use Rattle.cidr.specs.Shown.{IsShown};
 use crate::inputs::ToldInput;
 use crate::serve::{Reading as ListReading, Source as ListSource, Stop as ListStop, print};
 use crate::source;
+use address_lines::read_line_addresses;
 use address_table_commands::{
     Asked, Keeping, Outline, Output as TableOutput, Source, Stop, print_part, print_tables,
-    selected,
+    print_value_counts, print_values, selected,
 };
 use address_table_lists::Precedence;
 use address_table_lists::read::Reading;
 use anyhow::bail;
-use cidr_arguments::{Output, TableRequest, TableShape, TableTask};
+use cidr_arguments::{Output, Sought, TableRequest, TableShape, TableTask};
 use line_program::read::LineRead;
 use std::alloc::Global;
 use std::io::{BufReader, Write};
@@ -54,19 +55,16 @@ fn output_of<'a>(request: &TableRequest<'a>) -> TableOutput<'a> {
     }
 }
 
+/// A table or a list that is read from a file, or from standard input.
+type Table<'a> = Source<BufReader<ToldInput<'a>>>;
+
 /// The table or list of this name; `-` is standard input.
-fn table<'a>(
-    rt: &'a HostRuntime,
-    name: &'a str,
-) -> anyhow::Result<Source<BufReader<ToldInput<'a>>>> {
+fn table<'a>(rt: &'a HostRuntime, name: &'a str) -> anyhow::Result<Table<'a>> {
     let ListSource { name, reader } = source(rt, name)?;
     Ok(Source { name, reader })
 }
 
-fn tables<'a>(
-    rt: &'a HostRuntime,
-    names: &[&'a str],
-) -> anyhow::Result<Vec<Source<BufReader<ToldInput<'a>>>>> {
+fn tables<'a>(rt: &'a HostRuntime, names: &[&'a str]) -> anyhow::Result<Vec<Table<'a>>> {
     let mut tables = Vec::new(rt.alloc());
     for name in names {
         tables.push(table(rt, name)?)?;
@@ -106,7 +104,35 @@ fn print_selected<R: LineRead + Drop, W: Write>(
     match print(alloc, output, &list, out) {
         Ok(()) => Ok(()),
         Err(ListStop::Unwritable) => Err(Stop::Unwritable),
-        Err(_) => Err(Stop::Memory),
+        Err(ListStop::Memory) => Err(Stop::Memory),
+        // No list is read here, so that none is bad.
+        Err(ListStop::Bad(_, _)) => Err(Stop::Memory),
+    }
+}
+
+/// Prints the values of the addresses of the arguments, or of the lines of standard input.
+fn get<W: Write>(
+    rt: &HostRuntime,
+    tables: Vec<Table<'_>>,
+    sought: &Sought,
+    asked: Asked<'_>,
+    left_out: &mut Vec<u64>,
+    out: &mut W,
+) -> anyhow::Result<Result<bool, Stop>> {
+    let alloc = rt.alloc();
+    let Source { name, mut reader } = match sought {
+        Sought::These(addresses) => {
+            let addresses = addresses.as_slice();
+            return Ok(print_values(alloc, tables, addresses, asked, left_out, out));
+        }
+        Sought::Lines => table(rt, "-")?,
+    };
+    match read_line_addresses(alloc, &mut reader) {
+        Ok(addresses) => {
+            let addresses = addresses.as_slice();
+            Ok(print_values(alloc, tables, addresses, asked, left_out, out))
+        }
+        Err(error) => Ok(Err(Stop::BadList(name, error))),
     }
 }
 
@@ -120,7 +146,16 @@ fn stopped(stop: Stop) -> anyhow::Result<ListStop> {
     }
 }
 
-/// Does what is asked of tables. Adds how many bad lines are left out of each file.
+/// Whether each address has a value, or why nothing more is printed.
+fn told(done: Result<bool, Stop>) -> anyhow::Result<Result<bool, ListStop>> {
+    match done {
+        Ok(has_all) => Ok(Ok(has_all)),
+        Err(stop) => Ok(Err(stopped(stop)?)),
+    }
+}
+
+/// Does what is asked of tables, and returns whether each address that is looked up has a value.
+/// Adds how many bad lines are left out of each file.
 pub fn answer_tables<W: Write>(
     rt: &HostRuntime,
     request: &TableRequest<'_>,
@@ -169,9 +204,10 @@ pub fn answer_tables<W: Write>(
             left_out,
             out,
         ),
+        TableTask::Values => print_value_counts(alloc, tables, asked, left_out, out),
+        TableTask::Get(sought) => {
+            return told(get(rt, tables, sought, asked, left_out, out)?);
+        }
     };
-    match done {
-        Ok(()) => Ok(Ok(true)),
-        Err(stop) => Ok(Err(stopped(stop)?)),
-    }
+    told(done.map(|()| true))
 }

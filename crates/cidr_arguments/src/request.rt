@@ -215,25 +215,25 @@ fn command_of(name: &str) -> Command {
 }
 
 /// Tells that a word is no address.
-fn no_address(alloc: Global, word: &str) -> Result<clap::Error, AllocError> {
+fn no_address(alloc: Global, name: &str, word: &str) -> Result<clap::Error, AllocError> {
     let message = format!(in alloc;
         "invalid value '{word}' for '<ADDRESS>...': expected an address"
     )?;
-    wrong(alloc, "has", ErrorKind::ValueValidation, message.as_str())
+    wrong(alloc, name, ErrorKind::ValueValidation, message.as_str())
 }
 
-fn address_of(alloc: Global, word: &str) -> Result<IpAddr, clap::Error> {
+fn address_of(alloc: Global, name: &str, word: &str) -> Result<IpAddr, clap::Error> {
     match word.parse::<IpAddr>() {
         Ok(address) => Ok(address),
-        Err(_) => Err(no_address(alloc, word)?),
+        Err(_) => Err(no_address(alloc, name, word)?),
     }
 }
 
 /// The addresses that the words are.
-fn addresses_of(alloc: Global, words: &[&str]) -> Result<Vec<IpAddr>, clap::Error> {
+fn addresses_of(alloc: Global, name: &str, words: &[&str]) -> Result<Vec<IpAddr>, clap::Error> {
     let mut addresses = Vec::new(alloc);
     for word in words {
-        addresses.push(address_of(alloc, word)?)?;
+        addresses.push(address_of(alloc, name, word)?)?;
     }
     Ok(addresses)
 }
@@ -260,10 +260,11 @@ fn combined<'a>(
     Ok(Task::Combine(command_of(name), files, output_of(name, found)))
 }
 
-fn sought_of(alloc: Global, words: &[&str]) -> Result<Sought, clap::Error> {
+/// The addresses that a command of this name is to look up.
+pub(crate) fn sought_of(alloc: Global, name: &str, words: &[&str]) -> Result<Sought, clap::Error> {
     match words {
         ["-"] => Ok(Sought::Lines),
-        _ => Ok(Sought::These(addresses_of(alloc, words)?)),
+        _ => Ok(Sought::These(addresses_of(alloc, name, words)?)),
     }
 }
 
@@ -302,7 +303,7 @@ fn task_of<'a>(alloc: Global, name: &str, found: &ArgMatches<'a>) -> Result<Task
         "compare" => Ok(Task::Compare(first, found.get_str("OTHER").unwrap_or("-"))),
         "has" => {
             let words = found.get_strs("ADDRESS").unwrap_or(&[]);
-            Ok(Task::LookUp(first, sought_of(alloc, words)?))
+            Ok(Task::LookUp(first, sought_of(alloc, name, words)?))
         }
         "grep" => Ok(search_of(alloc, first, found)?),
         "table" => Ok(Task::Table(table_request(alloc, found)?)),

@@ -1,6 +1,6 @@
 //! What is asked of tables of addresses with values.
 
-use crate::request::{Output, family_of, output_of};
+use crate::request::{Output, Sought, family_of, output_of, sought_of};
 use crate::usage::wrong;
 use address_rows::{Form, Layout};
 use address_text::Family;
@@ -30,6 +30,10 @@ pub enum TableTask<'a> {
     Without(&'a str),
     /// The addresses of these values are printed as a list.
     Select(Vec<&'a str>, Output<'a>),
+    /// The values of these addresses are printed.
+    Get(Sought),
+    /// How many addresses have each value is printed.
+    Values,
 }
 
 /// What is asked of the tables of these names.
@@ -117,7 +121,7 @@ fn task_of<'a>(
     alloc: Global,
     name: &str,
     found: &ArgMatches<'a>,
-) -> Result<TableTask<'a>, AllocError> {
+) -> Result<TableTask<'a>, clap::Error> {
     match (name, found.get_str("in")) {
         ("only", Some(list)) => Ok(TableTask::Only(list)),
         ("without", Some(list)) => Ok(TableTask::Without(list)),
@@ -125,6 +129,11 @@ fn task_of<'a>(
             let values = words_of(alloc, "VALUE", found)?;
             Ok(TableTask::Select(values, output_of(name, found)))
         }
+        ("get", _) => {
+            let words = found.get_strs("ADDRESS").unwrap_or(&[]);
+            Ok(TableTask::Get(sought_of(alloc, "table get", words)?))
+        }
+        ("values", _) => Ok(TableTask::Values),
         _ => Ok(TableTask::Print),
     }
 }
@@ -132,7 +141,7 @@ fn task_of<'a>(
 /// How often standard input is named.
 fn standard_inputs(found: &ArgMatches<'_>) -> usize {
     let mut count = 0usize;
-    for id in ["FILE", "in"] {
+    for id in ["FILE", "in", "ADDRESS"] {
         let words = found.get_strs(id).unwrap_or(&[]);
         count = count.saturating_add(words.iter().filter(|word| **word == "-").count());
     }

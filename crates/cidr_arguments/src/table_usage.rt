@@ -1,6 +1,8 @@
 //! What the program can be asked of tables.
 
-use crate::usage::{JSON, Kind, RANGES, SINGLE, SKIP_BAD, STRICT, Taken, Usage, V4, V6};
+use crate::usage::{
+    ADDRESSES, JSON, Kind, QUIET, RANGES, SINGLE, SKIP_BAD, STRICT, Taken, Usage, V4, V6,
+};
 
 pub(crate) const TABLE_ABOUT: &str = "Do the same with tables: addresses with values";
 
@@ -13,7 +15,8 @@ Examples:
   cidr table shortest --decimal --lines /usr/share/tor/geoip
   cidr table merge --json countries.txt changes.txt
   cidr table only countries.txt --in blocked.txt
-  cidr table select countries.txt US CA";
+  cidr table select countries.txt US CA
+  cidr table get countries.txt 192.0.2.9";
 
 const TABLE_HELP: &str = "A table of addresses with values; - is standard input";
 
@@ -79,7 +82,7 @@ const IN: Taken = (
 
 const VALUES: Taken = ("VALUE", Kind::Words(1, usize::MAX), "A value of the table");
 
-pub(crate) static TABLE_COMMANDS: [Usage; 7] = [
+pub(crate) static TABLE_COMMANDS: [Usage; 9] = [
     Usage {
         name: "merge",
         about: "Print tables as one, by its ranges; of the lines that have an address the last counts",
@@ -132,6 +135,20 @@ pub(crate) static TABLE_COMMANDS: [Usage; 7] = [
         takes: &[
             ONE_TABLE, CSV, DECIMAL, HEADER, LONGEST, STRICT, SKIP_BAD, V4, V6, RANGES, SINGLE,
             JSON, VALUES,
+        ],
+    },
+    Usage {
+        name: "get",
+        about: "Print each address, the range around it and its value, or - and exit with 1",
+        takes: &[
+            ONE_TABLE, CSV, DECIMAL, HEADER, LONGEST, STRICT, SKIP_BAD, QUIET, ADDRESSES,
+        ],
+    },
+    Usage {
+        name: "values",
+        about: "Print how many addresses of each family have each value",
+        takes: &[
+            TABLES, CSV, DECIMAL, HEADER, LONGEST, STRICT, SKIP_BAD, V4, V6,
         ],
     },
 ];
