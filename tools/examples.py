@@ -14,6 +14,7 @@ from tools import repository
 from tools.repository import CRATES, TOP, Counts, told, tried
 
 RUN = [CRATES / name for name in ("tour", "bookings", "odd_keys", "lexing_patterns", "address_tables")]
+RUN += [CRATES / "address_table_commands"]
 RUN += [TOP / "tests" / name for name in ("address_tests", "example_tests", "pattern_tests", "table_tests")]
 PAGES = ("README.md", "docs/GUIDE.md")
 KINDS = (".rt", ".rt.txt", ".antt")

@@ -105,6 +105,7 @@ def over_proved():
         runs.append(pool.submit(counting, "random conversations", ["crates/rangecalc/fuzz", "--conversations", "1000"]))
         runs.append(pool.submit(counting, "random lists", ["crates/cidr/fuzz", "--lists", "300"]))
         runs.append(pool.submit(counting, "tables by cc and rustc", ["crates/tokens/peers/tables.py", "crates/tokens/out/tokens", "--few"]))
+        runs.append(pool.submit(counting, "random tables", ["crates/cidr/fuzz-tables", "--tables", "100"]))
         return [*refused.result(), *[it.result() for it in runs]]
 
 

@@ -41,7 +41,8 @@ def install(prefix, is_proved):
         every = map if is_proved else pool.map
         for name, made in zip(PROGRAMS, every(lambda it: program(it, is_proved), PROGRAMS)):
             put(made, prefix / "bin" / name)
-            put(CRATES / name / f"{name}.1", prefix / "share/man/man1" / f"{name}.1")
+            for page in sorted((CRATES / name).glob("*.1")):
+                put(page, prefix / "share/man/man1" / page.name)
             put(CRATES / name / f"{name}.bash", prefix / "share/bash-completion/completions" / name)
             tell(f"{prefix}/bin/{name}")
     for rules in sorted((CRATES / "tokens/data").iterdir()):

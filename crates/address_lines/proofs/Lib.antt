@@ -1,4 +1,5 @@
 mod Found
 mod Pieces
+mod Read
 mod Shortest
 mod Told

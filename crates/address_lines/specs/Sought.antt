@@ -1,5 +1,5 @@
 -- Lines that are addresses.
-use Rattle.std.specs.Prelude.{◌≡◌, ◌≢◌, ℕ, ◌+◌, ◌⊎◌, ◌↔◌, Bool, true, IsTrue, Option, List, [], ◌∷◌}
+use Rattle.std.specs.Prelude.{◌≡◌, ◌≢◌, ℕ, ◌+◌, ◌⊎◌, ◌↔◌, Bool, true, IsTrue, Option, List, [], ◌∷◌, ◌++◌}
 use Rattle.std.specs.Io.BufRead.{drop_through, take_through}
 use Rattle.std.specs.List.{AllByRecursion}
 use Rattle.std.specs.Net.Grammar.{IsIpText}
@@ -54,6 +54,16 @@ IsNoAddress number text (Json fault) = ⊥
 abbrev pub IsUntold : ℕ → List ℕ → ListError → Type 0
 IsUntold number rest error = ((error ≡ Unread) ⊎ (error ≡ Memory))
     ⊎ ((rest ≢ []) × IsNoAddress number (take_through 10 rest) error)
+
+-- the address that a line is comes behind those before it, where it is one
+abbrev pub IsAddedOf : List ℕ → List IpAddr → List IpAddr → Type 0
+IsAddedOf line old new = (IsBlank line × (new ≡ old))
+    ⊎ ((address : IpAddr) × IsAddressLine line address × (new ≡ old ++ address ∷ []))
+
+-- the lines of the bytes before a rest are addresses, and it is not read for this reason
+abbrev pub IsUnreadAt : List ℕ → ListError → Type 0
+IsUnreadAt bytes error = (addresses : List IpAddr) × (number : ℕ) × (rest : List ℕ)
+    × AreSought 1 bytes addresses number rest × IsUntold number rest error
 
 module _ (list : Addresses) (bytes : List ℕ) (before after : Option (List ℕ)) where
   -- each address in the lines of the bytes is told of, and whether the list has them all

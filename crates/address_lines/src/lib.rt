@@ -7,13 +7,15 @@
 //! - the lines that hold one, and how they are written: `src/grep.rt`, `specs/Found.antt`,
 //!   `proofs/Found.antt`
 //! - lines that are addresses, looked up: `src/sought.rt`, `specs/Sought.antt`,
-//!   `proofs/Told.antt`
+//!   `proofs/Told.antt`; read: `src/read.rt`, `proofs/Read.antt`
 #![tactic(auto)]
 
 pub mod grep;
+pub mod read;
 pub mod sought;
 pub mod words;
 
 pub use grep::{Search, Showing, write_found_lines};
+pub use read::read_line_addresses;
 pub use sought::{Halt, write_told_lines};
 pub use words::holds_address;

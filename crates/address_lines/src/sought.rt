@@ -24,7 +24,7 @@ pub enum Halt {
 }
 
 /// The address that a line of this number is, or `None` where it is blank.
-fn address_of(line: &[u8], number: u64) -> Result<Option<IpAddr>, ListError>
+pub(crate) fn address_of(line: &[u8], number: u64) -> Result<Option<IpAddr>, ListError>
     ensures found { IfOk result (λ found. MatchOption found (IsBlank line.now)
         (λ address. IsAddressLine line.now address)) }
     ensures bad { IfErr result (λ error. IsNoAddress number line.now error) }

@@ -1,17 +1,24 @@
 -- What is printed of the tables that are read.
-use Rattle.std.proofs.Common.{◌≡◌, ℕ, ◌⊎◌, List, [], ◌∷◌, ◌++◌, Option, None, Some, IfSome, Result, Ok, Err, IfErr, IfOk, OnOk, ap, inl, inr, sym, subst, ◌∙◌, append_assoc}
-use Rattle.std.specs.Prelude.{String}
+use Rattle.std.proofs.Common.{◌≡◌, ◌≢◌, ℕ, ◌⊎◌, ◌↔◌, Bool, List, [], ◌∷◌, ◌++◌, Option, None, Some, IfSome, Result, Ok, Err, IfErr, IfOk, OnErr, OnOk, ap, inl, inr, sym, subst, ◌∙◌, append_assoc}
+use Rattle.std.specs.Prelude.{IsTrue, String, map}
+use Rattle.std.specs.List.{AllByRecursion}
+use Rattle.std.specs.declared.net.ip_addr.IpAddr.{IpAddr}
 use Rattle.std.specs.declared.alloc.Global.{Global}
 use Rattle.address_lists.specs.Files.{IsFile}
 use Rattle.address_lists.specs.declared.addresses.Addresses.{Addresses}
+use Rattle.address_rows.specs.Forms.{value_text}
 use Rattle.address_rows.specs.Rows.{Row}
+use Rattle.address_rows.specs.declared.forms.Form.TheVariants.{Lines}
+use Rattle.address_table_lists.specs.Counts.{AreCounted}
+use Rattle.address_table_lists.specs.Lookups.{HasValue, IsValueLine}
 use Rattle.address_table_lists.specs.Rows.{Hold}
 use Rattle.address_table_lists.specs.declared.read.Reading.{Reading}
 use Rattle.address_table_lists.specs.declared.rows.Rows.{Rows}
 use Rattle.address_table_lists.specs.declared.table.Table.{Table}
-use Rattle.line_program.specs.Listing.{Writes}
+use Rattle.line_program.specs.Listing.{SpellsEach, Writes}
 use Rattle.address_table_commands.specs.Files.{AreKnown, AreTables, IsListReason, IsPartStop, IsReadFailure, IsStop, left_out_of, rows_of}
 use Rattle.address_table_commands.specs.Results.{ArePrinted, IsMadeFrom, IsPart, IsPartPrinted, IsSelectedIn, IsSelectedOf, IsTableOf, IsTextOf}
+use Rattle.address_table_commands.specs.Values.{AreCountsOf, AreTold}
 use Rattle.address_table_commands.specs.declared.print.Keeping.{Keeping}
 use Rattle.address_table_commands.specs.declared.print.Output.{Output}
 use Rattle.address_table_commands.specs.declared.source.Stop.{Stop}
@@ -65,6 +72,36 @@ module _ (asked : Asked) where
   tables_selected inputs numbers later texts table values (Ok list) made selected = λ files known.
       let (said, are, counted, of_rows) = made files known in
       (said, are, counted, (texts, table, of_rows, selected))
+
+  -- the values that are told are those of their table
+  pub values_told : (inputs : List (Option (List ℕ))) (numbers later : List ℕ)
+      (texts : List (List ℕ)) (table : Table) (addresses : List IpAddr)
+      (before after : Option (List ℕ)) (result : Result Bool Stop)
+      → AreMade inputs numbers later (λ rows. IsTableOf asked rows texts table)
+      → IfOk result (λ all. IsTrue all ↔ AllByRecursion (HasValue table) addresses)
+      → OnOk result (Writes before after
+      (SpellsEach (IsValueLine (map (value_text Lines) texts) table) addresses))
+      → IfOk result
+      (λ all. AreMade inputs numbers later (λ rows. AreTold asked rows addresses all before after))
+  values_told inputs numbers later texts table addresses before after (Err stop) made told written =
+      tt
+  values_told inputs numbers later texts table addresses before after (Ok all) made told written =
+      λ files known. let (said, are, counted, of_rows) = made files known in
+      (said, are, counted, (texts, table, of_rows, told, written))
+
+  -- the addresses that are counted are those of their table
+  pub values_counted : {X E : Type 0} (inputs : List (Option (List ℕ))) (numbers later : List ℕ)
+      (texts : List (List ℕ)) (table : Table) (before after : Option (List ℕ))
+      (result : Result X E)
+      → AreMade inputs numbers later (λ rows. IsTableOf asked rows texts table)
+      → OnOk result (Writes before after (AreCounted table 0 texts))
+      → OnOk result
+      (AreMade inputs numbers later (λ rows. Writes before after (AreCountsOf asked rows)))
+  values_counted inputs numbers later texts table before after (Err stop) made counts = tt
+  values_counted inputs numbers later texts table before after (Ok done) made
+      (text, is, appended) = λ files known.
+      let (said, are, counted, of_rows) = made files known in
+      (said, are, counted, (text, (texts, table, of_rows, is), appended))
 
   -- what is printed of a part is the text of that part
   abbrev pub IsPartMade : Output → Keeping → List (Option (List ℕ)) → Option (List ℕ) → List ℕ
@@ -171,3 +208,15 @@ pub nothing_unread : {X : Type 0} (Fails : Type 0) (result : Result X Stop)
     → IfErr result IsUnprinted → IfErr result (λ stop. IsReadFailure stop → Fails)
 nothing_unread Fails (Ok done) failed = tt
 nothing_unread Fails (Err stop) failed = not_read Fails stop failed
+
+-- where nothing can be written, that is why nothing is printed
+pub unwritable_unprinted : {X : Type 0} (result : Result X Stop)
+    → IfErr result (λ stop. stop ≡ Unwritable) → IfErr result IsUnprinted
+unwritable_unprinted (Ok done) failed = tt
+unwritable_unprinted (Err stop) failed = inr failed
+
+-- and nothing is said of what was written
+pub unwritable_silent : {X : Type 0} (Same : Type 0) (result : Result X Stop)
+    → IfErr result (λ stop. stop ≡ Unwritable) → result ≢ Err Unwritable → OnErr result Same
+unwritable_silent Same (Ok done) failed other = tt
+unwritable_silent Same (Err stop) failed other = absurd (other (ap Err failed))

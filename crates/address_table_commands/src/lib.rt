@@ -7,14 +7,18 @@
 //! - the table of what they say: `src/table.rt`, `specs/Results.antt`
 //! - tables printed, also those of some addresses alone: `src/print.rt`, `specs/Results.antt`
 //! - the addresses of some values: `src/select.rt`
+//! - the values of some addresses, and the addresses of each value counted: `src/values.rt`,
+//!   `specs/Values.antt`
 #![tactic(auto)]
 
 pub mod print;
 pub mod select;
 pub mod source;
 pub mod table;
+pub mod values;
 
 pub use print::{Keeping, Outline, Output, print_part, print_tables};
 pub use select::selected;
 pub use source::{Source, Stop};
 pub use table::Asked;
+pub use values::{print_value_counts, print_values};

@@ -9,6 +9,7 @@
 //!   `src/compare.rt`, `specs/Relations.antt`, `proofs/Compared.antt`; of `has`, `src/lookup.rt`,
 //!   `proofs/LookedUp.antt`; of `has` over lines and of `grep`, `src/lines.rt`, `specs/Lines.antt`
 //! - files of firewalls: `src/firewall.rt`, `specs/Firewalls.antt`
+//! - the commands over tables, which the crate `address_table_commands` has: `src/table.rt`
 //! - what is written, and why that failed: `src/output.rt`
 #![tactic(auto)]
 
@@ -20,6 +21,7 @@ mod lookup;
 mod output;
 mod progress;
 mod serve;
+mod table;
 
 use crate::compare::compare;
 use crate::inputs::{Input, ToldInput};
@@ -27,6 +29,7 @@ use crate::lines::{look_up_lines, search_text};
 use crate::lookup::look_up;
 use crate::output::Noted;
 use crate::serve::{Reading, Source, Stop, read_source, serve};
+use crate::table::answer_tables;
 use address_lines::{Search, Showing};
 use address_lists::{Addresses, BadLines};
 use anyhow::{Context, bail};
@@ -39,10 +42,10 @@ use std::process::ExitCode;
 const BUFFER_BYTES: usize = 65536;
 
 /// A list that is read from a file, or from standard input.
-type List<'a> = Source<BufReader<ToldInput<'a>>>;
+pub(crate) type List<'a> = Source<BufReader<ToldInput<'a>>>;
 
 /// The list of this name; `-` is standard input.
-fn source<'a>(rt: &'a HostRuntime, name: &'a str) -> anyhow::Result<List<'a>> {
+pub(crate) fn source<'a>(rt: &'a HostRuntime, name: &'a str) -> anyhow::Result<List<'a>> {
     let alloc = rt.alloc();
     let input = Input::open(rt, name).context(format_args!("{name}"))?;
     Ok(Source {
@@ -204,6 +207,7 @@ fn answer<W: Write>(
         Task::Search(file, texts, wanted) => {
             search_files(rt, file, texts.as_slice(), *wanted, reading, left_out, out)
         }
+        Task::Table(request) => answer_tables(rt, request, reading, left_out, out),
     }
 }
 

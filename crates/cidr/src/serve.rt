@@ -334,7 +334,8 @@ fn print_firewall<W: Write>(
     }
 }
 
-fn print<W: Write>(
+/// Prints a list in a form; `out` is flushed.
+pub fn print<W: Write>(
     alloc: Global,
     output: &Output<'_>,
     list: &Addresses,

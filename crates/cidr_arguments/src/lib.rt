@@ -2,12 +2,16 @@
 //!
 //! Where to find what:
 //!
-//! - the commands and what they take: `src/usage.rt`; what they ask for: `src/request.rt`
+//! - the commands and what they take: `src/usage.rt`, over tables `src/table_usage.rt`; what they
+//!   ask for: `src/request.rt`, of tables `src/table.rt`
 #![tactic(auto)]
 
 mod request;
+mod table;
+mod table_usage;
 mod usage;
 
 pub use crate::request::{
     Command, Form, Lines, Output, Request, Sought, Task, Wanted, read_request,
 };
+pub use crate::table::{TableRequest, TableShape, TableTask};

@@ -1,5 +1,6 @@
 //! What the arguments ask for.
 
+use crate::table::{TableRequest, table_request};
 use crate::usage::{program, wrong};
 use address_text::Family;
 use address_text::write::Around;
@@ -70,6 +71,8 @@ pub enum Task<'a> {
     LookUp(&'a str, Sought),
     /// The lines of texts are searched for its addresses.
     Search(&'a str, Vec<&'a str>, Wanted),
+    /// Tables of addresses with values are read.
+    Table(TableRequest<'a>),
 }
 
 /// What is printed of the lines of texts.
@@ -98,6 +101,7 @@ impl<'a> Task<'a> {
             Task::Combine(_, files, _) => files.as_slice().get(place).copied(),
             Task::Compare(first, second) => [*first, *second].get(place).copied(),
             Task::LookUp(file, _) | Task::Search(file, _, _) => [*file].get(place).copied(),
+            Task::Table(request) => request.file(place),
         }
     }
 }
@@ -130,7 +134,7 @@ fn standard_inputs(names: &[&str]) -> usize {
     names.iter().filter(|name| **name == "-").count()
 }
 
-fn family_of(found: &ArgMatches<'_>) -> Option<Family> {
+pub(crate) fn family_of(found: &ArgMatches<'_>) -> Option<Family> {
     if found.get_flag("v4") {
         Some(Family::V4)
     } else if found.get_flag("v6") {
@@ -184,6 +188,18 @@ fn form_of<'a>(alloc: Global, name: &str, found: &ArgMatches<'a>) -> Result<Form
     }
 }
 
+/// What is printed of a list.
+pub(crate) fn output_of<'a>(
+    alloc: Global,
+    name: &str,
+    found: &ArgMatches<'a>,
+) -> Result<Output<'a>, AllocError> {
+    Ok(Output {
+        only: family_of(found),
+        form: form_of(alloc, name, found)?,
+    })
+}
+
 /// Whether `ipset` and `nft` take the text as the beginning of a name: letters, digits, `_`, `-` and
 /// `.`, a letter first, and no more bytes than leave room for the name of a family.
 fn is_set_name(text: &str) -> bool {
@@ -217,25 +233,25 @@ fn command_of(name: &str) -> Command {
 }
 
 /// Tells that a word is no address.
-fn no_address(alloc: Global, word: &str) -> Result<clap::Error, AllocError> {
+fn no_address(alloc: Global, name: &str, word: &str) -> Result<clap::Error, AllocError> {
     let message = format!(in alloc;
         "invalid value '{word}' for '<ADDRESS>...': expected an address"
     )?;
-    wrong(alloc, "has", ErrorKind::ValueValidation, message.as_str())
+    wrong(alloc, name, ErrorKind::ValueValidation, message.as_str())
 }
 
-fn address_of(alloc: Global, word: &str) -> Result<IpAddr, clap::Error> {
+fn address_of(alloc: Global, name: &str, word: &str) -> Result<IpAddr, clap::Error> {
     match word.parse::<IpAddr>() {
         Ok(address) => Ok(address),
-        Err(_) => Err(no_address(alloc, word)?),
+        Err(_) => Err(no_address(alloc, name, word)?),
     }
 }
 
 /// The addresses that the words are.
-fn addresses_of(alloc: Global, words: &[&str]) -> Result<Vec<IpAddr>, clap::Error> {
+fn addresses_of(alloc: Global, name: &str, words: &[&str]) -> Result<Vec<IpAddr>, clap::Error> {
     let mut addresses = Vec::new(alloc);
     for word in words {
-        addresses.push(address_of(alloc, word)?)?;
+        addresses.push(address_of(alloc, name, word)?)?;
     }
     Ok(addresses)
 }
@@ -259,17 +275,14 @@ fn combined<'a>(
         return Err(no_name(alloc, name, word)?);
     }
     let files = names_of(alloc, found)?;
-    let output = Output {
-        only: family_of(found),
-        form: form_of(alloc, name, found)?,
-    };
-    Ok(Task::Combine(command_of(name), files, output))
+    Ok(Task::Combine(command_of(name), files, output_of(alloc, name, found)?))
 }
 
-fn sought_of(alloc: Global, words: &[&str]) -> Result<Sought, clap::Error> {
+/// The addresses that a command of this name is to look up.
+pub(crate) fn sought_of(alloc: Global, name: &str, words: &[&str]) -> Result<Sought, clap::Error> {
     match words {
         ["-"] => Ok(Sought::Lines),
-        _ => Ok(Sought::These(addresses_of(alloc, words)?)),
+        _ => Ok(Sought::These(addresses_of(alloc, name, words)?)),
     }
 }
 
@@ -296,15 +309,22 @@ fn search_of<'a>(
     Ok(Task::Search(list, texts_of(alloc, found)?, wanted))
 }
 
+/// What the innermost command is given.
+fn asked_of<'f, 'a>(found: &'f ArgMatches<'a>) -> &'f ArgMatches<'a> {
+    let (_, inner) = found.subcommand().unwrap_or(("", found));
+    inner
+}
+
 fn task_of<'a>(alloc: Global, name: &str, found: &ArgMatches<'a>) -> Result<Task<'a>, clap::Error> {
     let first = found.get_str("FILE").unwrap_or("-");
     match name {
         "compare" => Ok(Task::Compare(first, found.get_str("OTHER").unwrap_or("-"))),
         "has" => {
             let words = found.get_strs("ADDRESS").unwrap_or(&[]);
-            Ok(Task::LookUp(first, sought_of(alloc, words)?))
+            Ok(Task::LookUp(first, sought_of(alloc, name, words)?))
         }
         "grep" => Ok(search_of(alloc, first, found)?),
+        "table" => Ok(Task::Table(table_request(alloc, found)?)),
         _ => combined(alloc, name, found),
     }
 }
@@ -359,11 +379,12 @@ pub fn read_request<'a>(alloc: Global, words: &'a [String]) -> Result<Request<'a
     if let Some(fault) = fault_of_names(alloc, name, found)? {
         return Err(wrong(alloc, name, ErrorKind::ArgumentConflict, fault)?);
     }
+    let asked = asked_of(found);
     Ok(Request {
         task: task_of(alloc, name, found)?,
-        is_strict: found.get_flag("strict"),
-        skips_bad_lines: found.get_flag("skip-bad"),
-        is_quiet: found.get_flag("quiet"),
+        is_strict: asked.get_flag("strict"),
+        skips_bad_lines: asked.get_flag("skip-bad"),
+        is_quiet: asked.get_flag("quiet"),
         is_old_form: found.contains_id("from"),
     })
 }

@@ -1,5 +1,6 @@
 //! What the program can be asked, as `clap` has it.
 
+use crate::table_usage::{TABLE_ABOUT, TABLE_COMMANDS, TABLE_EXAMPLES};
 use clap::error::ErrorKind;
 use clap::{self, Arg, ArgAction, value_parser};
 use std::alloc::{AllocError, Global};
@@ -27,7 +28,7 @@ Examples:
 
 /// What a command takes.
 #[derive(Clone, Copy)]
-enum Kind {
+pub(crate) enum Kind {
     /// At least so many words, and at most so many.
     Words(usize, usize),
     /// A flag. Of those of a group at most one may be given.
@@ -44,55 +45,59 @@ enum Kind {
     Text(&'static [&'static str]),
     /// An option with names of these kinds. Of the options of a group at most one may be given.
     Names(&'static [&'static str], &'static [&'static str]),
+    /// An option that must be given, with the name of a list.
+    NeededList,
+    /// An option with a text, which the help calls so.
+    Word(&'static str),
 }
 
 /// The name of what a command takes, its kind, and its help.
-type Taken = (&'static str, Kind, &'static str);
+pub(crate) type Taken = (&'static str, Kind, &'static str);
 
 /// A command.
-struct Usage {
-    name: &'static str,
-    about: &'static str,
-    takes: &'static [Taken],
+pub(crate) struct Usage {
+    pub(crate) name: &'static str,
+    pub(crate) about: &'static str,
+    pub(crate) takes: &'static [Taken],
 }
 
-const ONE_LIST: Taken = ("FILE", Kind::Words(1, 1), LIST_HELP);
+pub(crate) const ONE_LIST: Taken = ("FILE", Kind::Words(1, 1), LIST_HELP);
 
-const SECOND_LIST: Taken = ("OTHER", Kind::SecondList, LIST_HELP);
+pub(crate) const SECOND_LIST: Taken = ("OTHER", Kind::SecondList, LIST_HELP);
 
 const LISTS: Taken = ("FILE", Kind::Words(1, usize::MAX), LIST_HELP);
 
 const LIST_HELP: &str = "A list of addresses; - is standard input";
 
-const STRICT: Taken = (
+pub(crate) const STRICT: Taken = (
     "strict",
     Kind::Flag(&[]),
     "Refuse a prefix that has bits of 1 after its length",
 );
 
-const SKIP_BAD: Taken = (
+pub(crate) const SKIP_BAD: Taken = (
     "skip-bad",
     Kind::Flag(&[]),
     "Leave bad lines out, and count them on standard error",
 );
 
-const V4: Taken = ("v4", Kind::Flag(&["family"]), "Print IPv4 alone");
+pub(crate) const V4: Taken = ("v4", Kind::Flag(&["family"]), "Print IPv4 alone");
 
-const V6: Taken = ("v6", Kind::Flag(&["family"]), "Print IPv6 alone");
+pub(crate) const V6: Taken = ("v6", Kind::Flag(&["family"]), "Print IPv6 alone");
 
-const RANGES: Taken = (
+pub(crate) const RANGES: Taken = (
     "ranges",
     Kind::Flag(&["form"]),
     "Print ranges in place of prefixes",
 );
 
-const SINGLE: Taken = (
+pub(crate) const SINGLE: Taken = (
     "single",
     Kind::Flag(&["form"]),
     "Print each address on a line",
 );
 
-const JSON: Taken = (
+pub(crate) const JSON: Taken = (
     "json",
     Kind::Flag(&["form", "before", "behind"]),
     "Print a JSON object: the set of each family, as an array of ranges",
@@ -134,7 +139,7 @@ const FROM: Taken = (
     "The old way: the list from which all others are taken",
 );
 
-const QUIET: Taken = (
+pub(crate) const QUIET: Taken = (
     "quiet",
     Kind::Flag(&[]),
     "Print nothing: the exit status alone tells",
@@ -146,7 +151,7 @@ const AT: Taken = (
     "The lengths to divide at, as 16,24: for each prefix the least that is not below its own",
 );
 
-const ADDRESSES: Taken = (
+pub(crate) const ADDRESSES: Taken = (
     "ADDRESS",
     Kind::Words(1, usize::MAX),
     "An address that is looked up; - alone: each line of standard input",
@@ -298,6 +303,8 @@ fn argument<'a>((name, kind, help): Taken, alloc: Global) -> Result<Arg<'a>, All
             let arg = arg.long(name).value_names(names);
             arg.num_args(names.len()..=names.len()).groups(groups)
         }
+        Kind::NeededList => Ok(arg.long(name).required(true).value_name("FILE")),
+        Kind::Word(called) => Ok(arg.long(name).value_name(called)),
     }
 }
 
@@ -342,6 +349,15 @@ fn commands<'a>(usages: &[Usage], alloc: Global) -> Result<Vec<clap::Command<'a>
     Ok(commands)
 }
 
+/// The commands over tables, as one.
+fn table<'a>(alloc: Global) -> Result<clap::Command<'a>, AllocError> {
+    clap::Command::new(alloc, "table")
+        .about(TABLE_ABOUT)
+        .after_help(TABLE_EXAMPLES)
+        .subcommand_required(true)
+        .subcommands(commands(&TABLE_COMMANDS, alloc)?)
+}
+
 /// The program without its commands.
 fn cidr<'a>(alloc: Global) -> clap::Command<'a> {
     clap::Command::new(alloc, "cidr")
@@ -353,18 +369,23 @@ fn cidr<'a>(alloc: Global) -> clap::Command<'a> {
 
 /// What the program can be asked.
 pub fn program<'a>(alloc: Global) -> Result<clap::Command<'a>, AllocError> {
-    let commands = commands(&COMMANDS, alloc)?;
+    let mut commands = commands(&COMMANDS, alloc)?;
+    commands.push(table(alloc)?)?;
     cidr(alloc).subcommands(commands)
 }
 
-/// The usage of a command; of none, that of `merge`.
+/// The usage of a command among these; of none, that of the first.
+fn usage_among(usages: &'static [Usage], name: &str) -> Option<&'static Usage> {
+    usages.iter().find(|usage| usage.name == name)
+}
+
+/// The usage of a command, by its name behind that of the program; of none, that of `merge`.
 fn usage_of(name: &str) -> &'static Usage {
-    for usage in &COMMANDS {
-        if usage.name == name {
-            return usage;
-        }
-    }
-    &COMMANDS[0]
+    let found = match name.strip_prefix("table ") {
+        Some(name) => usage_among(&TABLE_COMMANDS, name),
+        None => usage_among(&COMMANDS, name),
+    };
+    found.unwrap_or(&COMMANDS[0])
 }
 
 /// An error in what the command of this name is given, with its usage.
@@ -374,8 +395,7 @@ pub fn wrong<'a>(
     kind: ErrorKind,
     message: &str,
 ) -> Result<clap::Error, AllocError> {
-    let usage = usage_of(name);
-    let called = format!(in alloc; "cidr {}", usage.name)?;
-    let mut command = command(usage, alloc)?.bin_name(called.as_str())?;
+    let called = format!(in alloc; "cidr {name}")?;
+    let mut command = command(usage_of(name), alloc)?.bin_name(called.as_str())?;
     command.error(kind, message)
 }
