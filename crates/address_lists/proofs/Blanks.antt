@@ -1,17 +1,15 @@
 -- Blank lines at the start of a list.
-use Rattle.std.proofs.Common.{◌≡◌, ◌≢◌, ℕ, suc, ◌+◌, ◌<◌, ◌^◌, ◌↔◌, ◌⊎◌, Bool, true, false, List, [], ◌∷◌, ◌++◌, length, drop, Option, None, Some, IfSome, inl, inr, refl, ap, sym, subst, ◌∙◌, append_assoc, arith}
+use Rattle.std.proofs.Common.{◌≡◌, ◌≢◌, ℕ, suc, ◌+◌, Bool, true, false, List, [], ◌∷◌, ◌++◌, length, drop, Option, None, Some, IfSome, inl, inr, refl, ap, sym, subst, ◌∙◌, append_assoc, arith}
 use Rattle.std.proofs.lemmas.Bool.{eqb-true}
 use Rattle.std.specs.Char.{is_ascii_whitespace}
 use Rattle.std.specs.Io.BufRead.{drop_through, take_through}
 use Rattle.std.specs.List.{before_first}
-use Rattle.address_text.specs.Lines.{Says, content, from_word, is_hash, trimmed}
-use Rattle.address_text.specs.Texts.{width}
-use Rattle.address_text.specs.declared.family.Family.{Family}
+use Rattle.address_text.specs.Lines.{Says, from_word, is_hash, trimmed}
 use Rattle.address_text.specs.declared.line.Line.{Line}
 use Rattle.address_text.specs.declared.line.Line.TheVariants.{Nothing}
 use Rattle.address_lists.specs.Files.{AreBlank, IsReadAs, IsStart, is_blank, mark}
 use Rattle.address_lists.specs.Files.AreBlank.{NoLine, OneMore}
-use Rattle.address_lists.specs.Lists.{AreGood, Has, HasJust, IsListed}
+use Rattle.address_lists.specs.Lists.{HasJust, IsListed}
 use Rattle.address_lists.specs.Lists.AreGood.{Said}
 use Rattle.address_lists.specs.Reading.{HasFaultFrom, IsBad}
 use Rattle.address_lists.specs.declared.addresses.Addresses.{Addresses}

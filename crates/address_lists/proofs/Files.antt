@@ -1,11 +1,10 @@
 -- Lists of either form.
-use Rattle.std.proofs.Common.{◌≡◌, ◌≢◌, ◌⊎◌, ◌==◌, ℕ, suc, ◌+◌, ◌<◌, ◌^◌, ◌↔◌, Bool, true, false, List, [], ◌∷◌, ◌++◌, length, Option, None, Some, IfSome, Result, Ok, Err, IfErr, IfOk, inl, inr, refl, ap, subst, sym, ◌∙◌, append_assoc, arith}
+use Rattle.std.proofs.Common.{◌≡◌, ◌≢◌, ◌⊎◌, ◌==◌, ℕ, suc, ◌+◌, Bool, true, false, List, [], ◌∷◌, ◌++◌, length, Option, None, Some, IfSome, Result, Ok, Err, IfErr, IfOk, inl, inr, refl, ap, subst, sym, ◌∙◌, append_assoc, arith}
 use Rattle.std.specs.Io.BufRead.{drop_through, take_through}
 use Rattle.btree_range_map.specs.Holding.{box_items}
 use Rattle.btree_range_map.specs.KeySets.{HoldsKey}
 use Rattle.address_keys.specs.Addresses.{ipv4_at, ipv4_order, ipv6_at, ipv6_order}
 use Rattle.address_text.specs.Lines.{Says, SaysAddress}
-use Rattle.address_text.specs.Texts.{width}
 use Rattle.address_text.specs.declared.family.Family.{Family}
 use Rattle.address_text.specs.declared.family.Family.TheVariants.{V4, V6}
 use Rattle.address_text.specs.declared.line.Line.{Line}
@@ -13,7 +12,7 @@ use Rattle.address_lists.specs.Files.{AreBlank, IsFile, IsFileReason, IsFirstLin
 use Rattle.address_lists.specs.Json.{IsDocument, IsJsonReason}
 use Rattle.address_lists.specs.Lists.{AreGood, Has, HasJust, IsListed, SaysNothingKnown}
 use Rattle.address_lists.specs.Lists.AreGood.{Ended, Other, Said}
-use Rattle.address_lists.specs.Reading.{HasFault, HasFaultFrom, IsBad, IsBadLine, IsTakenIn}
+use Rattle.address_lists.specs.Reading.{HasFaultFrom, IsBad, IsBadLine, IsTakenIn}
 use Rattle.address_lists.specs.declared.addresses.Addresses.{Addresses}
 use Rattle.address_lists.specs.declared.file.Start.{Start}
 use Rattle.address_lists.specs.declared.read.BadLines.{BadLines}

@@ -1,5 +1,5 @@
 -- Ranges of a set in JSON, one after the other: whether one begins above its end.
-use Rattle.std.proofs.Common.{◌≡◌, ℕ, ◌+◌, ◌<◌, Bool, true, false, List, [], ◌∷◌, ◌++◌, length, take, map, Option, None, Some, get_or, ap, refl, sym, subst, ◌∙◌, arith}
+use Rattle.std.proofs.Common.{◌≡◌, ℕ, ◌+◌, ◌<◌, List, [], ◌∷◌, ◌++◌, length, take, map, Option, None, Some, get_or, ap, refl, sym, subst, ◌∙◌, arith}
 use Rattle.std.proofs.lemmas.List.{get_or-map, length-map, map_more, take-map, take_all}
 use Rattle.std.specs.Prelude.{MatchOption, option_map}
 use Rattle.std.specs.List.{AllByRecursion, HoldsAt}
@@ -26,13 +26,6 @@ pub elements_are : (d : Data) (values : List Value) → Some (items_view values)
     → elements_of d ≡ Some (map view values)
 elements_are d values is =
     elements_as d ∙ ap (option_map list_of) (sym is) ∙ ap Some (list_items (map view values))
-
-some_apart : (ds : List Data) → ¬ (None ≡ Some ds)
-some_apart ds same = cc
-
-pub no_elements : (d : Data) (ds : List Data) → None ≡ as_array d → ¬ (elements_of d ≡ Some ds)
-no_elements d ds none is =
-    some_apart ds (sym (elements_as d ∙ ap (option_map list_of) (sym none)) ∙ is)
 
 some_same : {X : Type 0} (x y : X) → Some x ≡ Some y → x ≡ y
 some_same x y same = cc

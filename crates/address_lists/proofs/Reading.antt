@@ -1,5 +1,5 @@
 -- How far a list is read.
-use Rattle.std.proofs.Common.{◌≡◌, ◌≢◌, ℕ, suc, ◌+◌, ◌<◌, ◌≤◌, ◌^◌, ◌↔◌, ◌⊎◌, Bool, List, [], ◌∷◌, ◌++◌, length, Option, None, Some, IfSome, inl, inr, ap, refl, sym, subst, ◌∙◌, append_assoc, length-append, arith}
+use Rattle.std.proofs.Common.{◌≡◌, ◌≢◌, ℕ, suc, ◌+◌, ◌<◌, ◌^◌, ◌↔◌, ◌⊎◌, Bool, List, [], ◌∷◌, ◌++◌, length, Option, None, Some, IfSome, inl, inr, refl, sym, subst, ◌∙◌, append_assoc, length-append, arith}
 use Rattle.std.proofs.lemmas.List.{append-nil}
 use Rattle.std.specs.Io.BufRead.{drop_through, take_through}
 use Rattle.address_text.specs.Lines.{Says, SaysAddress}
@@ -177,16 +177,6 @@ module _ (strict : Bool) (first : ℕ) where
   bad_found None later text seen number error same read bad = tt
   bad_found (Some bytes) later text seen number error same (some, later_is, is) bad =
       bad_line bytes seen number error some (same ∙ is) bad
-
-  -- a line that cannot be read
-  pub other_bad : (left : Option (List ℕ)) (number : ℕ) (error : ListError)
-      → (error ≡ Unread) ⊎ (error ≡ Memory)
-      → IfSome left (λ bytes. IsBad strict bytes number error)
-  other_bad None number error other = tt
-  other_bad (Some bytes) number error (inl unread) =
-      subst (IsBad strict bytes number) (sym unread) tt
-  other_bad (Some bytes) number error (inr memory) =
-      subst (IsBad strict bytes number) (sym memory) tt
 
   -- all lines before a bad one were good
   pub fault_read : (input left : Option (List ℕ)) (number others : ℕ) (old : Addresses)

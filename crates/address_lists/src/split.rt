@@ -68,7 +68,6 @@ fn write_split<W: Write>(
 }
 
 /// The least length that serves, after one more is looked at.
-#[tactic(auto, using(crate::proofs::Serving::passes_by))]
 fn lesser(least: Option<u8>, length: u8, family: Family, prefix_length: u8) -> Option<u8>
     ensures { (lengths : List ℕ) → IsLeastServing lengths family prefix_length least
         → IsLeastServing (lengths ++ length ∷ []) family prefix_length result }

@@ -1,6 +1,6 @@
 use Rattle.std.proofs.Common.{Ok, ap}
 use Rattle.std.proofs.lemmas.Result.{err_from_is_err_and}
-use Rattle.address_lists.proofs.Reading.{bad_found, other_bad}
+use Rattle.address_lists.proofs.Reading.{bad_found}
 use Rattle.address_lists.proofs.read.read_line.Goals as goal
 
 pub returns-in_err-line-clause-bad : goal.returns-in_err-line-clause-bad

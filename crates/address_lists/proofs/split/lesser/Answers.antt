@@ -1,7 +1,10 @@
 use Rattle.std.proofs.Common.{◌≡◌, None, Some, arith, rules, subst}
 use Rattle.address_lists.specs.Split.{IsLeastServing}
-use Rattle.address_lists.proofs.Serving.{is_first, is_lesser, stays_least}
+use Rattle.address_lists.proofs.Serving.{is_first, is_lesser, passes_by, stays_least}
 use Rattle.address_lists.proofs.split.lesser.Goals as goal
+
+pub returns-then-length-prefix_length : goal.returns-then-length-prefix_length
+returns-then-length-prefix_length c = grind (arith, passes_by)
 
 pub returns-in-Some : goal.returns-in-Some
 returns-in-Some c = λ lengths so_far.
