@@ -1,5 +1,5 @@
 mod Found
 mod Pieces
-mod Read
+mod ReadLines
 mod Shortest
 mod Told

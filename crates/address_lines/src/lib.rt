@@ -7,7 +7,7 @@
 //! - the lines that hold one, and how they are written: `src/grep.rt`, `specs/Found.antt`,
 //!   `proofs/Found.antt`
 //! - lines that are addresses, looked up: `src/sought.rt`, `specs/Sought.antt`,
-//!   `proofs/Told.antt`; read: `src/read.rt`, `proofs/Read.antt`
+//!   `proofs/Told.antt`; read: `src/read.rt`, `proofs/ReadLines.antt`
 #![tactic(auto)]
 
 pub mod grep;

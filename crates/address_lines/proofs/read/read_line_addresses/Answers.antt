@@ -1,6 +1,6 @@
 use Rattle.std.proofs.Common.{◌≡◌, ap, Ok, subst, sym, arith, ℕ, List, [], Some}
 use Rattle.std.proofs.lemmas.Option.{IfSome_then}
-use Rattle.address_lines.proofs.Read.{IsLineRead, all_read, halted, line_read, line_unread, none_read}
+use Rattle.address_lines.proofs.ReadLines.{IsLineRead, all_read, halted, line_read, line_unread, none_read}
 use Rattle.address_lines.proofs.read.read_line_addresses.Goals as goal
 
 pub loop-number-init : goal.loop-number-init

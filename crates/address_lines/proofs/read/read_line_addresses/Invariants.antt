@@ -1,5 +1,5 @@
 use Rattle.std.specs.Prelude.{IfSome}
-use Rattle.address_lines.proofs.Read.{IsReadTo}
+use Rattle.address_lines.proofs.ReadLines.{IsReadTo}
 use Rattle.address_lines.proofs.read.read_line_addresses.Given as goal
 
 abbrev pub invariant-loop-number : goal.invariant-loop-number

@@ -5,7 +5,7 @@ use Rattle.std.specs.Io.BufRead.{drop_through, take_through}
 use Rattle.std.specs.declared.net.ip_addr.IpAddr.{IpAddr}
 use Rattle.address_lists.specs.declared.read.ListError.{ListError}
 use Rattle.address_lists.specs.declared.read.ListError.TheVariants.{Memory, Unread}
-use Rattle.address_lines.specs.Sought.{AreSought, IsAddedOf, IsAddressLine, IsBlank, IsNoAddress, IsUnreadAt, IsUntold}
+use Rattle.address_lines.specs.Sought.{AreSought, IsAddedOf, IsAddressLine, IsBlank, IsNoAddress, IsUnreadAt}
 use Rattle.address_lines.specs.Sought.AreSought.{Address, Blank, Ended}
 
 -- the lines of the input before the one of this number are these addresses
