@@ -3,18 +3,17 @@ use Rattle.std.proofs.Common.{◌≡◌, ℕ, Bool, false, ◌||◌, List, [], �
 use Rattle.std.specs.declared.ops.Bound.{Bound}
 use Rattle.std.specs.declared.ops.Bound.TheVariants.{Included, Excluded, Unbounded}
 use Rattle.serde_json.specs.Data.{Data}
-use Rattle.serde_json.specs.Read.{read}
 use Rattle.serde_json.specs.View.{view}
 use Rattle.serde_json.specs.Written.{has_float}
 use Rattle.serde_json.specs.declared.value.Value.{Value}
 use Rattle.btree_range_map.specs.AnyRange.{AnyRange}
 use Rattle.btree_range_map.specs.Names.{range_inclusive}
 use Rattle.btree_range_map.specs.Shapes.{bound_shape, range_shape}
-use Rattle.address_keys.specs.Addresses.{ipv4_at, ipv6_at}
-use Rattle.address_keys.specs.Json.{ipv4_shape, ipv6_shape, reads_ipv4, reads_ipv6}
+use Rattle.address_keys.specs.Addresses.{ipv4_at, ipv4_number, ipv6_at, ipv6_number}
+use Rattle.address_keys.specs.Json.{IsIpv4Read, IsIpv6Read, ipv4_shape, ipv6_shape, reads_ipv4, reads_ipv6}
 use Rattle.address_text.specs.declared.family.Family.{Family}
 use Rattle.address_text.specs.declared.family.Family.TheVariants.{V4, V6}
-use Rattle.address_lists.specs.Json.{IsListShape, IsMemberReason, IsSetReason, IsSetShape, IsValueReason, member_of, runs_shape, span_shape}
+use Rattle.address_lists.specs.Json.{IsListShape, IsMemberReason, IsSetShape, IsValueReason, member_of, runs_shape, span_shape}
 use Rattle.address_lists.specs.declared.addresses.Addresses.{Addresses}
 use Rattle.address_lists.specs.declared.read.ListError.{ListError}
 
@@ -62,22 +61,32 @@ if_ok_as (Ok x) P Q follows held = follows x held
 if_ok_as (Err e) P Q follows held = tt
 
 -- why the set of a family is not read
-pub v4_unread : (d set : Data) (e : ListError) → member_of V4 d ≡ Some set
-    → IsSetReason V4 reads_ipv4 set e → IsValueReason d e
-v4_unread d set e is (inl memory) = subst (IsValueReason d) (sym memory) tt
-v4_unread d set e is (inr (fault, same, found)) = grind arith
+v4_unread : (d set : Data) (e : ListError) → member_of V4 d ≡ Some set
+    → IsMemberReason V4 IsIpv4Read ipv4_number reads_ipv4 (Some set) e → IsValueReason d e
+v4_unread d set e is (inl (inl memory)) = subst (IsValueReason d) (sym memory) tt
+v4_unread d set e is (inl (inr (fault, same, found))) =
+    subst (IsValueReason d) (sym same) (set, is, found)
+v4_unread d set e is (inr (inl memory)) = subst (IsValueReason d) (sym memory) tt
+v4_unread d set e is (inr (inr (place, same, found))) =
+    subst (IsValueReason d) (sym same) (set, is, found)
 
-pub v6_unread : (d set : Data) (e : ListError) → member_of V6 d ≡ Some set
-    → IsSetReason V6 reads_ipv6 set e → IsValueReason d e
-v6_unread d set e is (inl memory) = subst (IsValueReason d) (sym memory) tt
-v6_unread d set e is (inr (fault, same, found)) = grind arith
+v6_unread : (d set : Data) (e : ListError) → member_of V6 d ≡ Some set
+    → IsMemberReason V6 IsIpv6Read ipv6_number reads_ipv6 (Some set) e → IsValueReason d e
+v6_unread d set e is (inl (inl memory)) = subst (IsValueReason d) (sym memory) tt
+v6_unread d set e is (inl (inr (fault, same, found))) =
+    subst (IsValueReason d) (sym same) (set, is, found)
+v6_unread d set e is (inr (inl memory)) = subst (IsValueReason d) (sym memory) tt
+v6_unread d set e is (inr (inr (place, same, found))) =
+    subst (IsValueReason d) (sym same) (set, is, found)
 
 pub v4_member_unread : (d : Data) (member : Option Data) (e : ListError)
-    → member ≡ member_of V4 d → IsMemberReason V4 reads_ipv4 member e → IsValueReason d e
+    → member ≡ member_of V4 d
+    → IsMemberReason V4 IsIpv4Read ipv4_number reads_ipv4 member e → IsValueReason d e
 v4_member_unread d None e same why = absurd why
 v4_member_unread d (Some set) e same why = v4_unread d set e (sym same) why
 
 pub v6_member_unread : (d : Data) (member : Option Data) (e : ListError)
-    → member ≡ member_of V6 d → IsMemberReason V6 reads_ipv6 member e → IsValueReason d e
+    → member ≡ member_of V6 d
+    → IsMemberReason V6 IsIpv6Read ipv6_number reads_ipv6 member e → IsValueReason d e
 v6_member_unread d None e same why = absurd why
 v6_member_unread d (Some set) e same why = v6_unread d set e (sym same) why

@@ -1,9 +1,12 @@
 -- Lemmas.
+mod Blanks
 mod Documents
 mod Files
 mod Lines
 mod Lookups
+mod Ordered
 mod Reading
 mod Relations
 mod Series
+mod Serving
 mod Undivided

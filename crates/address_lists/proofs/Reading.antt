@@ -1,22 +1,20 @@
 -- How far a list is read.
-use Rattle.std.proofs.Common.{◌≡◌, ◌≢◌, ℕ, suc, ◌+◌, ◌<◌, ◌≤◌, ◌^◌, ◌↔◌, ◌⊎◌, Bool, List, [], ◌∷◌, ◌++◌, length, Option, None, Some, IfSome, inl, inr, ap, refl, sym, subst, ◌∙◌, append_assoc, length-append, arith}
+use Rattle.std.proofs.Common.{◌≡◌, ◌≢◌, ℕ, suc, ◌+◌, ◌<◌, ◌^◌, ◌↔◌, ◌⊎◌, Bool, List, [], ◌∷◌, ◌++◌, length, Option, None, Some, IfSome, inl, inr, refl, sym, subst, ◌∙◌, append_assoc, length-append, arith}
 use Rattle.std.proofs.lemmas.List.{append-nil}
 use Rattle.std.specs.Io.BufRead.{drop_through, take_through}
 use Rattle.address_text.specs.Lines.{Says, SaysAddress}
 use Rattle.address_text.specs.Texts.{width}
-use Rattle.address_text.specs.Faults.{IsFault}
 use Rattle.address_text.specs.declared.family.Family.{Family}
-use Rattle.address_text.specs.declared.fault.Expected.{Expected}
 use Rattle.address_text.specs.declared.line.Line.{Line}
 use Rattle.address_lists.proofs.Lines.{any_append}
 use Rattle.address_lists.specs.Lists.{AreGood, AreSaid, Has, HasJust, IsListed, SaysNothingKnown}
 use Rattle.address_lists.specs.Lists.AreGood.{Ended, Other, Said}
-use Rattle.address_lists.specs.Reading.{HasFault, IsBad, IsFoundAt, IsNext}
+use Rattle.address_lists.specs.Reading.{HasFaultFrom, IsBad, IsBadLine, IsNext}
 use Rattle.address_lists.specs.declared.addresses.Addresses.{Addresses}
 use Rattle.address_lists.specs.declared.read.BadLines.{BadLines}
 use Rattle.address_lists.specs.declared.read.BadLines.TheVariants.{Refused, Skipped}
 use Rattle.address_lists.specs.declared.read.ListError.{ListError}
-use Rattle.address_lists.specs.declared.read.ListError.TheVariants.{BadLine, Memory, Unread}
+use Rattle.address_lists.specs.declared.read.ListError.TheVariants.{BadLine, Json, Memory, Unread}
 
 -- what the list had, and what the lines say
 abbrev pub HasRead : Addresses → Addresses → List Line → Type 0
@@ -37,14 +35,14 @@ read_more : (old : Addresses) (Before After : Family → ℕ → Type 0) (lines 
     → AreRead old After (lines ++ line ∷ [])
 read_more old Before After lines line read taken family n h = grind (arith, any_append)
 
-module _ (strict : Bool) where
-  -- the lines of the input before the one of this number are read
+module _ (strict : Bool) (first : ℕ) where
+  -- the lines of the input before the one of this number are read, the first of which has this one
   pub record IsReadTo (input : List ℕ) (left : Option (List ℕ)) (number others : ℕ)
       (old : Addresses) (IsRead : Family → ℕ → Type 0) : Type 0 where
     pub remaining : List ℕ
     pub left_is : left ≡ Some remaining
     pub lines : List Line
-    pub count : number ≡ length lines + others + 1
+    pub count : number ≡ length lines + others + first
     pub goes_on : (more : List Line) (later : ℕ) (rest : List ℕ)
         → AreGood strict remaining more later rest
         → AreGood strict input (lines ++ more) (others + later) rest
@@ -52,7 +50,7 @@ module _ (strict : Bool) where
 
   pub read_none : (input : Option (List ℕ)) (old : Addresses) (IsRead : Family → ℕ → Type 0)
       → ((family : Family) (n : ℕ) → IsRead family n ↔ Has old family n)
-      → IfSome input (λ bytes. IsReadTo bytes input 1 0 old IsRead)
+      → IfSome input (λ bytes. IsReadTo bytes input first 0 old IsRead)
   read_none None old IsRead same = tt
   read_none (Some bytes) old IsRead same = grind arith
 
@@ -150,10 +148,10 @@ module _ (strict : Bool) where
   fault_at : (bytes : List ℕ) (left : Option (List ℕ)) (number : ℕ) (old : Addresses)
       (IsRead : Family → ℕ → Type 0) (error : ListError)
       → (read : IsReadTo bytes left number 0 old IsRead)
-      → IsBad strict read.remaining number error → HasFault strict bytes error
+      → IsBad strict read.remaining number error → HasFaultFrom strict first bytes error
   fault_at bytes left number old IsRead error read bad =
       let count = read.count in
-      let place : number ≡ length read.lines + 1 = omega (arith, count) in (
+      let place : number ≡ length read.lines + first = omega (arith, count) in (
         read.lines,
         read.remaining,
         subst (λ all. AreSaid strict bytes all read.remaining) (append-nil read.lines)
@@ -161,55 +159,31 @@ module _ (strict : Bool) where
         subst (λ k. IsBad strict read.remaining k error) place bad,
       )
 
-  bad_line : (bytes text seen again found : List ℕ) (number column : ℕ) (expected : Expected)
-      → bytes ≢ [] → text ≡ take_through 10 bytes → seen ≡ text → again ≡ text
-      → SaysNothingKnown strict seen → 1 ≤ column → column ≤ length again + 1
-      → IsFault again column expected → IsFoundAt again column found
-      → IsBad strict bytes number (BadLine number column expected found)
-  bad_line bytes text seen again found number column expected some is one other nothing first last
-      wrong stands =
-      let last_line : again ≡ take_through 10 bytes = other ∙ is in
-      let seen_line : seen ≡ take_through 10 bytes = one ∙ is in (
-        refl,
-        first,
-        subst (λ l. column ≤ length l + 1) last_line last,
-        subst (λ l. IsFault l column expected) last_line wrong,
-        subst (λ l. IsFoundAt l column found) last_line stands,
-        some,
-        subst (SaysNothingKnown strict) seen_line nothing,
-      )
+  pub bad_line : (bytes text : List ℕ) (number : ℕ) (error : ListError) → bytes ≢ []
+      → text ≡ take_through 10 bytes → IsBadLine strict text number error
+      → IsBad strict bytes number error
+  bad_line bytes text number (BadLine line column expected found) some is bad =
+      (some, subst (λ t. IsBadLine strict t number (BadLine line column expected found)) is bad)
+  bad_line bytes text number Unread some is bad = absurd bad
+  bad_line bytes text number Memory some is bad = absurd bad
+  bad_line bytes text number (Json fault) some is bad = absurd bad
 
   -- the line that is read says nothing that is known
-  pub bad_found : (left later : Option (List ℕ)) (text seen again found : List ℕ)
-      (number column : ℕ) (expected : Expected) → seen ≡ text → again ≡ text
+  pub bad_found : (left later : Option (List ℕ)) (text seen : List ℕ) (number : ℕ)
+      (error : ListError) → seen ≡ text
       → IfSome left (λ bytes. (bytes ≢ []) × (later ≡ Some (drop_through 10 bytes))
       × (text ≡ take_through 10 bytes))
-      → SaysNothingKnown strict seen → 1 ≤ column → column ≤ length again + 1
-      → IsFault again column expected → IsFoundAt again column found
-      → IfSome left (λ bytes. IsBad strict bytes number (BadLine number column expected found))
-  bad_found None later text seen again found number column expected one other read nothing first
-      last wrong stands = tt
-  bad_found (Some bytes) later text seen again found number column expected one other
-      (some, later_is, is) nothing first last wrong stands =
-      bad_line bytes text seen again found number column expected some is one other nothing first
-      last wrong stands
-
-  -- a line that cannot be read
-  pub other_bad : (left : Option (List ℕ)) (number : ℕ) (error : ListError)
-      → (error ≡ Unread) ⊎ (error ≡ Memory)
-      → IfSome left (λ bytes. IsBad strict bytes number error)
-  other_bad None number error other = tt
-  other_bad (Some bytes) number error (inl unread) =
-      subst (IsBad strict bytes number) (sym unread) tt
-  other_bad (Some bytes) number error (inr memory) =
-      subst (IsBad strict bytes number) (sym memory) tt
+      → IsBadLine strict seen number error → IfSome left (λ bytes. IsBad strict bytes number error)
+  bad_found None later text seen number error same read bad = tt
+  bad_found (Some bytes) later text seen number error same (some, later_is, is) bad =
+      bad_line bytes seen number error some (same ∙ is) bad
 
   -- all lines before a bad one were good
   pub fault_read : (input left : Option (List ℕ)) (number others : ℕ) (old : Addresses)
       (IsRead : Family → ℕ → Type 0) (error : ListError) → others ≡ 0
       → IfSome input (λ bytes. IsReadTo bytes left number others old IsRead)
       → IfSome left (λ bytes. IsBad strict bytes number error)
-      → IfSome input (λ bytes. HasFault strict bytes error)
+      → IfSome input (λ bytes. HasFaultFrom strict first bytes error)
   fault_read None left number others old IsRead error none read bad = tt
   fault_read (Some bytes) left number others old IsRead error none read bad =
       fault_at bytes left number old IsRead error
@@ -219,12 +193,12 @@ module _ (strict : Bool) where
 
   -- without a bad line, nothing is said of the input
   pub other_fault : (input : Option (List ℕ)) (error : ListError)
-      → (error ≡ Unread) ⊎ (error ≡ Memory) → IfSome input (λ bytes. HasFault strict bytes error)
+      → (error ≡ Unread) ⊎ (error ≡ Memory) → IfSome input (λ bytes. HasFaultFrom strict first bytes error)
   other_fault None error other = tt
   other_fault (Some bytes) error (inl unread) =
-      subst (λ e. HasFault strict bytes e) (sym unread) ([], bytes, Ended bytes, tt)
+      subst (λ e. HasFaultFrom strict first bytes e) (sym unread) ([], bytes, Ended bytes, tt)
   other_fault (Some bytes) error (inr memory) =
-      subst (λ e. HasFault strict bytes e) (sym memory) ([], bytes, Ended bytes, tt)
+      subst (λ e. HasFaultFrom strict first bytes e) (sym memory) ([], bytes, Ended bytes, tt)
 
   -- all lines before a bad one were good, where bad ones are not left out
   pub fault_found : (bad_lines : BadLines) (input left : Option (List ℕ)) (number others : ℕ)
@@ -233,7 +207,7 @@ module _ (strict : Bool) where
       → (bad_lines ≡ Skipped → (error ≡ Unread) ⊎ (error ≡ Memory))
       → IfSome input (λ bytes. IsReadTo bytes left number others old IsRead)
       → IfSome left (λ bytes. IsBad strict bytes number error)
-      → IfSome input (λ bytes. HasFault strict bytes error)
+      → IfSome input (λ bytes. HasFaultFrom strict first bytes error)
   fault_found Refused input left number others old IsRead error none unread read bad =
       fault_read input left number others old IsRead error (none refl) read bad
   fault_found Skipped input left number others old IsRead error none unread read bad =

@@ -1,19 +1,52 @@
--- What a file is read as: a list of lines, or JSON where it begins so.
-use Rattle.std.specs.Prelude.{◌≡◌, ◌⊎◌, ◌==◌, ℕ, Bool, true, false, List, [], ◌∷◌}
+-- What a file is read as: a list of lines, or JSON where it begins so behind white space.
+use Rattle.std.specs.Prelude.{◌≡◌, ◌≢◌, ◌⊎◌, ◌==◌, ◌||◌, ◌+◌, ℕ, Bool, true, false, not, List, [], ◌++◌, Option, None, Some, find}
+use Rattle.std.specs.Io.BufRead.{drop_through, take_through}
 use Rattle.address_text.specs.declared.line.Line.{Line}
 use Rattle.address_lists.specs.Json.{IsDocument, IsJsonReason}
 use Rattle.address_lists.specs.Lists.{AreGood, HasJust, IsListed}
 use Rattle.address_lists.specs.Reading.{HasFault}
 use Rattle.address_lists.specs.declared.addresses.Addresses.{Addresses}
+use Rattle.address_lists.specs.declared.file.Start.{Start}
 use Rattle.address_lists.specs.declared.read.BadLines.{BadLines}
 use Rattle.address_lists.specs.declared.read.BadLines.TheVariants.{Refused, Skipped}
 use Rattle.address_lists.specs.declared.read.ListError.{ListError}
 use Rattle.address_lists.specs.declared.read.ListError.TheVariants.{Memory, Unread}
 
--- the first byte is `{`
+-- what JSON takes for white space: a space, a tab, and what ends lines
+abbrev pub is_blank : ℕ → Bool
+is_blank byte = (byte == 32) || (byte == 9) || (byte == 10) || (byte == 13)
+
+-- the first byte that is something else
+abbrev pub mark : List ℕ → Option ℕ
+mark bytes = find (λ byte. not (is_blank byte)) bytes
+
+-- it is `{`
+abbrev pub opens_object : Option ℕ → Bool
+opens_object None = false
+opens_object (Some byte) = byte == 123
+
 abbrev pub is_json : List ℕ → Bool
-is_json [] = false
-is_json (byte ∷ bytes) = byte == 123
+is_json bytes = opens_object (mark bytes)
+
+-- these blank lines, of such a number, are the first of the input, and this is the rest of it
+pub data AreBlank : List ℕ → List ℕ → ℕ → List ℕ → Type 0 where
+  NoLine : (input : List ℕ) → AreBlank input [] 0 input
+  OneMore : (input blanks : List ℕ) (count : ℕ) (rest : List ℕ) → AreBlank input blanks count rest
+      → rest ≢ [] → mark (take_through 10 rest) ≡ None
+      → AreBlank input (blanks ++ take_through 10 rest) (count + 1) (drop_through 10 rest)
+
+-- the line is the first of the bytes, and these are left behind it
+abbrev pub IsFirstLine : List ℕ → List ℕ → Option (List ℕ) → Type 0
+IsFirstLine bytes line later =
+    (bytes ≢ []) × (line ≡ take_through 10 bytes) × (later ≡ Some (drop_through 10 bytes))
+
+-- the first line that is not blank, where there is one, and what is left behind it
+abbrev pub IsStart : List ℕ → Option Start → Option (List ℕ) → Type 0
+IsStart bytes None later =
+    (blanks : List ℕ) × (count : ℕ) × AreBlank bytes blanks count []
+IsStart bytes (Some start) later = (rest : List ℕ) × (count : ℕ)
+    × AreBlank bytes start.blanks.items count rest × (start.number ≡ count + 1)
+    × IsFirstLine rest start.line.items later × (mark start.line.items ≡ Some start.mark)
 
 module _ (strict : Bool) where
   -- what is read of JSON, and of lines; of these so many are left out: none where they are refused

@@ -1,10 +1,11 @@
 -- What is read next, and why a list is not read.
-use Rattle.std.specs.Prelude.{◌≡◌, ◌≢◌, ℕ, ◌+◌, ◌-◌, ◌≤◌, Bool, List, [], length, drop, take, Option, Some, IfSome}
+use Rattle.std.specs.Prelude.{◌≡◌, ◌≢◌, ℕ, ◌+◌, ◌-◌, ◌≤◌, ◌⊎◌, Bool, List, [], length, drop, take, Option, None, Some, IfSome}
 use Rattle.std.specs.Io.BufRead.{drop_through, take_through}
 use Rattle.address_text.specs.Faults.{IsFault}
-use Rattle.address_text.specs.Lines.{AreAddresses, Says, content}
+use Rattle.address_text.specs.Lines.{AreAddresses, Says, SaysAddress, content}
 use Rattle.address_text.specs.declared.line.Line.{Line}
-use Rattle.address_lists.specs.Lists.{AreSaid, SaysNothingKnown}
+use Rattle.address_lists.specs.Lists.{AreSaid, Has, HasJust, SaysNothingKnown}
+use Rattle.address_lists.specs.declared.addresses.Addresses.{Addresses}
 use Rattle.address_lists.specs.declared.read.Found.{Found}
 use Rattle.address_lists.specs.declared.read.Found.TheVariants.{Good, Other, End}
 use Rattle.address_lists.specs.declared.read.ListError.{ListError}
@@ -24,6 +25,18 @@ module _ (strict : Bool) where
   IsNext left later Fits = IfSome left (λ bytes. (bytes ≢ [])
       × (later ≡ Some (drop_through 10 bytes)) × Fits (take_through 10 bytes))
 
+  -- what a line says, or that it says nothing known
+  abbrev pub IsSaid : List ℕ → Option Line → Type 0
+  IsSaid text (Some line) = AreAddresses line × Says strict text line
+  IsSaid text None = SaysNothingKnown strict text
+
+  -- a line is taken in: what it says is added, or it says nothing known and is left out
+  abbrev pub IsTakenIn : List ℕ → Addresses → Addresses → ℕ → Type 0
+  IsTakenIn text old now others =
+      ((said : Line) × Says strict text said
+      × HasJust now (λ family n. Has old family n ⊎ SaysAddress family n said) × (others ≡ 0))
+      ⊎ (SaysNothingKnown strict text × HasJust now (Has old) × (others ≡ 1))
+
   -- what is read next, of the input before and after
   abbrev pub IsFound : Option (List ℕ) → Option (List ℕ) → Found → Type 0
   IsFound left later (Good line) =
@@ -31,20 +44,28 @@ module _ (strict : Bool) where
   IsFound left later Other = IsNext left later (SaysNothingKnown strict)
   IsFound left later End = IfSome left (λ bytes. bytes ≡ [])
 
-  -- a bad line is the first of the bytes, it says nothing that is known, this is its number, and
-  -- this was expected in the column where the part begins that is wrong, or at the line's end, and
-  -- that stands there
+  -- a line says nothing that is known, this is its number, and this was expected in the column
+  -- where the part begins that is wrong, or at the line's end, and that stands there
+  abbrev pub IsBadLine : List ℕ → ℕ → ListError → Type 0
+  IsBadLine text number (BadLine line column expected found) =
+      (line ≡ number) × (1 ≤ column) × (column ≤ length text + 1) × IsFault text column expected
+      × IsFoundAt text column found × SaysNothingKnown strict text
+  IsBadLine text number Unread = ⊥
+  IsBadLine text number Memory = ⊥
+  IsBadLine text number (Json fault) = ⊥
+
+  -- a bad line is the first of the bytes, and this is its number
   abbrev pub IsBad : List ℕ → ℕ → ListError → Type 0
-  IsBad bytes number (BadLine line column expected found) =
-      (line ≡ number) × (1 ≤ column) × (column ≤ length (take_through 10 bytes) + 1)
-      × IsFault (take_through 10 bytes) column expected
-      × IsFoundAt (take_through 10 bytes) column found
-      × (bytes ≢ []) × SaysNothingKnown strict (take_through 10 bytes)
+  IsBad bytes number (BadLine line column expected found) = (bytes ≢ [])
+      × IsBadLine (take_through 10 bytes) number (BadLine line column expected found)
   IsBad bytes number Unread = MayFail
   IsBad bytes number Memory = MayFail
   IsBad bytes number (Json fault) = ⊥
 
-  -- all lines before a bad one say something, and it is counted from 1
+  -- all lines before a bad one say something, and they are counted from this number
+  abbrev pub HasFaultFrom : ℕ → List ℕ → ListError → Type 0
+  HasFaultFrom first bytes error = (lines : List Line) × (rest : List ℕ)
+      × AreSaid strict bytes lines rest × IsBad rest (length lines + first) error
+
   abbrev pub HasFault : List ℕ → ListError → Type 0
-  HasFault bytes error = (lines : List Line) × (rest : List ℕ) × AreSaid strict bytes lines rest
-      × IsBad rest (length lines + 1) error
+  HasFault bytes error = HasFaultFrom 1 bytes error

@@ -1,6 +1,6 @@
 -- Prefixes that are printed as others of a greater length.
-use Rattle.std.specs.Prelude.{◌≡◌, ℕ, ◌-◌, ◌^◌, ◌≤◌, ◌<◌, ◌⊎◌, List, ◌++◌}
-use Rattle.std.specs.List.{AllByRecursion}
+use Rattle.std.specs.Prelude.{◌≡◌, ℕ, ◌-◌, ◌^◌, ◌≤◌, ◌<◌, ◌⊎◌, Option, None, Some, List, ◌++◌}
+use Rattle.std.specs.List.{AllByRecursion, Contains}
 use Rattle.btree_range_map.specs.AnyRange.{AnyRange}
 use Rattle.btree_range_map.specs.FreeRanges.{item_ranges}
 use Rattle.btree_range_map.specs.Holding.{box_items}
@@ -15,7 +15,26 @@ use Rattle.address_text.specs.declared.family.Family.TheVariants.{V4, V6}
 use Rattle.address_lists.specs.Series.{series}
 use Rattle.address_lists.specs.declared.addresses.Addresses.{Addresses}
 
--- a prefix of a length is shorter than another length, and addresses have so many bits
+-- one of the lengths is that of a prefix, or greater, and addresses have so many bits
+abbrev pub IsServing : List ℕ → Family → ℕ → ℕ → Type 0
+IsServing lengths family prefix_length length =
+    Contains lengths length × (prefix_length ≤ length) × (length ≤ width family)
+
+-- the least of such lengths, where there is one
+abbrev pub IsLeastServing : List ℕ → Family → ℕ → Option ℕ → Type 0
+IsLeastServing lengths family prefix_length None =
+    (other : ℕ) → ¬ IsServing lengths family prefix_length other
+IsLeastServing lengths family prefix_length (Some length) =
+    IsServing lengths family prefix_length length
+    × ((other : ℕ) → IsServing lengths family prefix_length other → length ≤ other)
+
+-- at this length a prefix is divided: at the least that serves, or at its own, so that it is whole
+abbrev pub IsSplitLength : List ℕ → Family → ℕ → ℕ → Type 0
+IsSplitLength lengths family prefix_length length =
+    IsLeastServing lengths family prefix_length (Some length)
+    ⊎ (IsLeastServing lengths family prefix_length None × (length ≡ prefix_length))
+
+-- a prefix of a length is shorter than another length that addresses have
 abbrev pub IsDivisible : Family → ℕ → ℕ → Type 0
 IsDivisible family length prefix_length = (prefix_length < length) × (length ≤ width family)
 
@@ -36,9 +55,10 @@ module _ (before after : List ℕ) where
       ⊎ ((¬ IsDivisible family length prefix_length)
       × (text ≡ prefix_line before after family network prefix_length))
 
-  module _ {A : Type 0} (family : Family) (number : A → ℕ) (length : ℕ) where
+  module _ {A : Type 0} (family : Family) (number : A → ℕ) (lengths : List ℕ) where
     abbrev pub IsSplit : Prefix A → List ℕ → Type 0
-    IsSplit prefix text = IsSplitText family length prefix.length (number prefix.network) text
+    IsSplit prefix text = (length : ℕ) × IsSplitLength lengths family prefix.length length
+        × IsSplitText family length prefix.length (number prefix.network) text
 
     -- the text is that of prefixes which have just the addresses of the ranges, ascending and as
     -- few as can be, each of them split
@@ -52,14 +72,14 @@ module _ (before after : List ℕ) where
       pub spelled : SpellsEach IsSplit prefixes text
 
   -- those of one family
-  abbrev pub IsFamilySplit : Family → ℕ → Addresses → List ℕ → Type 0
-  IsFamilySplit V4 length list text =
-      AreSplit V4 ipv4_number length ipv4_order 32 (item_ranges (box_items list.v4)) text
-  IsFamilySplit V6 length list text =
-      AreSplit V6 ipv6_number length ipv6_order 128 (item_ranges (box_items list.v6)) text
+  abbrev pub IsFamilySplit : Family → List ℕ → Addresses → List ℕ → Type 0
+  IsFamilySplit V4 lengths list text =
+      AreSplit V4 ipv4_number lengths ipv4_order 32 (item_ranges (box_items list.v4)) text
+  IsFamilySplit V6 lengths list text =
+      AreSplit V6 ipv6_number lengths ipv6_order 128 (item_ranges (box_items list.v6)) text
 
   -- those of IPv4, and then those of IPv6
-  abbrev pub IsPrintedSplit : ℕ → Addresses → List ℕ → Type 0
-  IsPrintedSplit length list text = (first : List ℕ) × (second : List ℕ)
-      × IsFamilySplit V4 length list first × IsFamilySplit V6 length list second
+  abbrev pub IsPrintedSplit : List ℕ → Addresses → List ℕ → Type 0
+  IsPrintedSplit lengths list text = (first : List ℕ) × (second : List ℕ)
+      × IsFamilySplit V4 lengths list first × IsFamilySplit V6 lengths list second
       × (text ≡ first ++ second)

@@ -1,6 +1,6 @@
 //! A list as JSON: an object with the set of its addresses of either family.
 
-ghost use Rattle.std.specs.Prelude.{◌≡◌, ◌≢◌, ◌<◌, ◌^◌, ℕ, List, Err, Some, IfErr, IfOk, IfSome, option_map, string_bytes};
+ghost use Rattle.std.specs.Prelude.{◌≡◌, ◌≢◌, ◌↔◌, ◌++◌, ◌<◌, ◌^◌, ℕ, List, Err, Some, IfErr, IfOk, IfSome, IsTrue, MatchOption, Ok, OnOk, false, map, option_map, string_bytes, true};
 ghost use Rattle.std.specs.List.{AllByRecursion};
 ghost use Rattle.serde_json.specs.Read.{read};
 ghost use Rattle.serde_json.specs.View.{view};
@@ -9,7 +9,7 @@ ghost use Rattle.btree_range_map.specs.Holding.{box_items};
 ghost use Rattle.btree_range_map.specs.KeySets.{HoldsKey};
 ghost use Rattle.btree_range_map.specs.Range.{ClonesAreEqual};
 ghost use Rattle.address_prefixes.specs.Runs.{AreRuns, IsSpan};
-ghost use Rattle.address_lists.specs.Json.{IsDocument, IsJsonReason, IsListRead, IsListShape, IsListText, IsMemberRead, IsMemberReason, IsSetReason, IsValueReason, list_shape, runs_shape, span_shape};
+ghost use Rattle.address_lists.specs.Json.{AreInOrder, IsDocument, IsFirstReversed, IsInOrder, IsJsonReason, IsListRead, IsListShape, IsListText, IsMemberRead, IsMemberReason, IsOrderReason, IsReversed, IsReversedValue, IsSetReason, IsValueReason, bound_key, list_shape, runs_shape, span_shape};
 ghost use Rattle.address_lists.specs.declared.read.ListError.TheVariants.{Unread};
 
 use crate::addresses::{Addresses, empty_set};
@@ -18,7 +18,7 @@ use crate::read::ListError;
 use address_sets::{Address, AddressSet, Ipv4, Ipv6, Runs, runs_of};
 use address_text::{Family, place_in};
 use btree_range_map::AnyRange;
-use btree_range_map::json::{Json, JsonError, range_to_json, set_from_json};
+use btree_range_map::json::{Json, JsonError, range_from_json, range_to_json, set_from_json};
 use line_program::read::LineRead;
 use serde_json::{Map, Value};
 use std::alloc::{AllocError, Global};
@@ -39,6 +39,8 @@ pub enum JsonFault {
     Members,
     /// The member of this family is no set of its addresses.
     Set(Family, JsonError),
+    /// A range in the set of this family begins above its end: the element of this index, from 0.
+    Reversed(Family, usize),
 }
 
 impl fmt::Display for JsonFault {
@@ -50,6 +52,12 @@ impl fmt::Display for JsonFault {
             JsonFault::Members => write!(f, "expected an object with a member IPv4 or IPv6"),
             JsonFault::Set(Family::V4, fault) => write!(f, "IPv4: {fault}"),
             JsonFault::Set(Family::V6, fault) => write!(f, "IPv6: {fault}"),
+            JsonFault::Reversed(Family::V4, place) => {
+                write!(f, "IPv4: element {place}: the range begins above its end")
+            }
+            JsonFault::Reversed(Family::V6, place) => {
+                write!(f, "IPv6: element {place}: the range begins above its end")
+            }
         }
     }
 }
@@ -128,8 +136,77 @@ pub fn list_to_text(alloc: Global, list: &Addresses) -> Result<String, AllocErro
     list_to_json(alloc, list)?.to_string(alloc)
 }
 
-/// The set of one family that a JSON value is.
-fn set_of<A: FamilyAddress + Json>(alloc: Global, value: &Value) -> Result<AddressSet<A>, ListError>
+/// The address at which a bound stands.
+fn bound_key<A: Copy>(bound: &Bound<A>) -> Option<A>
+    ensures { result ≡ bound_key bound.now }
+{
+    match bound {
+        Bound::Included(address) | Bound::Excluded(address) => Some(*address),
+        Bound::Unbounded => None,
+    }
+}
+
+/// Whether a range begins above its end.
+fn is_reversed<A: Address>(range: &AnyRange<A>) -> bool
+    ensures { IsTrue result ↔ IsReversed A.number range.now }
+{
+    match (bound_key(&range.start), bound_key(&range.end)) {
+        (Some(first), Some(last)) => last.number() < first.number(),
+        _ => false,
+    }
+}
+
+/// Whether a JSON value is a range that begins above its end.
+fn is_reversed_value<A: Address + Json>(alloc: Global, value: &Value) -> Result<bool, AllocError>
+    ensures reversed { result ≡ Ok true → IsReversedValue A.is_read A.number (view value.now) }
+    ensures in_order { result ≡ Ok false
+        → IsInOrder A.is_read A.number A.reads (view value.now) }
+{
+    match range_from_json::<A>(alloc, value) {
+        Ok(range) => Ok(is_reversed(&range)),
+        Err(JsonError::Memory) => Err(AllocError),
+        Err(_) => Ok(false),
+    }
+}
+
+/// The index of the first range that begins above its end.
+fn reversed_at<A: Address + Json>(
+    alloc: Global,
+    elements: &[Value],
+) -> Result<Option<usize>, AllocError>
+    ensures { IfOk result (λ found. MatchOption found
+        (AllByRecursion (IsInOrder A.is_read A.number A.reads) (map view elements.now))
+        (IsFirstReversed A.is_read A.number A.reads (map view elements.now))) }
+{
+    for (index, element) in elements.iter().enumerate() {
+        if is_reversed_value::<A>(alloc, element)? {
+            return Ok(Some(index));
+        }
+    }
+    Ok(None)
+}
+
+/// Refuses a set in which a range begins above its end.
+fn check_order<A: FamilyAddress + Json>(alloc: Global, value: &Value) -> Result<(), ListError>
+    ensures fine { OnOk result (AreInOrder A.is_read A.number A.reads (view value.now)) }
+    ensures fault { IfErr result
+        (IsOrderReason A.is_read A.number A.reads A.its_family (view value.now)) }
+{
+    let Some(elements) = value.as_array() else {
+        return Ok(());
+    };
+    match reversed_at::<A>(alloc, elements.as_slice()) {
+        Ok(None) => Ok(()),
+        Ok(Some(place)) => Err(ListError::Json(JsonFault::Reversed(A::family(), place))),
+        Err(_) => Err(ListError::Memory),
+    }
+}
+
+/// The set of one family that a JSON value is, whatever the order of a range's ends.
+fn any_set_of<A: FamilyAddress + Json>(
+    alloc: Global,
+    value: &Value,
+) -> Result<AddressSet<A>, ListError>
     requires { ClonesAreEqual A.is_clone A.eq }
     ensures read { IfOk result
         (λ set. IsSetRead A.is_read A.order (view value.now) (box_items set)) }
@@ -142,15 +219,28 @@ fn set_of<A: FamilyAddress + Json>(alloc: Global, value: &Value) -> Result<Addre
     }
 }
 
+/// The set of one family that a JSON value is.
+fn set_of<A: FamilyAddress + Json>(alloc: Global, value: &Value) -> Result<AddressSet<A>, ListError>
+    requires { ClonesAreEqual A.is_clone A.eq }
+    ensures read { IfOk result (λ set. IsMemberRead A.is_read A.number A.reads A.order
+        (Some (view value.now)) (box_items set)) }
+    ensures fault { IfErr result
+        (IsMemberReason A.its_family A.is_read A.number A.reads (Some (view value.now))) }
+{
+    let set = any_set_of(alloc, value)?;
+    check_order::<A>(alloc, value)?;
+    Ok(set)
+}
+
 /// The set of one family: of no member, no addresses.
 fn member_set<A: FamilyAddress + Json>(
     alloc: Global,
     member: Option<&Value>,
 ) -> Result<AddressSet<A>, ListError>
     requires { ClonesAreEqual A.is_clone A.eq }
-    ensures read { IfOk result (λ set. IsMemberRead A.is_read A.order
+    ensures read { IfOk result (λ set. IsMemberRead A.is_read A.number A.reads A.order
         (option_map (λ v. view v.now) member.entry) (box_items set)) }
-    ensures fault { IfErr result (IsMemberReason A.its_family A.reads
+    ensures fault { IfErr result (IsMemberReason A.its_family A.is_read A.number A.reads
         (option_map (λ v. view v.now) member.entry)) }
 {
     match member {
@@ -190,6 +280,25 @@ fn value_of(alloc: Global, text: &[u8]) -> Result<Value, ListError>
     }
 }
 
+/// Reads a list that is JSON, of which this text is read already, to its end.
+pub(crate) fn read_json_after<R: LineRead>(
+    alloc: Global,
+    mut text: Vec<u8>,
+    input: &mut R,
+) -> Result<Addresses, ListError>
+    ensures read { IfOk result (λ list. IfSome (R.remaining input.old)
+        (λ bytes. IsDocument (text.items ++ bytes) list)) }
+    ensures fault { IfErr result (λ error. IfSome (R.remaining input.old)
+        (λ bytes. IsJsonReason (text.items ++ bytes) error)) }
+    ensures unread { result ≡ Err Unread → R.fails }
+{
+    if let Err(error) = input.read_rest(&mut text) {
+        return Err(ListError::from(error));
+    }
+    let value = value_of(alloc, text.as_slice())?;
+    list_from_json(alloc, &value)
+}
+
 /// Reads a list that is JSON, to its end. The text and its value are held in memory.
 ///
 /// # Errors
@@ -203,10 +312,5 @@ pub fn read_json<R: LineRead>(alloc: Global, input: &mut R) -> Result<Addresses,
         (λ bytes. IsJsonReason bytes error)) }
     ensures unread { result ≡ Err Unread → R.fails }
 {
-    let mut text = Vec::new(alloc);
-    if let Err(error) = input.read_rest(&mut text) {
-        return Err(ListError::from(error));
-    }
-    let value = value_of(alloc, text.as_slice())?;
-    list_from_json(alloc, &value)
+    read_json_after(alloc, Vec::new(alloc), input)
 }

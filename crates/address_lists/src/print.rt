@@ -61,7 +61,7 @@ pub fn write_prefixes_around<W: Write>(
     ensures { OnOk result (Writes (W.contents out.old) (W.contents out.new)
         (IsPrinted around.entry.before.now around.entry.after.now list.now)) }
 {
-    write_split_prefixes(list, 0, around, out)
+    write_split_prefixes(list, &[], around, out)
 }
 
 /// Writes the prefixes of a list, those of IPv4 first, each on a line. Allocates nothing.

@@ -1,13 +1,13 @@
 //! Reading a list.
 
-ghost use Rattle.std.specs.Prelude.{◌⊎◌, ◌↔◌, ◌≡◌, ◌≢◌, ◌<◌, ◌^◌, ℕ, List, [], Err, Ok, IfErr, IfOk, IfSome, OnOk};
+ghost use Rattle.std.specs.Prelude.{◌⊎◌, ◌↔◌, ◌≡◌, ◌≢◌, ◌+◌, ◌≤◌, ◌<◌, ◌^◌, ℕ, List, [], None, Err, Ok, IfErr, IfOk, IfSome, IsOk, OnOk};
 ghost use Rattle.address_text.specs.Lines.{AreAddresses};
 ghost use Rattle.address_text.specs.Texts.{width};
 ghost use Rattle.address_text.specs.declared.family.Family.{Family};
 ghost use Rattle.address_text.specs.declared.line.Line.{Line};
 ghost use Rattle.address_lists.specs.Lists.{AreGood, Has, HasJust, IsListed};
 ghost use Rattle.address_lists.specs.Waiting.{HasSoFar};
-ghost use Rattle.address_lists.specs.Reading.{HasFault, IsBad, IsFound};
+ghost use Rattle.address_lists.specs.Reading.{HasFault, HasFaultFrom, IsBad, IsBadLine, IsFound, IsSaid};
 ghost use Rattle.address_lists.specs.declared.read.BadLines.TheVariants.{Refused, Skipped};
 ghost use Rattle.address_lists.specs.declared.read.Found.TheVariants.{Other};
 ghost use Rattle.address_lists.specs.declared.read.ListError.TheVariants.{Memory, Unread};
@@ -90,6 +90,35 @@ enum Found {
     End,
 }
 
+/// What a line of this number says; `None` where that is nothing known, and it is left out.
+pub(crate) fn said_by(
+    line: &[u8],
+    number: u64,
+    strict: bool,
+    bad_lines: BadLines,
+) -> Result<Option<Line>, ListError>
+    ensures said { IfOk result (IsSaid strict line.now) }
+    ensures refused { bad_lines ≡ Refused → result ≢ Ok None }
+    ensures bad { IfErr result (IsBadLine strict line.now number) }
+    ensures skipped { bad_lines ≡ Skipped → IsOk result }
+{
+    if let Some(said) = line_of(line, strict) {
+        return Ok(Some(said));
+    }
+    match bad_lines {
+        BadLines::Refused => {
+            let fault = fault_of(line);
+            Err(ListError::BadLine {
+                line: number,
+                column: fault.column,
+                expected: fault.expected,
+                found: excerpt_at(line, fault.column),
+            })
+        }
+        BadLines::Skipped => Ok(None),
+    }
+}
+
 /// Reads the next line, of this number.
 fn read_line<R: LineRead>(
     buffer: &mut Vec<u8>,
@@ -111,34 +140,24 @@ fn read_line<R: LineRead>(
         Ok(false) => return Ok(Found::End),
         Err(error) => return Err(ListError::from(error)),
     }
-    if let Some(line) = line_of(buffer.as_slice(), strict) {
-        return Ok(Found::Good(line));
-    }
-    match bad_lines {
-        BadLines::Refused => {
-            let line = buffer.as_slice();
-            let fault = fault_of(line);
-            let found = excerpt_at(line, fault.column);
-            Err(ListError::BadLine {
-                line: number,
-                column: fault.column,
-                expected: fault.expected,
-                found,
-            })
-        }
-        BadLines::Skipped => Ok(Found::Other),
+    match said_by(buffer.as_slice(), number, strict, bad_lines)? {
+        Some(line) => Ok(Found::Good(line)),
+        None => Ok(Found::Other),
     }
 }
 
-/// Reads all lines: what they say is added, or waits. Returns how many lines were left out.
+/// Reads all lines, of which the first has this number: what they say is added, or waits. Returns
+/// how many lines were left out.
 fn read_all<R: LineRead>(
     buffer: &mut Vec<u8>,
     waiting: &mut Waiting,
     list: &mut Addresses,
     input: &mut R,
+    first: u64,
     strict: bool,
     bad_lines: BadLines,
 ) -> Result<u64, ListError>
+    requires counted { 1 ≤ first }
     requires last { AreAddresses waiting.old.last }
     requires none { (family : Family) (n : ℕ) → HasSoFar list.old waiting.old family n
         ↔ Has list.old family n }
@@ -149,14 +168,15 @@ fn read_all<R: LineRead>(
         ↔ (Has list.old family n ⊎ IsListed family n lines)))) }
     ensures last { OnOk result (AreAddresses waiting.new.last) }
     ensures all { bad_lines ≡ Refused → IfOk result (λ others. others ≡ 0) }
-    ensures bad { IfErr result
-        (λ error. IfSome (R.remaining input.old) (λ bytes. HasFault strict bytes error)) }
+    ensures few { IfOk result (λ others. others + 1 < 2 ^ 64) }
+    ensures bad { IfErr result (λ error. IfSome (R.remaining input.old)
+        (λ bytes. HasFaultFrom strict first bytes error)) }
     ensures skipped { bad_lines ≡ Skipped
         → IfErr result (λ error. (error ≡ Unread) ⊎ (error ≡ Memory)) }
     ensures unread { result ≡ Err Unread → R.fails }
 {
     let mut others = 0;
-    for number in 1..u64::MAX {
+    for number in first..u64::MAX {
         match read_line(buffer, input, number, strict, bad_lines)? {
             Found::Good(line) => waiting.take(list, line)?,
             Found::Other => others += 1,
@@ -164,6 +184,43 @@ fn read_all<R: LineRead>(
         }
     }
     Err(ListError::Memory)
+}
+
+/// Adds the addresses of the lines that are left, of which the first has this number. Returns how
+/// many were left out.
+pub(crate) fn read_from<R: LineRead>(
+    alloc: Global,
+    list: &mut Addresses,
+    input: &mut R,
+    first: u64,
+    strict: bool,
+    bad_lines: BadLines,
+) -> Result<u64, ListError>
+    requires { 1 ≤ first }
+    ensures read { IfOk result (λ others. IfSome (R.remaining input.old) (λ bytes.
+        (lines : List Line) × AreGood strict bytes lines others []
+        × HasJust list.new (λ family n. Has list.old family n ⊎ IsListed family n lines))) }
+    ensures all { bad_lines ≡ Refused → IfOk result (λ others. others ≡ 0) }
+    ensures few { IfOk result (λ others. others + 1 < 2 ^ 64) }
+    ensures bad { IfErr result (λ error. IfSome (R.remaining input.old)
+        (λ bytes. HasFaultFrom strict first bytes error)) }
+    ensures skipped { bad_lines ≡ Skipped
+        → IfErr result (λ error. (error ≡ Unread) ⊎ (error ≡ Memory)) }
+    ensures unread { result ≡ Err Unread → R.fails }
+{
+    let mut buffer = Vec::new(alloc);
+    let mut waiting = Waiting::new(alloc);
+    let others = read_all(
+        &mut buffer,
+        &mut waiting,
+        list,
+        input,
+        first,
+        strict,
+        bad_lines,
+    )?;
+    waiting.add_all(list)?;
+    Ok(others)
 }
 
 /// Adds the addresses of a list, which is read to its end. Returns how many lines were left out.
@@ -199,9 +256,5 @@ pub fn read_list<R: LineRead>(
         → IfErr result (λ error. (error ≡ Unread) ⊎ (error ≡ Memory)) }
     ensures unread { result ≡ Err Unread → R.fails }
 {
-    let mut buffer = Vec::new(alloc);
-    let mut waiting = Waiting::new(alloc);
-    let others = read_all(&mut buffer, &mut waiting, list, input, strict, bad_lines)?;
-    waiting.add_all(list)?;
-    Ok(others)
+    read_from(alloc, list, input, 1, strict, bad_lines)
 }

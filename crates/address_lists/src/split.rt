@@ -1,13 +1,13 @@
 //! The prefixes of a list, the short ones split into longer ones.
 
-ghost use Rattle.std.specs.Prelude.{◌≡◌, ◌+◌, ◌-◌, ◌≤◌, ◌<◌, ◌^◌, OnOk};
+ghost use Rattle.std.specs.Prelude.{◌≡◌, ◌+◌, ◌-◌, ◌≤◌, ◌<◌, ◌^◌, ℕ, List, [], ◌∷◌, ◌++◌, OnOk};
 ghost use Rattle.std.specs.List.{AllByRecursion};
 ghost use Rattle.btree_range_map.specs.FreeRanges.{item_ranges};
 ghost use Rattle.btree_range_map.specs.Holding.{box_items};
 ghost use Rattle.line_program.specs.Listing.{SpellsEach, Writes};
 ghost use Rattle.address_prefixes.specs.Prefixes.{IsPrefix};
 ghost use Rattle.address_text.specs.Texts.{width};
-ghost use Rattle.address_lists.specs.Split.{AreSplit, IsFamilySplit, IsPrintedSplit, IsSplit, IsSplitText, part_lines};
+ghost use Rattle.address_lists.specs.Split.{AreSplit, IsFamilySplit, IsPrintedSplit, IsLeastServing, IsSplit, IsSplitLength, IsSplitText, part_lines};
 
 use crate::addresses::Addresses;
 use crate::print::FamilyAddress;
@@ -67,93 +67,123 @@ fn write_split<W: Write>(
     }
 }
 
+/// The least length that serves, after one more is looked at.
+fn lesser(least: Option<u8>, length: u8, family: Family, prefix_length: u8) -> Option<u8>
+    ensures { (lengths : List ℕ) → IsLeastServing lengths family prefix_length least
+        → IsLeastServing (lengths ++ length ∷ []) family prefix_length result }
+{
+    if length < prefix_length || family.width() < length {
+        return least;
+    }
+    match least {
+        Some(found) if found <= length => least,
+        _ => Some(length),
+    }
+}
+
+/// The least of the lengths that serves a prefix of a length, where there is one.
+fn least_serving(lengths: &[u8], family: Family, prefix_length: u8) -> Option<u8>
+    ensures { IsLeastServing lengths.now family prefix_length result }
+{
+    let mut least = None;
+    for length in lengths {
+        least = lesser(least, *length, family, prefix_length);
+    }
+    least
+}
+
+/// The length at which a prefix of a length is divided: its own where it stays whole.
+fn split_length(lengths: &[u8], family: Family, prefix_length: u8) -> u8
+    ensures { IsSplitLength lengths.now family prefix_length result }
+{
+    match least_serving(lengths, family, prefix_length) {
+        Some(length) => length,
+        None => prefix_length,
+    }
+}
+
 fn write_split_prefix<A: FamilyAddress, W: Write>(
     around: Around<'_>,
     prefix: Prefix<A>,
-    length: u8,
+    lengths: &[u8],
     out: &mut W,
 ) -> io::Result<()>
     requires { IsPrefix A.number A.WIDTH prefix }
     ensures { OnOk result (Writes (W.contents out.old) (W.contents out.new)
         (IsSplit around.entry.before.now around.entry.after.now A.its_family A.number
-        length prefix)) }
+        lengths.now prefix)) }
 {
     prefix.network.known();
     prefix.last.known();
-    let first = prefix.network.number();
-    let last = prefix.last.number();
-    write_split(
-        around,
-        A::family(),
-        prefix.length,
-        (first, last),
-        length,
-        out,
-    )
+    let ends = (prefix.network.number(), prefix.last.number());
+    let length = split_length(lengths, A::family(), prefix.length);
+    write_split(around, A::family(), prefix.length, ends, length, out)
 }
 
 fn write_all<'a, A: FamilyAddress + 'a, W: Write>(
     around: Around<'_>,
     mut prefixes: Prefixes<'a, A>,
-    length: u8,
+    lengths: &[u8],
     out: &mut W,
 ) -> io::Result<()>
     requires { AllByRecursion (IsPrefix A.number A.WIDTH) prefixes }
     ensures { OnOk result (Writes (W.contents out.old) (W.contents out.new)
         (SpellsEach (IsSplit around.entry.before.now around.entry.after.now A.its_family
-        A.number length) prefixes.entry)) }
+        A.number lengths.now) prefixes.entry)) }
 {
     while let Some(prefix) = prefixes.next() {
-        write_split_prefix(around, prefix, length, out)?;
+        write_split_prefix(around, prefix, lengths, out)?;
     }
     Ok(())
 }
 
 fn write_set<A: FamilyAddress, W: Write>(
     set: &AddressSet<A>,
-    length: u8,
+    lengths: &[u8],
     around: Around<'_>,
     out: &mut W,
 ) -> io::Result<()>
     ensures { OnOk result (Writes (W.contents out.old) (W.contents out.new)
         (AreSplit around.entry.before.now around.entry.after.now A.its_family A.number
-        length A.order A.WIDTH (item_ranges (box_items set.now)))) }
+        lengths.now A.order A.WIDTH (item_ranges (box_items set.now)))) }
 {
-    write_all(around, set.prefixes(), length, out)
+    write_all(around, set.prefixes(), lengths, out)
 }
 
-/// Writes the prefixes of one family of a list, each on a line, where each that is shorter than
-/// `length` is divided into prefixes of this length. Allocates nothing.
+/// Writes the prefixes of one family of a list, each on a line, and divides each at the least of
+/// the lengths that is not below its own. Allocates nothing.
 pub fn write_family_prefixes<W: Write>(
     list: &Addresses,
     family: Family,
-    length: u8,
+    lengths: &[u8],
     around: Around<'_>,
     out: &mut W,
 ) -> io::Result<()>
     ensures { OnOk result (Writes (W.contents out.old) (W.contents out.new)
-        (IsFamilySplit around.entry.before.now around.entry.after.now family length list.now)) }
+        (IsFamilySplit around.entry.before.now around.entry.after.now family lengths.now
+        list.now)) }
 {
     match family {
-        Family::V4 => write_set(&list.v4, length, around, out),
-        Family::V6 => write_set(&list.v6, length, around, out),
+        Family::V4 => write_set(&list.v4, lengths, around, out),
+        Family::V6 => write_set(&list.v6, lengths, around, out),
     }
 }
 
-/// Writes the prefixes of a list, those of IPv4 first, each on a line, where each that is shorter
-/// than `length` is divided into prefixes of this length.
+/// Writes the prefixes of a list, those of IPv4 first, each on a line, and divides each at the
+/// least of the lengths that is not below its own.
 ///
-/// Before they are divided they are as few as can be. Those of a family whose addresses have fewer
-/// bits stay whole. Allocates nothing, however many lines are written.
+/// Before they are divided they are as few as can be. One that is longer than all lengths stays
+/// whole, and no length above the bits of an address counts. Allocates nothing, however many lines
+/// are written.
 pub fn write_split_prefixes<W: Write>(
     list: &Addresses,
-    length: u8,
+    lengths: &[u8],
     around: Around<'_>,
     out: &mut W,
 ) -> io::Result<()>
     ensures { OnOk result (Writes (W.contents out.old) (W.contents out.new)
-        (IsPrintedSplit around.entry.before.now around.entry.after.now length list.now)) }
+        (IsPrintedSplit around.entry.before.now around.entry.after.now lengths.now list.now)) }
 {
-    write_set(&list.v4, length, around, out)?;
-    write_set(&list.v6, length, around, out)
+    write_set(&list.v4, lengths, around, out)?;
+    write_set(&list.v6, lengths, around, out)
 }

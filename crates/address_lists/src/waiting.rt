@@ -101,7 +101,7 @@ fn together(first: Line, second: Line) -> Option<Line>
 }
 
 /// Adds the addresses that a line says.
-fn add(list: &mut Addresses, line: Line) -> Result<(), ListError>
+pub(crate) fn add(list: &mut Addresses, line: Line) -> Result<(), ListError>
     requires { AreAddresses line }
     ensures added { OnOk result (HasJust list.new
         (λ family n. Has list.old family n ⊎ SaysAddress family n line)) }

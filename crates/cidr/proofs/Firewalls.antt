@@ -1,5 +1,5 @@
 -- Sets as files of firewalls.
-use Rattle.std.proofs.Common.{◌≡◌, List, ℕ, ◌++◌, Option, Result, OnOk, Some, inr, refl, sym, subst}
+use Rattle.std.proofs.Common.{◌≡◌, List, ℕ, [], ◌∷◌, ◌++◌, Option, Result, OnOk, Some, inr, refl, sym, subst}
 use Rattle.std.specs.Prelude.{string_bytes}
 use Rattle.std.specs.Io.KnownBytes.{Appends}
 use Rattle.line_program.specs.Listing.{Writes}
@@ -18,7 +18,7 @@ pub all_filled : (set : SetText) (family : Family) (list : Addresses)
     → before ≡ string_bytes set.before → ¬ HasNone list family
     → (first second third fourth last : Option (List ℕ)) → Appends first second head
     → Appends second third opening
-    → Writes third fourth (IsFamilySplit before set.after.now family set.least list)
+    → Writes third fourth (IsFamilySplit before set.after.now family (set.least ∷ []) list)
     → Appends fourth last closing → Writes first last (IsFilled set family list)
 all_filled set family list head opening closing before head_is opening_is closing_is before_is some
     first second third fourth last made opened (lines, split, filled) closed = (
@@ -26,7 +26,8 @@ all_filled set family list head opening closing before head_is opening_is closin
       inr (
         some,
         lines,
-        subst (λ text. IsFamilySplit text set.after.now family set.least list lines) before_is split,
+        subst (λ text. IsFamilySplit text set.after.now family (set.least ∷ []) list lines)
+            before_is split,
         refl,
       ),
       appends_then first fourth last (string_bytes set.head ++ string_bytes set.opening ++ lines)

@@ -1,5 +1,5 @@
 -- Lists as files that `ipset restore` and `nft -f` read.
-use Rattle.std.specs.Prelude.{◌≡◌, ℕ, ◌⊎◌, List, [], ◌++◌, Option, None, Some, codes, string_bytes}
+use Rattle.std.specs.Prelude.{◌≡◌, ℕ, ◌⊎◌, List, [], ◌∷◌, ◌++◌, Option, None, Some, codes, string_bytes}
 use Rattle.btree_range_map.specs.Holding.{box_items}
 use Rattle.address_text.specs.declared.family.Family.{Family}
 use Rattle.address_text.specs.declared.family.Family.TheVariants.{V4, V6}
@@ -14,10 +14,15 @@ abbrev pub set_name : List ℕ → Family → List ℕ
 set_name name V4 = name ++ codes "_v4"
 set_name name V6 = name ++ codes "_v6"
 
--- the lines that make a set of this name
+-- what a set takes, each prefix of a family
+abbrev pub ipset_kind : Family → List ℕ
+ipset_kind V4 = codes "hash:net family inet maxelem 4294967295 -exist"
+ipset_kind V6 = codes "hash:net family inet6 maxelem 4294967295 -exist"
+
+-- the lines that make a set of this name, where there is none, and empty it
 abbrev pub ipset_head : List ℕ → Family → List ℕ
-ipset_head set V4 = codes "create " ++ set ++ codes " hash:net family inet maxelem 4294967295\n"
-ipset_head set V6 = codes "create " ++ set ++ codes " hash:net family inet6 maxelem 4294967295\n"
+ipset_head set family = codes "create " ++ (set ++ (codes " " ++ (ipset_kind family
+    ++ (codes "\nflush " ++ (set ++ codes "\n")))))
 
 -- how a set is named, with its table
 abbrev pub nft_name : List ℕ → List ℕ → List ℕ
@@ -67,7 +72,7 @@ HasNone list V6 = box_items list.v6 ≡ []
 abbrev pub IsFilled : SetText → Family → Addresses → List ℕ → Type 0
 IsFilled set family list text = (HasNone list family × (text ≡ string_bytes set.head))
     ⊎ ((¬ HasNone list family) × (lines : List ℕ)
-    × IsFamilySplit (string_bytes set.before) set.after.now family set.least list lines
+    × IsFamilySplit (string_bytes set.before) set.after.now family (set.least ∷ []) list lines
     × (text ≡ string_bytes set.head ++ string_bytes set.opening ++ lines ++ set.closing.now))
 
 -- the set of one family

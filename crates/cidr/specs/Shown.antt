@@ -34,7 +34,8 @@ AreShown before after Prefixes list text = IsPrinted before after list text
 AreShown before after Ranges list text = IsPrintedAs before after Spelled.Ends list text
 AreShown before after Singles list text = IsPrintedAs before after Spelled.Singles list text
 AreShown before after Count list text = IsCounted [] list text
-AreShown before after (Split length) list text = IsPrintedSplit before after length list text
+AreShown before after (Split lengths) list text =
+    IsPrintedSplit before after lengths.items list text
 
 -- the text of a list in this form, of one family or both
 abbrev pub IsShown : Form → Option Family → Addresses → List ℕ → Type 0

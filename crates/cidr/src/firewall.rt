@@ -3,7 +3,7 @@
 ghost use Rattle.std.specs.Prelude.{◌≡◌, ◌↔◌, IfOk, IsTrue, OnOk, string_bytes};
 ghost use Rattle.line_program.specs.Listing.{Writes};
 ghost use Rattle.address_text.specs.declared.family.Family.TheVariants.{V4, V6};
-ghost use Rattle.cidr.specs.Firewalls.{HasNone, IsFilled, IsFirewallFile, IsIpsetText, IsNftText, IsSetText, ipset_head, nft_head, nft_name, nft_set, set_name};
+ghost use Rattle.cidr.specs.Firewalls.{HasNone, IsFilled, IsFirewallFile, IsIpsetText, IsNftText, IsSetText, ipset_head, ipset_kind, nft_head, nft_name, nft_set, set_name};
 ghost use Rattle.cidr.specs.declared.firewall.Firewall.{Firewall};
 
 use address_lists::{Addresses, write_family_prefixes};
@@ -45,13 +45,20 @@ fn named(alloc: Global, name: &str, family: Family) -> Result<String, AllocError
     }
 }
 
+fn ipset_kind(family: Family) -> &'static str
+    ensures { result.now ≡ ipset_kind family }
+{
+    match family {
+        Family::V4 => "hash:net family inet maxelem 4294967295 -exist",
+        Family::V6 => "hash:net family inet6 maxelem 4294967295 -exist",
+    }
+}
+
 fn ipset_head(alloc: Global, set: &str, family: Family) -> Result<String, AllocError>
     ensures { IfOk result (λ text. string_bytes text ≡ ipset_head set.now family) }
 {
-    match family {
-        Family::V4 => format!(in alloc; "create {set} hash:net family inet maxelem 4294967295\n"),
-        Family::V6 => format!(in alloc; "create {set} hash:net family inet6 maxelem 4294967295\n"),
-    }
+    let kind = ipset_kind(family);
+    format!(in alloc; "create {set} {kind}\nflush {set}\n")
 }
 
 fn nft_name(alloc: Global, table: &str, set: &str) -> Result<String, AllocError>
@@ -150,7 +157,7 @@ fn write_set<W: Write>(
         before: text.before.as_str(),
         after: text.after,
     };
-    write_family_prefixes(list, family, text.least, around, out)?;
+    write_family_prefixes(list, family, &[text.least], around, out)?;
     out.write_all(text.closing.as_bytes())
 }
 

@@ -80,7 +80,7 @@ fn combine_files<W: Write>(
     command: Command,
     files: &[&str],
     reading: Reading,
-    output: Output<'_>,
+    output: &Output<'_>,
     left_out: &mut Vec<u64>,
     out: &mut W,
 ) -> anyhow::Result<Result<bool, Stop>> {
@@ -197,7 +197,7 @@ fn answer<W: Write>(
                 *command,
                 files.as_slice(),
                 reading,
-                *output,
+                output,
                 left_out,
                 out,
             )

@@ -237,31 +237,31 @@ fn kept(alloc: Global, list: Addresses, only: Option<Family>) -> Addresses
 }
 
 fn write_lines<W: Write>(
-    lines: Lines,
+    lines: &Lines,
     around: Around<'_>,
     list: &Addresses,
     out: &mut W,
 ) -> io::Result<()>
     ensures { OnOk result (Writes (W.contents out.old) (W.contents out.new)
-        (AreShown around.entry.before.now around.entry.after.now lines list.now)) }
+        (AreShown around.entry.before.now around.entry.after.now lines.now list.now)) }
 {
     match lines {
         Lines::Prefixes => write_prefixes_around(list, around, out),
         Lines::Ranges => write_ranges(list, around, out),
         Lines::Singles => write_singles(list, around, out),
         Lines::Count => write_counts("", list, out),
-        Lines::Split(length) => write_split_prefixes(list, length, around, out),
+        Lines::Split(lengths) => write_split_prefixes(list, lengths.as_slice(), around, out),
     }
 }
 
 fn print_lines<W: Write>(
-    lines: Lines,
+    lines: &Lines,
     around: Around<'_>,
     list: &Addresses,
     out: &mut W,
 ) -> Result<(), Stop>
     ensures printed { OnOk result (Writes (W.contents out.old) (W.contents out.new)
-        (AreShown around.entry.before.now around.entry.after.now lines list.now)) }
+        (AreShown around.entry.before.now around.entry.after.now lines.now list.now)) }
     ensures failed { IfErr result (λ stop. stop ≡ Unwritable) }
 {
     match write_lines(lines, around, list, out) {
@@ -337,17 +337,17 @@ fn print_firewall<W: Write>(
 /// Prints a list in a form; `out` is flushed.
 pub fn print<W: Write>(
     alloc: Global,
-    output: Output<'_>,
+    output: &Output<'_>,
     list: &Addresses,
     out: &mut W,
 ) -> Result<(), Stop>
     ensures printed { OnOk result (Writes (W.contents out.old) (W.contents out.new)
-        (IsShown output.entry.form output.entry.only list.now)) }
+        (IsShown output.now.form output.now.only list.now)) }
     ensures failed { IfErr result (λ stop. (stop ≡ Memory) ⊎ (stop ≡ Unwritable)) }
     ensures silent { result ≢ Err Unwritable → OnErr result (out.new ≡ out.old) }
 {
-    match output.form {
-        Form::Lines(lines, around) => print_lines(lines, around, list, out),
+    match &output.form {
+        Form::Lines(lines, around) => print_lines(lines, *around, list, out),
         Form::Json => match list_to_text(alloc, list) {
             Ok(text) => print_text(text.as_str(), out),
             Err(_) => Err(Stop::Memory),
@@ -371,7 +371,7 @@ pub fn serve<R: LineRead + Drop, W: Write>(
     command: Command,
     sources: Vec<Source<R>>,
     reading: Reading,
-    output: Output<'_>,
+    output: &Output<'_>,
     left_out: &mut Vec<u64>,
     out: &mut W,
 ) -> Result<(), Stop>
@@ -379,9 +379,9 @@ pub fn serve<R: LineRead + Drop, W: Write>(
         → AreKnown (map (λ s. R.remaining s.reader) sources.items) files
         → (lists : List (Addresses × ℕ)) × (list : Addresses) × AreLists reading files lists
         × (left_out.new.items ≡ left_out.old.items ++ left_out_of lists)
-        × HasJust list (Kept output.entry.only (IsAnswer command lists))
+        × HasJust list (Kept output.now.only (IsAnswer command lists))
         × Writes (W.contents out.old) (W.contents out.new)
-        (IsShown output.entry.form output.entry.only list)) }
+        (IsShown output.now.form output.now.only list)) }
     ensures silent { result ≢ Err Unwritable → OnErr result (out.new ≡ out.old) }
     ensures bad { IfErr result (λ stop. (files : List (List ℕ))
         → AreKnown (map (λ s. R.remaining s.reader) sources.items) files

@@ -25,7 +25,7 @@ pub enum Command {
 }
 
 /// The lines that are printed of addresses.
-#[derive(Clone, Copy)]
+#[derive(Drop)]
 pub enum Lines {
     /// The prefixes that have just these, as few as can be.
     Prefixes,
@@ -35,12 +35,12 @@ pub enum Lines {
     Singles,
     /// How many there are of each family.
     Count,
-    /// Those prefixes, each that is shorter than this length split into prefixes of it.
-    Split(u8),
+    /// Those prefixes, each divided at the least of these lengths that is not below its own.
+    Split(Vec<u8>),
 }
 
 /// What is printed of addresses.
-#[derive(Clone, Copy)]
+#[derive(Drop)]
 pub enum Form<'a> {
     /// Lines, with the same texts around what is on each.
     Lines(Lines, Around<'a>),
@@ -53,7 +53,7 @@ pub enum Form<'a> {
 }
 
 /// What is printed of an answer.
-#[derive(Clone, Copy)]
+#[derive(Drop)]
 pub struct Output<'a> {
     /// The family whose addresses alone are printed; `None` for both.
     pub only: Option<Family>,
@@ -144,42 +144,60 @@ pub(crate) fn family_of(found: &ArgMatches<'_>) -> Option<Family> {
     }
 }
 
-fn lines_of(name: &str, found: &ArgMatches<'_>) -> Lines {
-    match name {
+/// The lengths at which prefixes are divided.
+fn lengths_of(alloc: Global, found: &ArgMatches<'_>) -> Result<Vec<u8>, AllocError> {
+    let mut lengths = Vec::new(alloc);
+    for word in found.get_strs("at").unwrap_or(&[]) {
+        // The words are lengths, since others are refused.
+        lengths.push(word.parse().unwrap_or(Family::V6.width()))?;
+    }
+    Ok(lengths)
+}
+
+fn lines_of(alloc: Global, name: &str, found: &ArgMatches<'_>) -> Result<Lines, AllocError> {
+    Ok(match name {
         "count" => Lines::Count,
-        "split" => Lines::Split(found.get_one("at").unwrap_or(Family::V6.width())),
+        "split" => Lines::Split(lengths_of(alloc, found)?),
         _ if found.get_flag("ranges") => Lines::Ranges,
         _ if found.get_flag("single") => Lines::Singles,
         _ => Lines::Prefixes,
-    }
+    })
 }
 
 /// What is printed of addresses, but for a file of a firewall.
-fn plain_form<'a>(name: &str, found: &ArgMatches<'a>) -> Form<'a> {
+fn plain_form<'a>(
+    alloc: Global,
+    name: &str,
+    found: &ArgMatches<'a>,
+) -> Result<Form<'a>, AllocError> {
     if found.get_flag("json") {
-        return Form::Json;
+        return Ok(Form::Json);
     }
     let around = Around {
         before: found.get_str("prefix").unwrap_or(""),
         after: found.get_str("suffix").unwrap_or(""),
     };
-    Form::Lines(lines_of(name, found), around)
+    Ok(Form::Lines(lines_of(alloc, name, found)?, around))
 }
 
-fn form_of<'a>(name: &str, found: &ArgMatches<'a>) -> Form<'a> {
+fn form_of<'a>(alloc: Global, name: &str, found: &ArgMatches<'a>) -> Result<Form<'a>, AllocError> {
     match (found.get_strs("ipset"), found.get_strs("nft")) {
-        (Some([set]), _) => Form::Ipset(set),
-        (_, Some([table, set])) => Form::Nft(table, set),
-        _ => plain_form(name, found),
+        (Some([set]), _) => Ok(Form::Ipset(set)),
+        (_, Some([table, set])) => Ok(Form::Nft(table, set)),
+        _ => plain_form(alloc, name, found),
     }
 }
 
 /// What is printed of a list.
-pub(crate) fn output_of<'a>(name: &str, found: &ArgMatches<'a>) -> Output<'a> {
-    Output {
+pub(crate) fn output_of<'a>(
+    alloc: Global,
+    name: &str,
+    found: &ArgMatches<'a>,
+) -> Result<Output<'a>, AllocError> {
+    Ok(Output {
         only: family_of(found),
-        form: form_of(name, found),
-    }
+        form: form_of(alloc, name, found)?,
+    })
 }
 
 /// Whether `ipset` and `nft` take the text as the beginning of a name: letters, digits, `_`, `-` and
@@ -257,7 +275,7 @@ fn combined<'a>(
         return Err(no_name(alloc, name, word)?);
     }
     let files = names_of(alloc, found)?;
-    Ok(Task::Combine(command_of(name), files, output_of(name, found)))
+    Ok(Task::Combine(command_of(name), files, output_of(alloc, name, found)?))
 }
 
 /// The addresses that a command of this name is to look up.

@@ -127,7 +127,7 @@ fn task_of<'a>(
         ("without", Some(list)) => Ok(TableTask::Without(list)),
         ("select", _) => {
             let values = words_of(alloc, "VALUE", found)?;
-            Ok(TableTask::Select(values, output_of(name, found)))
+            Ok(TableTask::Select(values, output_of(alloc, name, found)?))
         }
         ("get", _) => {
             let words = found.get_strs("ADDRESS").unwrap_or(&[]);

@@ -19,7 +19,7 @@ Examples:
   cidr merge blocked.txt more.txt
   cidr except blocked.txt --without exceptions.txt
   cidr invert allowed.txt
-  cidr split --at 24 --v4 blocked.txt
+  cidr split --at 16,24,32 --v4 blocked.txt
   cidr merge blocked.txt --ipset blocked | ipset restore
   cidr merge blocked.txt --nft filter blocked | nft -f -
   cidr has blocked.txt 10.1.2.3 2001:db8::1
@@ -39,8 +39,8 @@ pub(crate) enum Kind {
     SecondList,
     /// An option with the name of a list, which may be given again where so many are taken.
     List(ArgAction),
-    /// An option that must be given, with the length of a prefix.
-    Length,
+    /// An option that must be given, with lengths of prefixes, and may be given again.
+    Lengths,
     /// An option with a text of any kind. Of the options of a group at most one may be given.
     Text(&'static [&'static str]),
     /// An option with names of these kinds. Of the options of a group at most one may be given.
@@ -147,8 +147,8 @@ pub(crate) const QUIET: Taken = (
 
 const AT: Taken = (
     "at",
-    Kind::Length,
-    "The length of the prefixes that shorter ones are divided into",
+    Kind::Lengths,
+    "The lengths to divide at, as 16,24: for each prefix the least that is not below its own",
 );
 
 pub(crate) const ADDRESSES: Taken = (
@@ -260,7 +260,7 @@ static COMMANDS: [Usage; 10] = [
     },
     Usage {
         name: "split",
-        about: "Print those that are in any list, in prefixes of LENGTH where they would be shorter",
+        about: "Print those that are in any list, in prefixes of some lengths",
         takes: &[LISTS, STRICT, SKIP_BAD, V4, V6, AT, PREFIX, SUFFIX],
     },
     Usage {
@@ -282,8 +282,10 @@ fn text<'a>(arg: Arg<'a>, groups: &'a [&'a str]) -> Result<Arg<'a>, AllocError> 
         .groups(groups)
 }
 
-fn length<'a>(arg: Arg<'a>) -> Arg<'a> {
-    arg.value_name("LENGTH")
+fn lengths<'a>(arg: Arg<'a>) -> Arg<'a> {
+    arg.value_name("LENGTHS")
+        .value_delimiter(',')
+        .action(ArgAction::Append)
         .value_parser(value_parser!(u8).range(0..=128))
 }
 
@@ -295,7 +297,7 @@ fn argument<'a>((name, kind, help): Taken, alloc: Global) -> Result<Arg<'a>, All
         Kind::Letter(letter, groups) => flag(arg.long(name).short(letter), groups),
         Kind::SecondList => Ok(arg.required(true).value_name("FILE")),
         Kind::List(action) => Ok(arg.long(name).action(action).value_name("FILE")),
-        Kind::Length => Ok(length(arg.long(name).required(true))),
+        Kind::Lengths => Ok(lengths(arg.long(name).required(true))),
         Kind::Text(groups) => text(arg.long(name), groups),
         Kind::Names(names, groups) => {
             let arg = arg.long(name).value_names(names);

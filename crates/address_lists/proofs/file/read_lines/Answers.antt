@@ -1,7 +1,30 @@
 use Rattle.std.proofs.lemmas.Result.{err_from_is_err_and}
-use Rattle.address_lists.proofs.Files.{lines_refused}
+use Rattle.address_lists.proofs.Files.{all_read, first_bad, others_bad}
 use Rattle.address_lists.proofs.file.read_lines.Goals as goal
-use Rattle.std.proofs.Common.{arith}
 
-pub returns-in_err-others-clause-fault : goal.returns-in_err-others-clause-fault
-returns-in_err-others-clause-fault g c = grind (arith, err_from_is_err_and, lines_refused)
+pub returns-clause-read : goal.returns-clause-read
+returns-clause-read g c = λ bytes first.
+    all_read c.args.strict c.args.bad_lines c.args.line.now
+    (g.R.Read.remaining c.args.input.now) c.new-list.result c.add_first.new.list
+    c.read_from.new.list c.in_ok-left_out.left_out c.in_ok-others.others c.new-list.ensures.v4
+    c.new-list.ensures.v6 c.in_ok-left_out.ensures.taken c.in_ok-others.ensures.read
+    c.in_ok-left_out.ensures.all c.in_ok-others.ensures.all bytes first
+
+pub returns-in_err-left_out-clause-bad : goal.returns-in_err-left_out-clause-bad
+returns-in_err-left_out-clause-bad g c =
+    let error = err_from_is_err_and c.from_residual.result c.from_residual.ensures.1 in
+    rw (error.1, error.2) (λ bytes first.
+    first_bad c.args.strict c.args.line.now bytes c.args.number
+    (g.R.Read.remaining c.args.input.now) c.in_err-left_out.field-0.0
+    c.in_err-left_out.ensures.bad first)
+
+pub returns-in_err-others-clause-bad : goal.returns-in_err-others-clause-bad
+returns-in_err-others-clause-bad g c =
+    let error = err_from_is_err_and c.from_residual-in_err-others.result
+    c.from_residual-in_err-others.ensures.1 in
+    rw (error.1, error.2) (λ bytes first.
+    others_bad c.args.strict c.args.bad_lines c.args.line.now c.args.number
+    c.in_ok-left_out.left_out (g.R.Read.remaining c.args.input.now) c.new-list.result
+    c.add_first.new.list c.in_err-others.field-0.0 c.in_ok-left_out.ensures.taken
+    c.in_ok-left_out.ensures.all c.in_err-others.ensures.skipped c.in_err-others.ensures.bad bytes
+    first)

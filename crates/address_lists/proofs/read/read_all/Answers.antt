@@ -16,7 +16,7 @@ pub returns-in_err-line-clause-bad : goal.returns-in_err-line-clause-bad
 returns-in_err-line-clause-bad g c =
     let error = err_from_is_err_and c.from_residual.result c.from_residual.ensures.1 in
     rw (error.1, error.2)
-    (fault_found c.args.strict c.args.bad_lines (g.R.Read.remaining c.args.input.now)
+    (fault_found c.args.strict c.args.first c.args.bad_lines (g.R.Read.remaining c.args.input.now)
     (g.R.Read.remaining c.loop-number.input) c.loop-number.number c.loop-number.others
     c.args.list.now (HasSoFar c.loop-number.list c.loop-number.waiting) c.in_err-line.field-0.0
     c.loop-number.invariant.1 c.in_err-line.ensures.skipped c.loop-number.invariant.3
@@ -27,7 +27,7 @@ returns-in_err-take-in-Good-clause-bad g c =
     let error = err_from_is_err_and c.from_residual-in_err-take-in-Good.result
     c.from_residual-in_err-take-in-Good.ensures.1 in
     rw (error.1, error.2)
-    (other_fault c.args.strict (g.R.Read.remaining c.args.input.now)
+    (other_fault c.args.strict c.args.first (g.R.Read.remaining c.args.input.now)
     c.in_err-take-in-Good.field-0.0 (inr c.in_err-take-in-Good.ensures.memory))
 
 pub returns-in-End-clause-read : goal.returns-in-End-clause-read
@@ -35,7 +35,7 @@ returns-in-End-clause-read g c =
     let rest = g.R.Read.remaining c.loop-number.input in
     let ended = subst (IsFound c.args.strict rest (g.R.Read.remaining c.read_line.new.input))
     c.in-End.is c.in_ok-line.ensures.found in
-    all_read c.args.strict (g.R.Read.remaining c.args.input.now) rest c.loop-number.number
+    all_read c.args.strict c.args.first (g.R.Read.remaining c.args.input.now) rest c.loop-number.number
     c.loop-number.others c.args.list.now (HasSoFar c.loop-number.list c.loop-number.waiting)
     c.loop-number.invariant.3 ended
 
@@ -46,6 +46,7 @@ as_before P a a' b b' c c' p q r h = grind arith
 pub loop-number-preserved : goal.loop-number-preserved
 loop-number-preserved g c =
     let strict = c.args.strict in
+    let first = c.args.first in
     let input = g.R.Read.remaining c.args.input.now in
     let rest = g.R.Read.remaining c.loop-number.input in
     let later = g.R.Read.remaining c.read_line.new.input in
@@ -58,7 +59,7 @@ loop-number-preserved g c =
     let next = c.match-branch-2 in
     let few = known.0 in
     let Holds : ℕ → Addresses → Waiting → Type 0 =
-    λ n l w. IfSome input (λ bytes. IsReadTo strict bytes later (number + 1) n old (HasSoFar l w)) in
+    λ n l w. IfSome input (λ bytes. IsReadTo strict first bytes later (number + 1) n old (HasSoFar l w)) in
     let Fits : Waiting → Type 0 = λ w. AreAddresses w.last in
     elim next.branch [
       | in-Good+in_ok-take-in-Good w ↦
@@ -70,7 +71,7 @@ loop-number-preserved g c =
             subst Fits (sym w.waiting-is) w.in_ok-take-in-Good.ensures.last,
             as_before Holds next.others others next.list w.take.new.list next.waiting
                 w.take.new.self same w.list-is w.waiting-is
-                (line_read strict input rest later number others old (HasSoFar list waiting)
+                (line_read strict first input rest later number others old (HasSoFar list waiting)
                 (HasSoFar w.take.new.list w.take.new.self) w.in-Good.line known.3 found.1
                 w.in_ok-take-in-Good.ensures.taken),
           )
@@ -83,7 +84,7 @@ loop-number-preserved g c =
             subst Fits (sym w.waiting-is) known.2,
             as_before Holds next.others (others + 1) next.list list next.waiting waiting more
                 w.list-is w.waiting-is
-                (line_left_out strict input rest later number others old (HasSoFar list waiting)
+                (line_left_out strict first input rest later number others old (HasSoFar list waiting)
                 known.3 found),
           )
     ]

@@ -11,5 +11,5 @@ invariant-loop-number g l =
     (l.others < l.number) × (l.bad_lines ≡ Refused → l.others ≡ 0)
     × AreAddresses l.waiting.last
     × IfSome (g.R.Read.remaining l.fn.input)
-    (λ bytes. IsReadTo l.strict bytes (g.R.Read.remaining l.input) l.number l.others l.fn.list
+    (λ bytes. IsReadTo l.strict l.first bytes (g.R.Read.remaining l.input) l.number l.others l.fn.list
     (HasSoFar l.list l.waiting))

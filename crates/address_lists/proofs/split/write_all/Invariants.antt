@@ -7,7 +7,7 @@ use Rattle.address_lists.proofs.split.write_all.Given as goal
 
 abbrev pub invariant-loop-prefix : goal.invariant-loop-prefix
 invariant-loop-prefix g l =
-    HasShown (IsSplit l.around.before.now l.around.after.now g.A.FamilyAddress.its_family g.A.Address.number l.length)
+    HasShown (IsSplit l.around.before.now l.around.after.now g.A.FamilyAddress.its_family g.A.Address.number l.lengths)
     l.fn.prefixes l.prefixes (g.W.Write.contents l.fn.out) (g.W.Write.contents l.out)
     × AllByRecursion (IsPrefix g.A.Address.number g.A.Address.WIDTH) l.prefixes
 

@@ -12,11 +12,11 @@ pub returns-clause-printed : goal.returns-clause-printed
 returns-clause-printed g c =
     let numbers = c.args.left_out.now.items in
     let later = c.answered.new.left_out.items in
-    answer_printed c.args.reading (λ lists. Kept c.args.output.only (IsAnswer c.args.command lists))
-    c.args.output.form c.args.output.only _ _ numbers later c.kept.result (g.W.Write.contents c.args.out.now)
+    answer_printed c.args.reading (λ lists. Kept c.args.output.now.only (IsAnswer c.args.command lists))
+    c.args.output.now.form c.args.output.now.only _ _ numbers later c.kept.result (g.W.Write.contents c.args.out.now)
     (g.W.Write.contents c.print.new.out) c.print.result
     (ap (map (λ (s : Source _). g.R.Read.remaining s.reader)) c.into_iter.ensures.rest)
-    (kept_answer c.args.reading c.args.command c.args.output.only _ numbers later c.in_ok-list.list
+    (kept_answer c.args.reading c.args.command c.args.output.now.only _ numbers later c.in_ok-list.list
     c.kept.result c.in_ok-list.ensures.made c.kept.ensures)
     c.print.ensures.printed
 
