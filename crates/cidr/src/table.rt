@@ -81,7 +81,7 @@ fn print_selected<R: LineRead + Drop, W: Write>(
     tables: Vec<Source<R>>,
     values: &[&str],
     asked: Asked<'_>,
-    output: Output<'_>,
+    output: &Output<'_>,
     left_out: &mut Vec<u64>,
     out: &mut W,
 ) -> Result<(), Stop>
@@ -92,7 +92,7 @@ fn print_selected<R: LineRead + Drop, W: Write>(
         × (left_out.new.items ≡ left_out.old.items ++ left_out_of said)
         × IsSelectedOf asked.entry (map (λ v. v.now) values.now) (rows_of said) list
         × Writes (W.contents out.old) (W.contents out.new)
-        (IsShown output.entry.form output.entry.only list)) }
+        (IsShown output.now.form output.now.only list)) }
     ensures silent { result ≢ Err Unwritable → OnErr result (out.new ≡ out.old) }
     ensures bad { IfErr result (λ stop. (files : List (List ℕ))
         → AreKnown (map (λ s. R.remaining s.reader) tables.items) files
@@ -200,7 +200,7 @@ pub fn answer_tables<W: Write>(
             tables,
             values.as_slice(),
             asked,
-            *output,
+            output,
             left_out,
             out,
         ),
