@@ -9,6 +9,6 @@ returns-in-Ok-clause-printed g c = λ files known.
 pub returns-in-Err-Memory-clause-silent : goal.returns-in-Err-Memory-clause-silent
 returns-in-Err-Memory-clause-silent g c = λ unlike. c.in-Err-Memory.ensures.silent (λ e. cc)
 
-pub returns-in-Err-Bad-clause-silent : goal.returns-in-Err-Bad-clause-silent
-returns-in-Err-Bad-clause-silent g c = λ unlike.
+pub returns-clause-silent : goal.returns-clause-silent
+returns-clause-silent g c = λ unlike.
     elim c.in-Err-Bad.ensures.failed [ inl e ↦ cc | inr e ↦ cc ]
