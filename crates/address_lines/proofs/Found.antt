@@ -6,7 +6,7 @@ use Rattle.std.specs.Prelude.{IsTrue, if◌then◌else◌}
 use Rattle.std.specs.Int.{from_bool}
 use Rattle.std.specs.Io.BufRead.{drop_through, take_through}
 use Rattle.std.specs.Io.KnownBytes.{Appends}
-use Rattle.line_program.proofs.Listing.{appends_none, appends_then}
+use Rattle.line_program.proofs.Listing.{appends_then}
 use Rattle.address_lines.specs.Found.{AreFound, line_text, lines_text}
 use Rattle.address_lines.specs.Found.AreFound.{Ended, Found, Other}
 use Rattle.address_lines.specs.declared.grep.Showing.{Showing}

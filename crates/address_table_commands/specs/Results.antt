@@ -3,7 +3,6 @@ use Rattle.std.specs.Prelude.{◌≡◌, ℕ, Option, None, Some, List, [], ◌�
 use Rattle.address_lists.specs.declared.addresses.Addresses.{Addresses}
 use Rattle.address_rows.specs.Rows.{IsAt, Row}
 use Rattle.address_rows.specs.Texts.{AreDifferent}
-use Rattle.address_rows.specs.declared.forms.Form.{Form}
 use Rattle.address_table_lists.specs.Parts.{AreAllBut, AreOnly, IsSelected}
 use Rattle.address_table_lists.specs.Printed.{IsShown}
 use Rattle.address_table_lists.specs.Rows.{Hold}

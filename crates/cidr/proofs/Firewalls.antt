@@ -7,7 +7,7 @@ use Rattle.line_program.proofs.Listing.{appends_then, on_ok_as}
 use Rattle.address_text.specs.declared.family.Family.{Family}
 use Rattle.address_lists.specs.Split.{IsFamilySplit}
 use Rattle.address_lists.specs.declared.addresses.Addresses.{Addresses}
-use Rattle.cidr.specs.Firewalls.{HasNone, IsFilled, IsFirewallFile, IsSetFile, IsSetText}
+use Rattle.cidr.specs.Firewalls.{HasNone, IsFilled, IsFirewallFile, IsSetText}
 use Rattle.cidr.specs.declared.firewall.Firewall.{Firewall}
 use Rattle.cidr.specs.declared.firewall.SetText.{SetText}
 

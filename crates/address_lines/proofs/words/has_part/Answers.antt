@@ -1,8 +1,6 @@
-use Rattle.std.proofs.Common.{◌≡◌, ◌↔◌, List, ℕ, refl, subst, sym, arith}
+use Rattle.std.proofs.Common.{◌↔◌, List, ℕ, refl, subst}
 use Rattle.std.specs.Prelude.{IsTrue}
 use Rattle.std.specs.Io.BufRead.{strip_last}
-use Rattle.std.specs.List.{after_first, before_first}
-use Rattle.address_text.specs.Lines.{HasByte}
 use Rattle.address_lines.specs.Words.{HasIpv4, HasPart, is_colon}
 use Rattle.address_lines.proofs.Pieces.{found_first, last_tells, not_told, others_left}
 use Rattle.address_lines.proofs.words.has_part.Goals as goal

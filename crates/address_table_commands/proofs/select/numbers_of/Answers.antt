@@ -1,4 +1,4 @@
-use Rattle.std.proofs.Common.{◌<◌, ◌≤◌, length, map, drop, subst, arith}
+use Rattle.std.proofs.Common.{map, subst}
 use Rattle.address_table_commands.proofs.Numbers.{AreNumberedTo, no_value, numbered_all, numbered_more, numbered_none, value_first}
 use Rattle.address_table_commands.proofs.select.numbers_of.Goals as goal
 
