@@ -1,6 +1,7 @@
 -- Where two tables differ, and how that is printed.
-use Rattle.std.specs.Prelude.{◌≡◌, ℕ, ◌⊎◌, ◌&&◌, Bool, true, false, nat_eq, if◌then◌else◌, List, [], ◌∷◌, ◌++◌, Option, None, Some, Result, Ok, bytes_eq, codes, get_or}
+use Rattle.std.specs.Prelude.{◌≡◌, ℕ, ◌⊎◌, ◌&&◌, String, Bool, true, false, nat_eq, if◌then◌else◌, List, [], ◌∷◌, ◌++◌, Option, None, Some, Result, Ok, bytes_eq, codes, get_or}
 use Rattle.std.specs.Option.{option_eq}
+use Rattle.std.specs.declared.alloc.Global.{Global}
 use Rattle.std.specs.declared.convert.Infallible.{Infallible}
 use Rattle.btree_range_map.specs.AnyRange.{AnyRange}
 use Rattle.btree_range_map.specs.Canonical.{IsCanonical}
@@ -18,12 +19,14 @@ use Rattle.address_rows.specs.declared.write.Block.TheVariants.{Range}
 use Rattle.address_text.specs.declared.family.Family.{Family}
 use Rattle.address_text.specs.declared.family.Family.TheVariants.{V4, V6}
 use Rattle.address_table_lists.specs.declared.table.Table.{Table}
+use Rattle.address_table_lists.specs.declared.read.Reading.{Reading}
 use Rattle.address_table_commands.specs.Files.{AreTables, IsStop}
 use Rattle.address_table_commands.specs.Results.{IsTableOf}
 use Rattle.address_table_commands.specs.declared.differences.Change.{Change}
 use Rattle.address_table_commands.specs.declared.differences.Changes.{Changes}
 use Rattle.address_table_commands.specs.declared.differences.Extent.{Extent}
 use Rattle.address_table_commands.specs.declared.differences.Extent.TheVariants.{All, First}
+use Rattle.address_table_commands.specs.declared.source.Stop.{Stop}
 use Rattle.address_table_commands.specs.declared.table.Asked.{Asked}
 
 module _ (texts others : List (List ℕ)) where
@@ -124,3 +127,11 @@ pub record AreCompared (asked : Asked) (extent : Extent) (rows other_rows : List
   pub differ : AreTableChanges texts before others after changes
   pub told : alike ≡ has_no_change changes
   pub listed : IsListed extent texts others changes text
+
+-- the files of the one table stop the command, or they are read and those of the other one stop it
+abbrev pub IsPairStop : Reading → List ℕ → List (String Global) → List (List ℕ)
+    → List (String Global) → List (List ℕ) → Stop → Type 0
+IsPairStop reading header names files other_names others stop =
+    IsStop reading header names files stop
+    ⊎ ((said : List (List Row × ℕ)) × AreTables reading header files said
+    × IsStop reading header other_names others stop)

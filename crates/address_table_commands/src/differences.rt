@@ -85,8 +85,8 @@ fn family_changes<A: Address>(
         (box_items before.now) (box_items after.now) (box_items changes)) }
 {
     let change = |one: Option<&u32>, other: Option<&u32>| -> Result<Option<Change>, Infallible>
-        ensures { result ≡ Ok (change_of texts.now others.now (option_copied one)
-            (option_copied other)) }
+        ensures { result ≡ Ok (change_of texts.entry.now others.entry.now (option_copied one.entry)
+            (option_copied other.entry)) }
     { Ok(change_of(texts, others, one.copied(), other.copied())) };
     match before.combine(after, change) {
         Ok(changes) => Ok(changes),
