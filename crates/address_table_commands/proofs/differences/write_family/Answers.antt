@@ -1,0 +1,44 @@
+use Rattle.std.proofs.Common.{refl, subst, sym, arith}
+use Rattle.btree_range_map.specs.Holding.{box_items}
+use Rattle.line_program.proofs.Listing.{HasShown, shown_all, shown_more, shown_none, on_ok_as}
+use Rattle.address_prefixes.specs.Runs.{IsSpan}
+use Rattle.address_tables.proofs.Items.{have_spans}
+use Rattle.address_tables.proofs.Pushed.{HaveSpans, is_span}
+use Rattle.address_table_commands.specs.Differences.{IsChangeLines}
+use Rattle.address_table_commands.proofs.differences.write_family.Goals as goal
+
+pub loop-range-init : goal.loop-range-init
+loop-range-init g c =
+    let items = c.iter-items.ensures.items in
+    let canonical = rw items at c.iter-items.ensures.canonical in
+    record {
+      spans =
+          subst (λ left. HaveSpans g.A.Address.number g.A.Address.at g.A.Address.WIDTH left)
+          (sym items)
+          (have_spans g.met.A.Address.family _ (box_items c.args.changes.now)
+          canonical.stored.known (canonical.coarse g.met.A.Complete.complete));
+      shown = rw items (shown_none _ (box_items c.args.changes.now) (g.W.Write.contents c.args.out.now));
+    }
+
+pub loop-range-preserved : goal.loop-range-preserved
+loop-range-preserved g c =
+    let Lines =
+    IsChangeLines c.args.texts.now c.args.others.now g.A.FamilyAddress.its_family
+    g.A.Address.number g.A.Address.WIDTH in
+    let start = g.W.Write.contents c.args.out.now in
+    let now = g.W.Write.contents c.loop-range.out in
+    let next = g.W.Write.contents c.write_change.new.out in
+    record {
+      spans =
+          (subst (λ left. HaveSpans g.A.Address.number g.A.Address.at g.A.Address.WIDTH left)
+          c.in-Some.ensures.steps c.loop-range.invariant.spans).1;
+      shown =
+          shown_more Lines (box_items c.args.changes.now) _
+          (record { key = c.in-Some.range.now; value = c.in-Some.change.now }) start now next
+          (subst (λ left. HasShown Lines (box_items c.args.changes.now) left start now)
+          c.in-Some.ensures.steps c.loop-range.invariant.shown)
+          (_, rw c.span_of.ensures at refl, c.in_ok-write_change.ensures);
+    }
+
+pub returns : goal.returns
+returns g c = grind (arith, shown_all)
