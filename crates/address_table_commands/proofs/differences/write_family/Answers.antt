@@ -42,3 +42,16 @@ loop-range-preserved g c =
 
 pub returns : goal.returns
 returns g c = grind (arith, shown_all)
+
+pub span_of-requires : goal.span_of-requires
+span_of-requires g c =
+    (subst (λ left. HaveSpans g.A.Address.number g.A.Address.at g.A.Address.WIDTH left)
+    c.in-Some.ensures.steps c.loop-range.invariant.spans).0
+
+pub write_change-requires : goal.write_change-requires
+write_change-requires g c =
+    let has =
+    (subst (λ left. HaveSpans g.A.Address.number g.A.Address.at g.A.Address.WIDTH left)
+    c.in-Some.ensures.steps c.loop-range.invariant.spans).0 in
+    subst (IsSpan g.A.Address.WIDTH) (sym c.span_of.ensures)
+    (is_span g.A.Address.number g.A.Address.at g.A.Address.WIDTH c.in-Some.range.now has)
