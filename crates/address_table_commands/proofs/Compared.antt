@@ -62,7 +62,7 @@ module _ (asked : Asked) (extent : Extent) (inputs other_inputs : List (Option (
         are,
         other_are,
         other_counted ∙ ap (λ all. all ++ left_out_of other_said) counted
-        ∙ append_assoc numbers (left_out_of said) (left_out_of other_said),
+            ∙ append_assoc numbers (left_out_of said) (left_out_of other_said),
         (
           text,
           record {

@@ -80,8 +80,8 @@ side_line family sign texts ends value =
 module _ (texts others : List (List ℕ)) where
   -- the line of the value before, and that of the value after
   abbrev pub change_lines : Family → ℕ × ℕ → Change → List ℕ
-  change_lines family ends change = side_line family (codes "< ") texts ends change.before
-      ++ side_line family (codes "> ") others ends change.after
+  change_lines family ends change = side_line family (codes "- ") texts ends change.before
+      ++ side_line family (codes "+ ") others ends change.after
 
   module _ {A : Type 0} (family : Family) (number : A → ℕ) (width : ℕ) where
     -- those of a range

@@ -59,8 +59,8 @@ fn print_changes<W: Write>(
 /// Reads two tables, prints where they differ, and returns whether they are alike.
 ///
 /// They are alike where each address has the same value in both, or none in either. For each range
-/// on which they differ, as wide as it goes, there is a line `< 10.0.0.0-10.0.0.5 US` with its
-/// value in the one, and a line `> 10.0.0.0-10.0.0.5 -` with that in the other, which is none here.
+/// on which they differ, as wide as it goes, there is a line `- 10.0.0.0-10.0.0.5 US` with its
+/// value in the one, and a line `+ 10.0.0.0-10.0.0.5 -` with that in the other, which is none here.
 /// The ranges of IPv4 come first, ascending. Of the first address alone there are the same two
 /// lines; `out` is flushed. Each table may be in several files, as by
 /// [`print_tables`](crate::print_tables). Nothing is printed where one cannot be read or an

@@ -159,8 +159,8 @@ fn write_change<A: FamilyAddress, W: Write>(
     ensures { OnOk result (Appends (W.contents out.old) (W.contents out.new)
         (change_lines texts.now others.now A.its_family ends change)) }
 {
-    write_side::<A, W>("< ", texts, ends, change.before, out)?;
-    write_side::<A, W>("> ", others, ends, change.after, out)
+    write_side::<A, W>("- ", texts, ends, change.before, out)?;
+    write_side::<A, W>("+ ", others, ends, change.after, out)
 }
 
 fn write_family<A: FamilyAddress, W: Write>(
@@ -203,8 +203,8 @@ fn write_first<A: FamilyAddress, W: Write>(
 
 /// Writes where two tables differ, those of IPv4 first, ascending.
 ///
-/// For each range, as wide as it goes, there is a line `< 10.0.0.0-10.0.0.5 US` with its value in
-/// the one table, and a line `> 10.0.0.0-10.0.0.5 DE` with that in the other, and `-` for none. Of
+/// For each range, as wide as it goes, there is a line `- 10.0.0.0-10.0.0.5 US` with its value in
+/// the one table, and a line `+ 10.0.0.0-10.0.0.5 DE` with that in the other, and `-` for none. Of
 /// the first address alone there are the same lines. Allocates nothing.
 pub(crate) fn write_changes<W: Write>(
     extent: Extent,

@@ -224,14 +224,7 @@ pub fn answer_tables<W: Write>(
         ),
         TableTask::Values => print_value_counts(alloc, tables, asked, left_out, out),
         TableTask::Check => {
-            return told(compare(
-                alloc,
-                tables,
-                Extent::First,
-                asked,
-                left_out,
-                out,
-            ));
+            return told(compare(alloc, tables, Extent::First, asked, left_out, out));
         }
         TableTask::Diff => {
             return told(compare(alloc, tables, Extent::All, asked, left_out, out));
