@@ -91,7 +91,7 @@ pub fn print_differences<R: LineRead + Drop, W: Write>(
         files (map (λ s. s.name) after.items) others stop) }
     ensures unread { IfErr result (λ stop. IsReadFailure stop → R.fails) }
 {
-    let before = read_named(alloc, before, asked, left_out)?;
-    let after = read_named(alloc, after, asked, left_out)?;
-    print_changes(&before, &after, extent, out)
+    let first = read_named(alloc, before, asked, left_out)?;
+    let second = read_named(alloc, after, asked, left_out)?;
+    print_changes(&first, &second, extent, out)
 }
