@@ -6,8 +6,10 @@ use Rattle.btree_range_map.specs.AnyRange.{AnyRange}
 use Rattle.btree_range_map.specs.Combining.{AreCombined}
 use Rattle.btree_range_map.specs.Item.{Item}
 use Rattle.btree_range_map.specs.Order.{KeyOrder}
+use Rattle.address_prefixes.specs.Runs.{IsSpan}
 use Rattle.address_rows.specs.Rows.{Row}
 use Rattle.address_table_lists.specs.declared.table.Table.{Table}
+use Rattle.line_program.proofs.Listing.{appends_then, on_ok_as}
 use Rattle.line_program.specs.Listing.{Writes}
 use Rattle.address_table_commands.specs.Differences.{AreCompared, AreTableChanges, IsListed, IsPairStop, has_no_change}
 use Rattle.address_table_commands.specs.Files.{AreKnown, AreTables, IsStop, left_out_of, rows_of}
@@ -17,6 +19,20 @@ use Rattle.address_table_commands.specs.declared.differences.Extent.{Extent}
 use Rattle.address_table_commands.specs.declared.source.Stop.{Stop}
 use Rattle.address_table_commands.specs.declared.table.Asked.{Asked}
 use Rattle.address_table_commands.proofs.Printed.{AreMade, IsUnprinted, stops_unprinted}
+
+-- two texts are written, one after the other
+pub both_written : {X E : Type 0} (r : Result X E) (start now next : Option (List ℕ))
+    (P Q : List ℕ → Type 0) → Writes start now P → OnOk r (Writes now next Q)
+    → OnOk r (Writes start next (λ text. (first : List ℕ) × (second : List ℕ) × P first × Q second
+    × (text ≡ first ++ second)))
+both_written r start now next P Q (first, is, appended) =
+    on_ok_as r _ _
+    (λ (second, also, more). (first ++ second, (first, second, is, also, refl),
+    appends_then start now next first second appended more))
+
+-- the first number of a span alone
+pub first_alone : (width : ℕ) (ends : ℕ × ℕ) → IsSpan width ends → IsSpan width (ends.0, ends.0)
+first_alone width ends is = let low = is.0 in let high = is.1 in (omega arith, omega (arith, low, high))
 
 module _ {K V W X E : Type 0} (order : KeyOrder K) (same_left : V → V → Bool)
     (same_right : W → W → Bool) (same : X → X → Bool)

@@ -1,10 +1,10 @@
-use Rattle.std.proofs.Common.{refl, subst, sym, arith}
+use Rattle.std.proofs.Common.{ap, subst, sym, arith}
 use Rattle.btree_range_map.specs.Holding.{box_items}
-use Rattle.line_program.proofs.Listing.{HasShown, shown_all, shown_more, shown_none, on_ok_as}
+use Rattle.line_program.proofs.Listing.{HasShown, shown_all, shown_more, shown_none}
 use Rattle.address_prefixes.specs.Runs.{IsSpan}
 use Rattle.address_tables.proofs.Items.{have_spans}
 use Rattle.address_tables.proofs.Pushed.{HaveSpans, is_span}
-use Rattle.address_table_commands.specs.Differences.{IsChangeLines}
+use Rattle.address_table_commands.specs.Differences.{IsChangeLines, change_lines}
 use Rattle.address_table_commands.proofs.differences.write_family.Goals as goal
 
 pub loop-range-init : goal.loop-range-init
@@ -37,7 +37,13 @@ loop-range-preserved g c =
           (record { key = c.in-Some.range.now; value = c.in-Some.change.now }) start now next
           (subst (λ left. HasShown Lines (box_items c.args.changes.now) left start now)
           c.in-Some.ensures.steps c.loop-range.invariant.shown)
-          (_, rw c.span_of.ensures at refl, c.in_ok-write_change.ensures);
+          (
+            change_lines c.args.texts.now c.args.others.now g.A.FamilyAddress.its_family
+            c.span_of.result c.in-Some.change.now,
+            ap (λ ends. change_lines c.args.texts.now c.args.others.now
+            g.A.FamilyAddress.its_family ends c.in-Some.change.now) c.span_of.ensures,
+            c.in_ok-write_change.ensures,
+          );
     }
 
 pub returns : goal.returns
