@@ -1,5 +1,5 @@
 -- Two tables compared.
-use Rattle.std.proofs.Common.{◌≡◌, ℕ, ◌⊎◌, List, [], ◌∷◌, ◌++◌, Option, None, Some, Result, Ok, Err, IfErr, IfOk, OnOk, ap, inl, inr, refl, sym, subst, ◌∙◌, append_assoc, arith}
+use Rattle.std.proofs.Common.{◌≡◌, ℕ, ◌⊎◌, List, [], ◌∷◌, ◌++◌, Option, None, Some, Result, Ok, Err, IfErr, IfOk, OnOk, ap, inl, inr, refl, sym, subst, ◌∙◌, arith}
 use Rattle.std.specs.Prelude.{Bool, String}
 use Rattle.std.specs.declared.alloc.Global.{Global}
 use Rattle.btree_range_map.specs.AnyRange.{AnyRange}
@@ -77,8 +77,7 @@ module _ (asked : Asked) (extent : Extent) (inputs other_inputs : List (Option (
         other_said,
         are,
         other_are,
-        other_counted ∙ ap (λ all. all ++ left_out_of other_said) counted
-            ∙ append_assoc numbers (left_out_of said) (left_out_of other_said),
+        other_counted ∙ ap (λ all. all ++ left_out_of other_said) counted,
         (
           text,
           record {
@@ -123,4 +122,4 @@ module _ (asked : Asked) (names other_names : List (String Global))
       → IsStop asked.reading asked.header.now other_names others stop)
       → IsPairUnread stop
   second_unread stop numbers later IsMade made unread = λ files others known other_known.
-      let (said, are, rest) = made files known in inr (said, are, unread others other_known)
+      let (said, are, counted, rest) = made files known in inr (said, are, unread others other_known)

@@ -3,6 +3,6 @@ use Rattle.address_table_commands.proofs.differences.write_changes.Goals as goal
 
 pub returns-in_ok-write_family-in-All : goal.returns-in_ok-write_family-in-All
 returns-in_ok-write_family-in-All g c =
-    both_written c.write_family-2.result (g.W.Write.contents c.args.out.now)
-    (g.W.Write.contents c.write_family.new.out) (g.W.Write.contents c.write_family-2.new.out) _ _
-    c.in_ok-write_family-in-All.ensures c.write_family-2.ensures
+    both_written c.write_family-in-All.result (g.W.Write.contents c.args.out.now)
+    (g.W.Write.contents c.write_family.new.out) (g.W.Write.contents c.write_family-in-All.new.out) _ _
+    c.in_ok-write_family-in-All.ensures c.write_family-in-All.ensures
