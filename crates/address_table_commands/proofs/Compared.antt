@@ -27,8 +27,11 @@ pub both_written : {X E : Type 0} (r : Result X E) (start now next : Option (Lis
     × (text ≡ first ++ second)))
 both_written r start now next P Q (first, is, appended) =
     on_ok_as r _ _
-    (λ (second, also, more). (first ++ second, (first, second, is, also, refl),
-    appends_then start now next first second appended more))
+    (λ (second, also, more). (
+      first ++ second,
+      (first, second, is, also, refl),
+      appends_then start now next first second appended more,
+    ))
 
 -- the first number of a span alone
 pub first_alone : (width : ℕ) (ends : ℕ × ℕ) → IsSpan width ends → IsSpan width (ends.0, ends.0)

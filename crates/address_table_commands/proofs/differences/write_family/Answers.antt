@@ -36,12 +36,11 @@ loop-range-preserved g c =
           shown_more Lines (box_items c.args.changes.now) _
           (record { key = c.in-Some.range.now; value = c.in-Some.change.now }) start now next
           (subst (λ left. HasShown Lines (box_items c.args.changes.now) left start now)
-          c.in-Some.ensures.steps c.loop-range.invariant.shown)
-          (
+          c.in-Some.ensures.steps c.loop-range.invariant.shown) (
             change_lines c.args.texts.now c.args.others.now g.A.FamilyAddress.its_family
-            c.span_of.result c.in-Some.change.now,
+                c.span_of.result c.in-Some.change.now,
             ap (λ ends. change_lines c.args.texts.now c.args.others.now
-            g.A.FamilyAddress.its_family ends c.in-Some.change.now) c.span_of.ensures,
+                g.A.FamilyAddress.its_family ends c.in-Some.change.now) c.span_of.ensures,
             c.in_ok-write_change.ensures,
           );
     }
