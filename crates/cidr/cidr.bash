@@ -14,7 +14,7 @@ _cidr() {
     grep) options="$options --quiet --invert-match --count --line-number" ;;
     table)
       if [ "$COMP_CWORD" = 2 ]; then
-        COMPREPLY=($(compgen -W "merge longest disjoint shortest only without select get values help --help" -- "$word"))
+        COMPREPLY=($(compgen -W "merge longest disjoint shortest only without select get values check diff help --help" -- "$word"))
         return
       fi
       options="$options --csv --decimal --header"

@@ -146,7 +146,7 @@ abbrev pub IsUnprinted : Stop → Type 0
 IsUnprinted stop = (stop ≡ Memory) ⊎ (stop ≡ Unwritable)
 
 module _ (reading : Reading) (header : List ℕ) (names : List (String Global)) where
-  stops_unprinted : (files : List (List ℕ)) (stop : Stop) → IsUnprinted stop
+  pub stops_unprinted : (files : List (List ℕ)) (stop : Stop) → IsUnprinted stop
       → IsStop reading header names files stop
   stops_unprinted files stop (inl memory) =
       subst (IsStop reading header names files) (sym memory) tt

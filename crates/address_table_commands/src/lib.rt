@@ -9,14 +9,19 @@
 //! - the addresses of some values: `src/select.rt`
 //! - the values of some addresses, and the addresses of each value counted: `src/values.rt`,
 //!   `specs/Values.antt`
+//! - where two tables differ: `src/{differences,compare}.rt`, `specs/Differences.antt`
 #![tactic(auto)]
 
+pub mod compare;
+pub mod differences;
 pub mod print;
 pub mod select;
 pub mod source;
 pub mod table;
 pub mod values;
 
+pub use compare::print_differences;
+pub use differences::Extent;
 pub use print::{Keeping, Outline, Output, print_part, print_tables};
 pub use select::selected;
 pub use source::{Source, Stop};

@@ -14,8 +14,8 @@ use crate::serve::{Reading as ListReading, Source as ListSource, Stop as ListSto
 use crate::source;
 use address_lines::read_line_addresses;
 use address_table_commands::{
-    Asked, Keeping, Outline, Output as TableOutput, Source, Stop, print_part, print_tables,
-    print_value_counts, print_values, selected,
+    Asked, Extent, Keeping, Outline, Output as TableOutput, Source, Stop, print_differences,
+    print_part, print_tables, print_value_counts, print_values, selected,
 };
 use address_table_lists::Precedence;
 use address_table_lists::read::Reading;
@@ -136,6 +136,24 @@ fn get<W: Write>(
     }
 }
 
+/// Prints where the last table differs from the others, and returns whether they are alike.
+fn compare<W: Write>(
+    alloc: Global,
+    mut tables: Vec<Table<'_>>,
+    extent: Extent,
+    asked: Asked<'_>,
+    left_out: &mut Vec<u64>,
+    out: &mut W,
+) -> Result<bool, Stop> {
+    let mut after = Vec::new(alloc);
+    if let Some(last) = tables.pop() {
+        if after.push(last).is_err() {
+            return Err(Stop::Memory);
+        }
+    }
+    print_differences(alloc, tables, after, extent, asked, left_out, out)
+}
+
 /// Why nothing more is printed, where that is no bad table.
 fn stopped(stop: Stop) -> anyhow::Result<ListStop> {
     match stop {
@@ -146,7 +164,7 @@ fn stopped(stop: Stop) -> anyhow::Result<ListStop> {
     }
 }
 
-/// Whether each address has a value, or why nothing more is printed.
+/// Whether each address has a value or two tables are alike, or why nothing more is printed.
 fn told(done: Result<bool, Stop>) -> anyhow::Result<Result<bool, ListStop>> {
     match done {
         Ok(has_all) => Ok(Ok(has_all)),
@@ -154,8 +172,8 @@ fn told(done: Result<bool, Stop>) -> anyhow::Result<Result<bool, ListStop>> {
     }
 }
 
-/// Does what is asked of tables, and returns whether each address that is looked up has a value.
-/// Adds how many bad lines are left out of each file.
+/// Does what is asked of tables, and returns whether each address that is looked up has a value, or
+/// two tables are alike. Adds how many bad lines are left out of each file.
 pub fn answer_tables<W: Write>(
     rt: &HostRuntime,
     request: &TableRequest<'_>,
@@ -205,6 +223,12 @@ pub fn answer_tables<W: Write>(
             out,
         ),
         TableTask::Values => print_value_counts(alloc, tables, asked, left_out, out),
+        TableTask::Check => {
+            return told(compare(alloc, tables, Extent::First, asked, left_out, out));
+        }
+        TableTask::Diff => {
+            return told(compare(alloc, tables, Extent::All, asked, left_out, out));
+        }
         TableTask::Get(sought) => {
             return told(get(rt, tables, sought, asked, left_out, out)?);
         }

@@ -34,6 +34,10 @@ pub enum TableTask<'a> {
     Get(Sought),
     /// How many addresses have each value is printed.
     Values,
+    /// The first address where the two tables differ is printed, with both values.
+    Check,
+    /// All ranges where they differ are printed, with both values.
+    Diff,
 }
 
 /// What is asked of the tables of these names.
@@ -134,6 +138,8 @@ fn task_of<'a>(
             Ok(TableTask::Get(sought_of(alloc, "table get", words)?))
         }
         ("values", _) => Ok(TableTask::Values),
+        ("check", _) => Ok(TableTask::Check),
+        ("diff", _) => Ok(TableTask::Diff),
         _ => Ok(TableTask::Print),
     }
 }

@@ -16,11 +16,14 @@ Examples:
   cidr table merge --json countries.txt changes.txt
   cidr table only countries.txt --in blocked.txt
   cidr table select countries.txt US CA
-  cidr table get countries.txt 192.0.2.9";
+  cidr table get countries.txt 192.0.2.9
+  cidr table diff old.txt new.txt";
 
 const TABLE_HELP: &str = "A table of addresses with values; - is standard input";
 
 const ONE_TABLE: Taken = ("FILE", Kind::Words(1, 1), TABLE_HELP);
+
+const TWO_TABLES: Taken = ("FILE", Kind::Words(2, 2), TABLE_HELP);
 
 const TABLES: Taken = ("FILE", Kind::Words(1, usize::MAX), TABLE_HELP);
 
@@ -82,7 +85,7 @@ const IN: Taken = (
 
 const VALUES: Taken = ("VALUE", Kind::Words(1, usize::MAX), "A value of the table");
 
-pub(crate) static TABLE_COMMANDS: [Usage; 9] = [
+pub(crate) static TABLE_COMMANDS: [Usage; 11] = [
     Usage {
         name: "merge",
         about: "Print tables as one, by its ranges; of the lines that have an address the last counts",
@@ -149,6 +152,20 @@ pub(crate) static TABLE_COMMANDS: [Usage; 9] = [
         about: "Print how many addresses of each family have each value",
         takes: &[
             TABLES, CSV, DECIMAL, HEADER, LONGEST, STRICT, SKIP_BAD, V4, V6,
+        ],
+    },
+    Usage {
+        name: "check",
+        about: "Find out whether two tables are alike, and print the first address where not",
+        takes: &[
+            TWO_TABLES, CSV, DECIMAL, HEADER, LONGEST, STRICT, SKIP_BAD, V4, V6,
+        ],
+    },
+    Usage {
+        name: "diff",
+        about: "Print the ranges where two tables differ, with the values of both",
+        takes: &[
+            TWO_TABLES, CSV, DECIMAL, HEADER, LONGEST, STRICT, SKIP_BAD, V4, V6,
         ],
     },
 ];
