@@ -264,8 +264,9 @@ pub fn around_leaf<T: Drop>(
 }
 
 // The same for each leaf, by one walk that remembers the lowest node with a child after the one on
-// the path: the edge is the first one below that child.
-#[inline(never)]
+// the path: the edge is the first one below that child. It stands in its caller, so that what is
+// found there need not go through memory.
+#[inline(always)]
 fn around_any_leaf<T: Drop>(
     nodes: &Nodes<T>,
     below: usize,
