@@ -150,20 +150,33 @@ fn bound<K: Copy + Drop>(key: K, flags: u32, excluded: u32, unbounded: u32) -> B
 pub fn parts_of<K: Copy + Drop>(range: &AnyRange<K>, other: K) -> (K, K, u32)
     ensures { flagged_range result.0 result.1 result.2 ≡ range.now }
 {
-    let (start, start_flag) = part_of(&range.start, other, START_EXCLUDED, START_UNBOUNDED);
-    let (end, end_flag) = part_of(&range.end, other, END_EXCLUDED, END_UNBOUNDED);
-    (start, end, start_flag | end_flag)
+    let start_flag = flag_of(&range.start, START_EXCLUDED, START_UNBOUNDED);
+    let end_flag = flag_of(&range.end, END_EXCLUDED, END_UNBOUNDED);
+    (
+        key_of(&range.start, other),
+        key_of(&range.end, other),
+        start_flag | end_flag,
+    )
 }
 
-/// The key of a bound, or the other one, and the flag that says the bound.
-fn part_of<K: Copy + Drop>(bound: &Bound<K>, other: K, excluded: u32, unbounded: u32) -> (K, u32)
-    ensures { (result.0 ≡ key_or bound.now other)
-        × (result.1 ≡ bound_flag excluded unbounded bound.now) }
+/// The key of a bound, or the other one.
+fn key_of<K: Copy + Drop>(bound: &Bound<K>, other: K) -> K
+    ensures { result ≡ key_or bound.now other }
 {
     match bound {
-        Bound::Included(key) => (*key, 0),
-        Bound::Excluded(key) => (*key, excluded),
-        Bound::Unbounded => (other, unbounded),
+        Bound::Included(key) | Bound::Excluded(key) => *key,
+        Bound::Unbounded => other,
+    }
+}
+
+/// The flag that says a bound. It is apart from the key, so that a processor need not guess it.
+fn flag_of<K>(bound: &Bound<K>, excluded: u32, unbounded: u32) -> u32
+    ensures { result ≡ bound_flag excluded unbounded bound.now }
+{
+    match bound {
+        Bound::Included(_) => 0,
+        Bound::Excluded(_) => excluded,
+        Bound::Unbounded => unbounded,
     }
 }
 

@@ -18,6 +18,7 @@ pub mod Levelling
 pub mod Levels
 pub mod Moves
 pub mod Pairs
+pub mod Parents
 pub mod Paths
 pub mod PathsBelow
 pub mod Positions

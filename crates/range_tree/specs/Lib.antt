@@ -1,3 +1,4 @@
+pub mod Behind
 pub mod Building
 pub mod Contents
 pub mod Depth

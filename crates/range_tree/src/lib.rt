@@ -7,8 +7,9 @@
 //! - the nodes by their numbers: the crate `range_nodes`
 //! - the shape of a tree of nodes, and the list that it is: `specs/Nodes.antt`
 //! - an edge between two items, as std's B-tree calls it, with the path to it, the steps along
-//!   the list, and where the item before it stands: `src/btree/path.rt`, `specs/Edges.antt`,
-//!   `proofs/Behind.antt`
+//!   the list, and where the item before it stands: `src/btree/path.rt`, `specs/Edges.antt`
+//! - the edge behind a leaf, from the node over that or by a walk: `specs/Behind.antt`,
+//!   `proofs/{Parents,Behind}.antt`
 //! - the leaves at both ends, which the tree keeps: `specs/EndLeaves.antt`, `proofs/EndLeaves.antt`
 //! - the items after a position that lie together, in a leaf: `proofs/LeafItems.antt`
 //! - how a search goes down: `src/btree/searching.rt`, `proofs/Descending.antt`

@@ -4,6 +4,7 @@ ghost use Rattle.std.specs.Prelude.{◌≡◌, ℕ, suc, ◌+◌, ◌-◌, ◌*�
 ghost use Rattle.range_nodes.specs.Heap.{node_items};
 ghost use Rattle.range_tree.specs.Nodes.{items_below, ShapedBut};
 ghost use Rattle.range_tree.specs.Edges.{turn, inside, seat_of, is_start, IsEdge, offset, home_of};
+ghost use Rattle.range_tree.specs.Behind.{IsBehindLeaf, IsParent};
 ghost use Rattle.range_tree.specs.EndLeaves.{AreEndLeaves};
 
 use range_nodes::nodes::{CAPACITY, Nodes};
@@ -187,9 +188,45 @@ fn home_before(node: usize, index: usize, otherwise: Home) -> Home
     Home { node, index }
 }
 
-// Where the item before an edge stands, and the edge after the item behind its leaf. That is the
-// first edge below the child after the one on the path, in the lowest node that has such a child.
-// One walk finds both. Out of line, so that a step within a leaf is no call.
+// The node over a leaf, the index of the leaf in it, and the difference between the path to the leaf
+// and that to the next one below the same node.
+#[derive(Clone, Copy)]
+struct Parent {
+    node: usize,
+    index: usize,
+    weight: u64,
+}
+
+// The node over the leaf of an edge.
+#[inline(always)]
+fn parent_of<T: Drop>(nodes: &Nodes<T>, below: usize, number: usize, edge: Edge) -> Parent
+    requires shaped { ShapedBut 1 CAPACITY nodes.now below number }
+    requires above { 0 < below }
+    requires deep { below < MAX_LEVELS }
+    requires edge { IsEdge nodes.now below number edge }
+    requires some { 0 < offset nodes.now below number edge }
+    ensures { IsParent nodes.now below number edge result }
+{
+    let mut node = number;
+    let mut left = below;
+    let mut inner = edge;
+    let mut weight: u64 = 1;
+    'down: while left > 1 {
+        node = nodes.child_at(node, first_turn(inner));
+        inner = seen_inside(inner);
+        weight *= PATH_BASE;
+        left -= 1;
+    }
+    Parent {
+        node,
+        index: first_turn(inner),
+        weight,
+    }
+}
+
+// Where the item before an edge stands, and the edge after the item behind its leaf. That edge is
+// found from the node over the leaf, unless the leaf is its last child. Out of line, so that a step
+// within a leaf is no call.
 #[inline(never)]
 pub fn around_leaf<T: Drop>(
     nodes: &Nodes<T>,
@@ -202,11 +239,46 @@ pub fn around_leaf<T: Drop>(
     requires edge { IsEdge nodes.now below number edge }
     requires some { 0 < offset nodes.now below number edge }
     ensures home { result.0 ≡ home_of nodes.now below number edge }
-    ensures behind { let end = record edge { index = length (node_items nodes.now edge.leaf) }
-        in MatchOption result.1
-        (offset nodes.now below number end ≡ length (items_below nodes.now (suc below) number))
-        (λ h. IsEdge nodes.now below number h
-        × (offset nodes.now below number h ≡ offset nodes.now below number end + 1)) }
+    ensures behind { IsBehindLeaf nodes.now below number edge result.1 }
+{
+    if below > 0 {
+        let Parent {
+            node,
+            index,
+            weight,
+        } = parent_of(nodes, below, number, edge);
+        if index < nodes.item_count(node) {
+            let next = Edge {
+                path: edge.path + weight,
+                leaf: nodes.child_at(node, index + 1),
+                index: 0,
+            };
+            if edge.index == 0 && index == 0 {
+                return (find_home(nodes, below, number, edge), Some(next));
+            }
+            let above = home_before(node, index, Home { node, index });
+            return (home_before(edge.leaf, edge.index, above), Some(next));
+        }
+    }
+    around_any_leaf(nodes, below, number, edge)
+}
+
+// The same for each leaf, by one walk that remembers the lowest node with a child after the one on
+// the path: the edge is the first one below that child. It stands in its caller, so that what is
+// found there need not go through memory.
+#[inline(always)]
+fn around_any_leaf<T: Drop>(
+    nodes: &Nodes<T>,
+    below: usize,
+    number: usize,
+    edge: Edge,
+) -> (Home, Option<Edge>)
+    requires shaped { ShapedBut 1 CAPACITY nodes.now below number }
+    requires deep { below < MAX_LEVELS }
+    requires edge { IsEdge nodes.now below number edge }
+    requires some { 0 < offset nodes.now below number edge }
+    ensures home { result.0 ≡ home_of nodes.now below number edge }
+    ensures behind { IsBehindLeaf nodes.now below number edge result.1 }
 {
     let mut at = number;
     let mut left = below;

@@ -1,5 +1,5 @@
 use Rattle.range_tree.proofs.Behind.{HasHome, IsOnTheWay, leaf_end}
-use Rattle.range_tree.proofs.btree.path.around_leaf.Given as goal
+use Rattle.range_tree.proofs.btree.path.around_any_leaf.Given as goal
 
 abbrev pub invariant-down : goal.invariant-down
 invariant-down g l =
