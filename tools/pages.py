@@ -10,7 +10,7 @@ import html
 import re
 
 from tools.repository import CRATES, TOP, below, crates
-from tools.source import HEAD, IMPL, comment_before, definitions_of, heading, imported, text_from
+from tools.source import HEAD, IMPL, comment_before, definitions_of, ghosts_of, heading, imported, text_from
 
 ROOT = "btree_range_map"
 DECLARED = re.compile(r"(?:(pub) )?(?:unsafe |final |const )*(mod|use|struct|enum|trait|type|fn|const)\b (.*)")
@@ -148,7 +148,7 @@ def calls_of(crate):
                 continue
             of, comment = owner if head[1] else "", comment_before(lines, at)
             if head[2] and comment or head[1] and (is_trait or " for " in owner):
-                shown = text_from(lines, at, head[1])
+                shown = text_from(lines, at, head[1]) + (ghosts_of(lines, at) if head[3] == "trait" else "")
                 found.append(Call(crate, file, of, head[3], head[4], comment, shown, imports))
     return found
 

@@ -94,6 +94,14 @@ def text_from(lines, at, indent):
     return "\n".join(taken).replace("{\n}", "{ .. }")
 
 
+def ghosts_of(lines, at):
+    """Returns the ghost items of the trait that begins on a line, each with its doc comment, as the body that an implementor reads."""
+    end = next(it for it in range(at, len(lines)) if lines[it] == "}")
+    items = "\n".join(lines[at + 1 : end]).split("\n\n")
+    ghosts = [it for it in items if re.search(r"^    ghost (?!use\b)", it, re.M)]
+    return " {\n" + "\n\n".join(ghosts) + "\n}" if ghosts else ""
+
+
 def comment_before(lines, at):
     """Returns the doc comment above an item, and its attributes left out."""
     taken = []
