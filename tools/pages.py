@@ -10,7 +10,7 @@ import html
 import re
 
 from tools.repository import CRATES, TOP, below, crates
-from tools.source import HEAD, IMPL, comment_before, definitions_of, heading, imported, text_from
+from tools.source import HEAD, IMPL, comment_before, definitions_of, ghosts_of, heading, imported, text_from
 
 ROOT = "btree_range_map"
 DECLARED = re.compile(r"(?:(pub) )?(?:unsafe |final |const )*(mod|use|struct|enum|trait|type|fn|const)\b (.*)")
@@ -119,8 +119,8 @@ def exported(place, path, found):
 class Call:
     """A function or a type as users see it: where it stands, what it is of, its doc comment and its text without a body."""
 
-    def __init__(self, crate, file, owner, kind, name, comment, text, imports):
-        self.crate, self.file, self.owner, self.kind, self.name = crate, file, owner, kind, name
+    def __init__(self, crate, file, block, owner, kind, name, comment, text, imports):
+        self.crate, self.file, self.block, self.owner, self.kind, self.name = crate, file, block, owner, kind, name
         self.comment, self.text, self.imports = comment, text, imports
         self.of = re.match(r"\W*(\w*)", owner.rpartition(" for ")[2].split("::")[-1])[1]
         self.trait = owner.rpartition(" for ")[0]
@@ -132,15 +132,16 @@ def calls_of(crate):
     found = []
     for path in sorted((CRATES / crate / "src").rglob("*.rt")):
         text = path.read_text()
-        lines, owner, is_trait, imports = text.split("\n"), "", False, imported(text)
+        lines, owner, block, is_trait, imports = text.split("\n"), "", 0, False, imported(text)
         file = str(path.relative_to(CRATES / crate / "src"))
         for at, line in enumerate(lines):
             if IMPL.match(line):
-                owner, is_trait = heading(lines[at : at + 12]), line.startswith(("trait", "pub trait"))
+                owner, block, is_trait = heading(lines[at : at + 12]), at, line.startswith(("trait", "pub trait"))
                 if " for " in owner:
                     end = next(it for it in range(at, len(lines)) if lines[it].endswith(("{", "{}")))
                     head = "\n".join(lines[at : end + 1]).removesuffix("{").removesuffix("{}").rstrip()
-                    found.append(Call(crate, file, owner, "impl", "", comment_before(lines, at), head, imports))
+                    head += ghosts_of(lines, at) if owner.startswith("Model for ") else ""
+                    found.append(Call(crate, file, block, owner, "impl", "", comment_before(lines, at), head, imports))
             elif line.startswith("}"):
                 owner, is_trait = "", False
             head = HEAD.match(line)
@@ -148,9 +149,19 @@ def calls_of(crate):
                 continue
             of, comment = owner if head[1] else "", comment_before(lines, at)
             if head[2] and comment or head[1] and (is_trait or " for " in owner):
-                shown = text_from(lines, at, head[1])
-                found.append(Call(crate, file, of, head[3], head[4], comment, shown, imports))
+                shown = text_from(lines, at, head[1]) + (ghosts_of(lines, at) if head[3] == "trait" else "")
+                found.append(Call(crate, file, block, of, head[3], head[4], comment, shown, imports))
     return found
+
+
+def trait_of(head):
+    """Returns the trait of an impl with what it is applied to, as `From<Range<T>>`, from the impl's head."""
+    depth, text = 0, " ".join(head.partition(" {\n")[0].split()).partition("impl")[2]
+    for at, letter in enumerate(text):
+        depth += (letter == "<") - (letter == ">" and text[at - 1] != "-")
+        if depth == 0:
+            break
+    return text[at + (letter == ">") :].strip().partition(" for ")[0]
 
 
 def of_type(call, item):
@@ -267,9 +278,9 @@ class Pages:
         impls = [it for it in own if it.kind == "impl"]
         body += "<h2>Traits</h2>" if impls else ""
         for it in impls:
-            methods = [other for other in own if other.owner == it.owner and other.kind == "fn" and other.file == it.file]
+            methods = [other for other in own if (other.file, other.block) == (it.file, it.block) and other.kind == "fn"]
             text = "\n".join([it.text, *(re.sub("^", "    ", other.text, flags=re.M) for other in methods)])
-            body += f"<h3>{html.escape(it.trait)}</h3>{prose(it.comment)}<pre>{linked(text, it.imports, ('', ''), self.known)}</pre>\n"
+            body += f"<h3>{html.escape(trait_of(it.text))}</h3>{prose(it.comment)}<pre>{linked(text, it.imports, ('', ''), self.known)}</pre>\n"
         return file, page(html.escape(name), body)
 
     def module_page(self, target, items):

@@ -94,6 +94,15 @@ def text_from(lines, at, indent):
     return "\n".join(taken).replace("{\n}", "{ .. }")
 
 
+def ghosts_of(lines, at):
+    """Returns the ghost items of the trait or impl that begins on a line, each with its doc comment, as a body."""
+    begin = next(it for it in range(at, len(lines)) if lines[it].endswith("{")) + 1
+    end = next(it for it in range(at, len(lines)) if lines[it] == "}")
+    items = "\n".join(lines[begin:end]).split("\n\n")
+    ghosts = [it for it in items if re.search(r"^    ghost (?!use\b)", it, re.M)]
+    return " {\n" + "\n\n".join(ghosts) + "\n}" if ghosts else ""
+
+
 def comment_before(lines, at):
     """Returns the doc comment above an item, and its attributes left out."""
     taken = []

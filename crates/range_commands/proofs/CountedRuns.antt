@@ -1,6 +1,6 @@
 -- How many steps a run adds.
-use Rattle.std.proofs.Common.{◌≡◌, refl, ℕ, ◌+◌, ◌*◌, ◌^◌, ◌<◌, ◌≤◌, Bool, true, false, List, [], ◌∷◌, ◌++◌, length, ◌⊎◌, inl, inr, ap, subst, arith, suc, zero}
-use Rattle.std.specs.Prelude.{Option, Result, Ok, Err, IfOk, OnErr}
+use Rattle.std.proofs.Common.{◌≡◌, refl, ℕ, ◌+◌, ◌*◌, ◌^◌, ◌<◌, ◌≤◌, Bool, List, [], ◌∷◌, ◌++◌, length, ◌⊎◌, inl, inr, ap, subst, arith, suc, zero}
+use Rattle.std.specs.Prelude.{Option, Result}
 use Rattle.range_keys.specs.Order.{KeyOrder}
 use Rattle.range_algebra.specs.Range.{IsEmptyRange}
 use Rattle.range_algebra.specs.declared.any.AnyRange.{AnyRange}
@@ -12,18 +12,13 @@ use Rattle.range_nodes.specs.declared.nodes.TheConstants.{CAPACITY}
 use Rattle.range_tree.specs.declared.btree.searching.TheConstants.{MAX_ASKS}
 use Rattle.range_store.specs.declared.storage.Item.{Item}
 use Rattle.range_edit.specs.Costs.{TakesAtLeast, TakesAsChange, IsGreatestLevel}
-use Rattle.range_commands.specs.CountedRuns.{least_if, HasNoMemory, IsDone, ChangeTakes, LookupTakes, TakesFor, IsDue, IsRunOfDue, IsCountedRun}
+use Rattle.range_commands.specs.CountedRuns.{HasNoMemory, IsDone, ChangeTakes, LookupTakes, TakesFor, IsDue, IsRunOfDue, IsCountedRun}
 use Rattle.range_commands.specs.Runs.{IsStep, AreSteps, HasNoUpdate}
 use Rattle.range_commands.specs.declared.command.Command.{Command}
 use Rattle.range_commands.specs.declared.command.Command.TheVariants.{Insert, InsertDisconnected, Remove, Update, Get, Contains, Intersects, Count}
 use Rattle.range_commands.specs.declared.command.Reply.{Reply}
 use Rattle.range_commands.specs.declared.command.Reply.TheVariants.{Done, Memory, Connected, Value, Truth, Count as Counted}
-use Rattle.range_commands.proofs.FewRanges.{two_more, few_more}
-
-pub if_ok_then : {A E : Type 0} {P Q : A → Type 0} (r : Result A E) → IfOk r P
-    → ((x : A) → P x → Q x) → IfOk r Q
-if_ok_then (Ok x) h f = f x h
-if_ok_then (Err e) h f = tt
+use Rattle.range_commands.proofs.FewRanges.{two_more}
 
 some_or_not : (n : ℕ) → (0 < n) ⊎ (¬ (0 < n))
 some_or_not zero = inr (λ h. absurd (omega (arith, h)))
@@ -57,22 +52,6 @@ change_or_not order items r reply =
       | inl due ↦ inl (due.0, due.1.0, due.1.1)
       | inr no_change ↦ inr (λ due. no_change (due.0, (due.1, due.2)))
     ]
-
-least_if_most : (is_counted : Bool) (least : ℕ) → least_if is_counted least ≤ least
-least_if_most true least = omega arith
-least_if_most false least = omega arith
-
-module _ {K : Type 0} {order : KeyOrder K} {V : Type 0} (is_counted : Bool) {least most : ℕ}
-    {items : List (Item (AnyRange K) V)} {fact : Type 0} {before after : ℕ} where
-  -- what is counted anyway takes as much where it need not be
-  pub change_if : {next : List (Item (AnyRange K) V)} {r : AnyRange K}
-      → ChangeTakes order least most items next r fact before after
-      → ChangeTakes order (least_if is_counted least) most items next r fact before after
-  change_if takes = record {
-    at_most = takes.at_most;
-    at_least = λ full. omega (arith, takes.at_least full, least_if_most is_counted least);
-    none = takes.none;
-  }
 
 -- what takes its least steps where its range is not empty, and none where it is
 due_least : (many least before after : ℕ) (empty : Type 0) → (0 < many → 1 ≤ least)
@@ -250,18 +229,6 @@ module _ {K : Type 0} (order : KeyOrder K) {V : Type 0} where
             )
           ]
       run_least some s last commands replies before after run = absurd run
-
-    -- so commands without an update leave few ranges more
-    pub few_after : {A F : Type 0} (replies : A → List (Reply K V E))
-        (items last : List (Item (AnyRange K) V)) (commands : List (Command K V T))
-        (result : Result A F)
-        → IfOk result (λ x. AreSteps order same may items commands (replies x) last)
-        → OnErr result (last ≡ items) → HasNoUpdate commands
-        → length last ≤ length items + 2 * length commands
-    few_after replies items last commands (Ok x) run same_list none =
-        few_more order same may items last commands (replies x) run none
-    few_after replies items last commands (Err e) run same_list none =
-        omega (arith, ap length same_list)
 
 module _ {X : Type 0} where
   -- a tree has as many levels as so many items may have

@@ -1,5 +1,5 @@
 -- How many steps a list of commands adds, one command after the other.
-use Rattle.std.specs.Prelude.{◌≡◌, ◌+◌, ◌<◌, ◌⊎◌, ℕ, ⊤, Bool, cond, List, [], ◌∷◌, length, Option, Result}
+use Rattle.std.specs.Prelude.{◌≡◌, ◌+◌, ◌<◌, ◌⊎◌, ℕ, ⊤, Bool, List, [], ◌∷◌, length, Option, Result}
 use Rattle.range_keys.specs.Order.{KeyOrder}
 use Rattle.range_algebra.specs.declared.any.AnyRange.{AnyRange}
 use Rattle.range_algebra.specs.Range.{IsEmptyRange}
@@ -11,10 +11,6 @@ use Rattle.range_commands.specs.declared.command.Command.{Command}
 use Rattle.range_commands.specs.declared.command.Command.TheVariants.{Insert, Remove, Get, Contains, Intersects}
 use Rattle.range_commands.specs.declared.command.Reply.{Reply}
 use Rattle.range_commands.specs.declared.command.Reply.TheVariants.{Done, Memory}
-
--- how often a call asks at least, where it counts
-abbrev pub least_if : Bool → ℕ → ℕ
-least_if is_counted least = cond is_counted least 0
 
 -- none of the replies says that there was not enough memory
 abbrev pub HasNoMemory : {K V E : Type 0} → List (Reply K V E) → Type 0

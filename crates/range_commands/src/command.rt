@@ -6,7 +6,7 @@ ghost use Rattle.range_runs.specs.Bindings.{Binds, IsBound};
 ghost use Rattle.range_tree.specs.Holding.{box_items};
 ghost use Rattle.range_tree.specs.declared.btree.searching.TheConstants.{MAX_ASKS};
 ghost use Rattle.range_edit.specs.Costs.{TakesAtLeast, greatest_level};
-ghost use Rattle.range_commands.specs.CountedRuns.{ChangeTakes, LookupTakes, TakesFor, least_if, IsCountedRun, IsRunOfDue, HasNoMemory};
+ghost use Rattle.range_commands.specs.CountedRuns.{LookupTakes, TakesFor, IsRunOfDue, HasNoMemory};
 ghost use Rattle.range_commands.specs.Runs.{IsInsertion, IsStep, AreSteps, HasNoUpdate};
 ghost use Rattle.range_commands.specs.History.{BindOver};
 ghost use Rattle.range_commands.specs.Tagged.{MayAnswerTo, MayBeAskedAll};
@@ -81,31 +81,6 @@ fn get_cloned<K: Measure, V: Eq + Clone, C: Storage<Item<AnyRange<K>, V>>>(
     }
 }
 
-/// Does an insertion: by the counted call, or by the other, which takes no search before or after
-/// all ranges.
-fn insert_by<K: Measure + Clone, V: Eq + Clone, C: Storage<Item<AnyRange<K>, V>>>(
-    map: &mut RangeMap<K, V, C>,
-    range: AnyRange<K>,
-    value: V,
-    is_counted: bool,
-    steps: &mut Steps,
-) -> Result<(), MapError>
-    requires keys { ClonesAreEqual K.is_clone K.eq }
-    requires values { ClonesAreEqual V.is_clone V.eq }
-    ensures inserted { OnOk result
-        (IsInsertion K.order V.eq 2 (C.items map.old) (C.items map.new) range value) }
-    ensures refused { OnErr result
-        (¬ IsEmptyRange K.order range × (C.items map.new ≡ C.items map.old)) }
-    ensures takes { ChangeTakes K.order (least_if is_counted (C.least_asks map.old))
-        (C.most_asks map.old) (C.items map.old) (C.items map.new) range (IsOk result)
-        steps.old steps.new }
-{
-    if is_counted {
-        return map.insert_counted(range, value, steps);
-    }
-    map.insert(range, value)
-}
-
 /// Does an update with a tag.
 fn update_tagged<
     K: Measure + Clone,
@@ -132,9 +107,8 @@ fn update_tagged<
     }
 }
 
-/// Answers one command by the counted calls, where there is one; an insertion only if it is to be
-/// counted.
-fn answer_by<
+/// Answers one command by the counted calls, where there is one.
+fn answer_counted<
     K: Measure + Clone,
     V: Eq + Clone,
     T: Drop,
@@ -145,7 +119,6 @@ fn answer_by<
     map: &mut RangeMap<K, V, C>,
     command: Command<K, V, T>,
     f: &F,
-    is_counted: bool,
     steps: &mut Steps,
 ) -> Reply<K, V, E>
     requires keys { ClonesAreEqual K.is_clone K.eq }
@@ -153,12 +126,11 @@ fn answer_by<
     requires callable { MayBeAskedAll F.Fn f.now }
     ensures step { IsStep K.order V.eq (MayAnswerTo F.Fn f.now) (C.items map.old) command result
         (C.items map.new) }
-    ensures takes { TakesFor K.order (least_if is_counted (C.least_asks map.old))
-        (C.most_asks map.old) (C.items map.old) command result (C.items map.new)
-        steps.old steps.new }
+    ensures takes { TakesFor K.order (C.least_asks map.old) (C.most_asks map.old)
+        (C.items map.old) command result (C.items map.new) steps.old steps.new }
 {
     match command {
-        Command::Insert(range, value) => match insert_by(map, range, value, is_counted, steps) {
+        Command::Insert(range, value) => match map.insert_counted(range, value, steps) {
             Ok(()) => Reply::Done,
             Err(MapError::Memory) => Reply::Memory,
         },
@@ -208,45 +180,14 @@ pub fn answer<
     ensures { IsStep K.order V.eq (MayAnswerTo F.Fn f.now) (C.items map.old) command result
         (C.items map.new) }
 {
-    let mut steps = Steps::new();
-    answer_by(map, command, f, false, &mut steps)
-}
-
-/// Answers the commands in turn, one reply each, as `answer_by` does.
-fn run_by<
-    K: Measure + Clone,
-    V: Eq + Clone,
-    T: Drop,
-    E: Drop,
-    F: Fn(&T, Option<&V>) -> Result<Option<V>, E>,
-    C: Storage<Item<AnyRange<K>, V>>,
->(
-    alloc: Global,
-    map: &mut RangeMap<K, V, C>,
-    commands: Vec<Command<K, V, T>>,
-    f: &F,
-    is_counted: bool,
-    steps: &mut Steps,
-) -> Result<Vec<Reply<K, V, E>>, MapError>
-    requires keys { ClonesAreEqual K.is_clone K.eq }
-    requires values { ClonesAreEqual V.is_clone V.eq }
-    requires callable { MayBeAskedAll F.Fn f.now }
-    ensures run { IfOk result
-        (λ replies. IsCountedRun K.order V.eq (MayAnswerTo F.Fn f.now) (λ s. C.items s)
-        (λ s. least_if is_counted (C.least_asks s))
-        (λ s. C.most_asks s) map.old commands.items replies.items map.new steps.old steps.new) }
-    ensures refused { OnErr result (C.items map.new ≡ C.items map.old) }
-    ensures refused_steps { OnErr result (steps.new ≡ steps.old) }
-{
-    let mut replies = Vec::with_capacity(alloc, commands.len())?;
-    for command in commands {
-        let reply = answer_by(map, command, f, is_counted, steps);
-        match replies.push(reply) {
-            Ok(()) => (),
-            Err(_) => unreachable!(),
-        }
+    match command {
+        // Takes no search before or after all ranges, which the counted call does.
+        Command::Insert(range, value) => match map.insert(range, value) {
+            Ok(()) => Reply::Done,
+            Err(MapError::Memory) => Reply::Memory,
+        },
+        command => answer_counted(map, command, f, &mut Steps::new()),
     }
-    Ok(replies)
 }
 
 /// Answers the commands in turn, one reply each.
@@ -286,8 +227,15 @@ pub fn run<
         → length (C.items map.new) ≤ length (C.items map.old) + 2 * length commands.items }
     ensures refused { OnErr result (C.items map.new ≡ C.items map.old) }
 {
-    let mut steps = Steps::new();
-    run_by(alloc, map, commands, f, false, &mut steps)
+    let mut replies = Vec::with_capacity(alloc, commands.len())?;
+    for command in commands {
+        let reply = answer(map, command, f);
+        match replies.push(reply) {
+            Ok(()) => (),
+            Err(_) => unreachable!(),
+        }
+    }
+    Ok(replies)
 }
 
 /// Answers the commands in turn as `run` does; adds the steps that they take.
@@ -336,5 +284,13 @@ pub fn run_counted<
         × TakesAtLeast steps.old steps.new due) }
     ensures refused_steps { OnErr result (steps.new ≡ steps.old) }
 {
-    run_by(alloc, map, commands, f, true, steps)
+    let mut replies = Vec::with_capacity(alloc, commands.len())?;
+    for command in commands {
+        let reply = answer_counted(map, command, f, steps);
+        match replies.push(reply) {
+            Ok(()) => (),
+            Err(_) => unreachable!(),
+        }
+    }
+    Ok(replies)
 }

@@ -66,7 +66,6 @@ impl<K: Measure + Clone, S: MaybeEmpty, C: Storage<Item<AnyRange<K>, S>>> RangeM
         ensures { OnOk result (HasAllPairsAlso K.order S.has (C.items self.old) (C.items self.new)
             range.now values.now) }
     {
-        self.in_form();
         stored_lists_bind_once::<K, S>();
         let answer = |old: Option<&S>| -> Result<Option<S>, AllocError>
             requires { ClonesAreEqual V.is_clone V.eq }
@@ -75,9 +74,7 @@ impl<K: Measure + Clone, S: MaybeEmpty, C: Storage<Item<AnyRange<K>, S>>> RangeM
             ensures nonempty { (¬ S.is_void values.entry.now)
                 → IfOk result (λ new. IfSome new (λ s. ¬ S.is_void s)) }
         { with_values::<V, S>(old, values) };
-        if let Err(_) = self.map.update(range, answer) {
-            return Err(MapError::Memory);
-        }
+        self.update_sets(range, answer)?;
         Ok(())
     }
 
@@ -94,7 +91,6 @@ impl<K: Measure + Clone, S: MaybeEmpty, C: Storage<Item<AnyRange<K>, S>>> RangeM
         ensures { OnOk result (HasAllPairsWithout K.order S.has (C.items self.old)
             (C.items self.new) range.now values.now) }
     {
-        self.in_form();
         stored_lists_bind_once::<K, S>();
         let answer = |old: Option<&S>| -> Result<Option<S>, AllocError>
             requires { ClonesAreEqual V.is_clone V.eq }
@@ -102,9 +98,7 @@ impl<K: Measure + Clone, S: MaybeEmpty, C: Storage<Item<AnyRange<K>, S>>> RangeM
                 (λ new. HasAllWithout S.has (option_copied old.entry) new values.entry.now) }
             ensures nonempty { IfOk result (λ new. IfSome new (λ s. ¬ S.is_void s)) }
         { without_values::<V, S>(old, values) };
-        if let Err(_) = self.map.update(range, answer) {
-            return Err(MapError::Memory);
-        }
+        self.update_sets(range, answer)?;
         Ok(())
     }
 

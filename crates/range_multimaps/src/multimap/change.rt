@@ -1,8 +1,10 @@
 //! How the values of the keys of a range are added and taken out.
-ghost use Rattle.std.specs.Prelude.{◌≡◌, IsTrue, IsOk, IfOk, OnOk, OnErr, IfSome};
+ghost use Rattle.std.specs.Prelude.{◌≡◌, IsTrue, Ok, IsOk, IfOk, OnOk, OnErr, IfSome, Option};
 ghost use Rattle.std.specs.Option.{option_copied};
 ghost use Rattle.range_algebra.specs.Range.{ClonesAreEqual, Holds, IsEmptyRange};
-ghost use Rattle.range_runs.specs.Answers.{IsAsAnswered};
+ghost use Rattle.range_map.specs.Askable.{MayBeAskedAnything};
+ghost use Rattle.range_map.specs.Rebinding.{AreRebound};
+ghost use Rattle.range_runs.specs.Answers.{IsAsAnswered, IsUpdated, MayAnswer};
 ghost use Rattle.range_runs.specs.Canonical.{IsCanonical};
 ghost use Rattle.range_runs.specs.Frames.{IsMergeFrame};
 ghost use Rattle.range_runs.specs.Spelling.{KeepsSpelling};
@@ -79,6 +81,40 @@ fn without_value<V: Eq + Clone, S: SetMut<V>>(
 }
 
 impl<K: Measure + Clone, S: MaybeEmpty, C: Storage<Item<AnyRange<K>, S>>> RangeMultiMap<K, S, C> {
+    /// Gives the keys of the range the sets that the closure answers to theirs. After an error
+    /// nothing is changed.
+    pub(super) fn update_sets<
+        R: AsRange<Item = K>,
+        F: Fn(Option<&S>) -> Result<Option<S>, AllocError>,
+    >(&mut self, range: R, f: F) -> Result<(), MapError>
+        requires keys { ClonesAreEqual K.is_clone K.eq }
+        requires sets { ClonesAreEqual S.is_clone S.eq }
+        requires callable { MayBeAskedAnything F.Fn f }
+        requires nonempty { (old answer : Option S) → MayAnswer F.Fn f old (Ok answer)
+            → IfSome answer (λ s. ¬ S.is_void s) }
+        ensures updated { OnOk result (¬ IsEmptyRange K.order (R.range range)
+            → IsUpdated K.order S.eq F.Fn f (C.items self.old) (C.items self.new)
+            (R.range range)) }
+        ensures rebound { OnOk result (AreRebound K.order S.eq (MayAnswer F.Fn f)
+            (C.items self.old) (C.items self.new) (R.range range)) }
+        ensures spelled { OnOk result
+            (KeepsSpelling K.order (C.items self.old) (C.items self.new)) }
+        ensures was { IsCanonical K.order S.eq (C.items self.old) }
+        ensures canonical { IsCanonical K.order S.eq (C.items self.new) }
+        ensures full { HasNoEmptySet S.is_void (C.items self.old) }
+        ensures nonempty { HasNoEmptySet S.is_void (C.items self.new) }
+        ensures refused { OnErr result (C.items self.new ≡ C.items self.old) }
+        ensures empty { IsEmptyRange K.order (R.range range) → IsOk result }
+        ensures empty_unchanged { IsEmptyRange K.order (R.range range)
+            → C.items self.new ≡ C.items self.old }
+    {
+        self.in_form();
+        if let Err(_) = self.map.update(range, f) {
+            return Err(MapError::Memory);
+        }
+        Ok(())
+    }
+
     /// Pairs each key of the range with the value.
     ///
     /// Each key that has an equal value already keeps its set, and so does each key outside the
@@ -123,7 +159,6 @@ impl<K: Measure + Clone, S: MaybeEmpty, C: Storage<Item<AnyRange<K>, S>>> RangeM
         ensures empty_unchanged { IsEmptyRange K.order (R.range range)
             → C.items self.new ≡ C.items self.old }
     {
-        self.in_form();
         stored_lists_bind_once::<K, S>();
         let alloc = self.alloc;
         let answer = |old: Option<&S>| -> Result<Option<S>, AllocError>
@@ -134,9 +169,7 @@ impl<K: Measure + Clone, S: MaybeEmpty, C: Storage<Item<AnyRange<K>, S>>> RangeM
             ensures kept { IfOk result (λ new. IsTrue (among S.has (option_copied old.entry) value)
                 → IsAsAnswered S.eq (option_copied old.entry) new) }
         { with_value::<V, S>(alloc, old, &value) };
-        if let Err(_) = self.map.update(range, answer) {
-            return Err(MapError::Memory);
-        }
+        self.update_sets(range, answer)?;
         Ok(())
     }
 
@@ -182,7 +215,6 @@ impl<K: Measure + Clone, S: MaybeEmpty, C: Storage<Item<AnyRange<K>, S>>> RangeM
         ensures empty_unchanged { IsEmptyRange K.order (R.range range)
             → C.items self.new ≡ C.items self.old }
     {
-        self.in_form();
         stored_lists_bind_once::<K, S>();
         let answer = |old: Option<&S>| -> Result<Option<S>, AllocError>
             requires { ClonesAreEqual V.is_clone V.eq }
@@ -193,9 +225,7 @@ impl<K: Measure + Clone, S: MaybeEmpty, C: Storage<Item<AnyRange<K>, S>>> RangeM
                 → ¬ IsTrue (among S.has (option_copied old.entry) value.entry.now)
                 → IsAsAnswered S.eq (option_copied old.entry) new) }
         { without_value::<V, S>(old, value) };
-        if let Err(_) = self.map.update(range, answer) {
-            return Err(MapError::Memory);
-        }
+        self.update_sets(range, answer)?;
         Ok(())
     }
 }

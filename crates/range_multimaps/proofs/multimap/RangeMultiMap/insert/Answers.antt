@@ -1,74 +1,45 @@
-use Rattle.std.proofs.Common.{rules, refl, arith}
+use Rattle.std.proofs.Common.{refl, arith}
 use Rattle.range_multimaps.specs.Pairs.{HasPair}
-use Rattle.range_map.proofs.ClosureAnswers.{every_one}
 use Rattle.range_multimaps.proofs.Keeping.{added_is_had, gave_way_to_such}
-use Rattle.range_multimaps.proofs.Pairing.{added, values_at, stay_bound, stays_full, not_refused}
+use Rattle.range_multimaps.proofs.Pairing.{added, values_at, stay_bound}
 use Rattle.range_multimaps.proofs.multimap.RangeMultiMap.insert.Goals as goal
 
 pub returns : goal.returns
 returns g c =
-    let items = g.C.Storage.items c.self.inside.map in
-    let next = g.C.Storage.items c.update.new.self in
+    let done = c.in_ok-update_sets.ensures in
+    let items = g.C.Storage.items c.args.self.now in
+    let next = g.C.Storage.items c.update_sets.new.self in
     let order = g.K.MaybeBounded.order in
     let equal = g.met.S.Eq.laws in
-    let has = g.S.SetMut.has in
     let respects = g.met.S.SetMut.equal_same in
-    let form = rw (← c.self.view_is) at c.in_form.ensures.canonical.stored in
-    let once = c.stored_lists_bind_once.ensures items form in
-    let next_once = c.stored_lists_bind_once.ensures next c.update.ensures.canonical.stored in
-    let now = not_refused c.update.result c.update.ensures.rebound c.in_default.not-Err in
+    let once = c.stored_lists_bind_once.ensures items done.was.stored in
+    let next_once = c.stored_lists_bind_once.ensures next done.canonical.stored in
     record {
-      refused = search rules;
+      refused = tt;
       added =
-          rw (← c.self.view_is) (added order equal respects now g.met.K.PartialEnum.lawful once
-          next_once g.V.PartialEq.eq c.args.value (λ old answer m. rw m.shows at m.says.1.0));
+          added order equal respects done.rebound g.met.K.PartialEnum.lawful once next_once
+          g.V.PartialEq.eq c.args.value (λ old answer m. rw m.shows at m.says.1.0);
       kept =
-          rw (← c.self.view_is) (stay_bound order equal respects now g.met.K.PartialEnum.lawful
-          once next_once (λ k. HasPair order has items k c.args.value)
-          (grind (arith, values_at)));
-      others =
-          rw (← c.self.view_is) now.others;
+          stay_bound order equal respects done.rebound g.met.K.PartialEnum.lawful once next_once
+          (λ k. HasPair order g.S.SetMut.has items k c.args.value) (grind (arith, values_at));
+      others = done.rebound.others;
       frame =
-          rw (← c.self.view_is) (λ nonempty. gave_way_to_such order
+          λ nonempty. gave_way_to_such order
           (λ old answer m s.
           added_is_had respects g.met.V.Eq.laws c.args.value _ answer s m.says.1.0)
-          (not_refused c.update.result c.update.ensures.updated c.in_default.not-Err nonempty));
-      spelled =
-          rw (← c.self.view_is)
-          (not_refused c.update.result c.update.ensures.spelled c.in_default.not-Err);
-      nonempty =
-          stays_full order equal g.met.S.MaybeEmpty.void_equal
-          (not_refused c.update.result c.update.ensures.updated c.in_default.not-Err)
-          (λ old answer m. m.says.1.1.0) c.self.invariant c.update.ensures.empty_unchanged;
-      canonical =
-          c.update.ensures.canonical;
-      empty_unchanged =
-          rw (← c.self.view_is) c.update.ensures.empty_unchanged;
-      empty =
-          λ empty. refl;
+          (done.updated nonempty);
+      spelled = done.spelled;
+      nonempty = done.nonempty;
+      canonical = done.canonical;
+      empty_unchanged = done.empty_unchanged;
+      empty = λ empty. refl;
     }
 
-pub invariant_of-self-2 : goal.invariant_of-self-2
-invariant_of-self-2 g c =
-    stays_full g.K.MaybeBounded.order g.met.S.Eq.laws g.met.S.MaybeEmpty.void_equal
-    (not_refused c.update.result c.update.ensures.updated c.in_default.not-Err)
-    (λ old answer m. m.says.1.1.0) c.self.invariant c.update.ensures.empty_unchanged
+pub update_sets-requires-clause-sets : goal.update_sets-requires-clause-sets
+update_sets-requires-clause-sets g c = g.met.S.SetMut.clones_equal c.requires.values
 
-pub update-requires-clause-keys : goal.update-requires-clause-keys
-update-requires-clause-keys g c = c.requires.keys
+pub update_sets-requires-clause-callable : goal.update_sets-requires-clause-callable
+update_sets-requires-clause-callable g c = λ shown. c.requires.values
 
-pub update-requires-clause-values : goal.update-requires-clause-values
-update-requires-clause-values g c = g.met.S.SetMut.clones_equal c.requires.values
-
-pub update-requires-clause-free : goal.update-requires-clause-free
-update-requires-clause-free g c = λ shown shows. c.requires.values
-
-pub update-requires-clause-bound : goal.update-requires-clause-bound
-update-requires-clause-bound g c =
-    every_one _ (g.C.Storage.items c.self.inside.map) (λ i shown shows. c.requires.values)
-
-pub returns-in-Err : goal.returns-in-Err
-returns-in-Err g c = grind (arith, added)
-
-pub invariant_of-self : goal.invariant_of-self
-invariant_of-self g c = rw c.in-Err.ensures.refused c.self.invariant
+pub update_sets-requires-clause-nonempty : goal.update_sets-requires-clause-nonempty
+update_sets-requires-clause-nonempty g c = λ old answer m. m.says.1.1.0

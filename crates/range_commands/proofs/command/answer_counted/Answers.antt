@@ -1,8 +1,7 @@
 use Rattle.std.proofs.Common.{ap, refl}
 use Rattle.std.proofs.lemmas.Bool.{false≢true}
-use Rattle.range_commands.proofs.CountedRuns.{change_if}
 use Rattle.range_commands.proofs.Replies.{meets_some, meets_none}
-use Rattle.range_commands.proofs.command.answer_by.Goals as goal
+use Rattle.range_commands.proofs.command.answer_counted.Goals as goal
 
 pub returns-in-Err-Connected : goal.returns-in-Err-Connected
 returns-in-Err-Connected g c =
@@ -36,6 +35,15 @@ returns-in-InsertDisconnected g c =
           rw c.in-InsertDisconnected.is refl;
     }
 
+pub returns-in-Ok-clause-takes : goal.returns-in-Ok-clause-takes
+returns-in-Ok-clause-takes g c =
+    let done = c.in-Ok.ensures in
+    rw c.in-Insert.is record {
+      at_most = λ unrefused. done.most;
+      at_least = done.least;
+      none = done.empty_uncounted;
+    }
+
 pub returns-in-Ok-remove_counted : goal.returns-in-Ok-remove_counted
 returns-in-Ok-remove_counted g c =
     let done = c.in-Ok-remove_counted.ensures in
@@ -52,12 +60,11 @@ returns-in-Ok-remove_counted g c =
                 (meets_none g.K.MaybeBounded.order items c.in-Remove.range unmet);
           };
       takes =
-          rw c.in-Remove.is (change_if c.args.is_counted
-          (record {
+          rw c.in-Remove.is record {
             at_most = λ unrefused. done.most;
             at_least = done.least;
             none = done.empty_uncounted;
-          }));
+          };
     }
 
 pub returns-in-Remove : goal.returns-in-Remove
@@ -73,10 +80,9 @@ returns-in-Remove g c =
             refused.refused,
           );
       takes =
-          rw c.in-Remove.is (change_if c.args.is_counted
-          (record {
+          rw c.in-Remove.is record {
             at_most = λ done. absurd done;
             at_least = refused.least;
             none = refused.empty_uncounted;
-          }));
+          };
     }
