@@ -1,10 +1,11 @@
-pub mod Occurrences
-pub mod RowCells
 pub mod Halves
 pub mod Heaps
+pub mod Lists
+pub mod Occurrences
+pub mod RowCells
 pub mod RowItems
 pub mod RowMoves
+pub mod Segments
 pub mod Siblings
 pub mod Slots
 pub mod Spares
-pub mod Segments

@@ -1,18 +1,16 @@
--- What is left of a list of slots, and of a slab of nodes, but for its spares.
-use Rattle.std.proofs.Common.{◌≡◌, ◌≢◌, ℕ, zero, suc, ◌+◌, ◌<◌, ◌≤◌, List, [], ◌∷◌, ◌++◌, length, get_or, cond, Option, Some, None, is_some, IsSome, count_by, refl, sym, ap, subst, ◌∙◌, inl, inr, arith, length-append}
+-- What is left of a list of slots, and of a list of nodes, but for its spares.
+use Rattle.std.proofs.Common.{◌≡◌, ◌≢◌, ℕ, zero, suc, ◌+◌, ◌<◌, ◌≤◌, List, [], ◌∷◌, ◌++◌, length, get_or, Option, Some, None, is_some, IsSome, count_by, refl, sym, ap, subst, ◌∙◌, inl, inr, arith, length-append}
 use Rattle.std.proofs.Math.ListN.{set, length-set}
-use Rattle.std.specs.List.{insert, remove}
-use Rattle.std.proofs.lemmas.Bool.{cases_eq}
-use Rattle.std.proofs.lemmas.List.{get_or-set_other, get_or-set_same, get_or_past, nil_from_length, set-get_or, set_comm}
+use Rattle.std.proofs.lemmas.Bool.{cases_eq, cases_lt}
+use Rattle.std.proofs.lemmas.List.{get_or-set_other, get_or-set_same, get_or_past, get_or_append_left, get_or_at, set-get_or, set_comm}
 use Rattle.std.proofs.lemmas.List.Sums.{sum_by-cons}
-use Rattle.slab.specs.Slab.{Slab, get, slab_len, with_value, Updates}
-use Rattle.range_nodes.specs.declared.node.Node.{Node}
-use Rattle.range_nodes.specs.Heap.{Heap, node_of, HasNode, HasRoomFor, SameNodes, children_of, node_count, with_item, FitsChild, Writes, Stores, Removes, Absorbs, node_items, node_children}
+use Rattle.range_nodes.specs.Children.{FitsFull, FitsPlace}
+use Rattle.range_nodes.specs.Heap.{Heap, node_of, HasNode, HasRoomFor, SameNodes, node_count, with_item, FitsChild, Writes, Stores, Removes, node_items, node_children}
 use Rattle.range_nodes.specs.Occurrences.{occurrences}
 use Rattle.range_nodes.proofs.Occurrences.{occurrences-append, occurrences-cons, occurrences-nil, occurrences_here, occurrences_itself, occurrences_other}
 use Rattle.range_nodes.specs.Rows.{row_of}
-use Rattle.range_nodes.specs.Spares.{without, content_of, contents, heap_of, FitsFull, FitsPlace, IsWhole}
-use Rattle.range_nodes.proofs.Slots.{slot_count, slot_read}
+use Rattle.range_nodes.specs.Spares.{without, content, contents, heap_of, IsWhole}
+use Rattle.range_nodes.proofs.Slots.{slot_count}
 
 module _ {X : Type 0} where
   without_here : (ns : List ℕ) (slots : List (Option X)) (k : ℕ) → 0 < occurrences k ns
@@ -66,380 +64,393 @@ module _ {X : Type 0} where
       ∙ set_comm (without ns slots) k n slot None
       (λ same. absurd (grind (arith, occurrences_here)))
 
-module _ {X : Type 0} where
-  module _ (s : Slab X) (n : ℕ) (present : IsSome (get s n)) (new : X) where
-    pub value_updates : Updates s (with_value s n new) n (Some new)
-    value_updates = grind (arith, slot_read, get_or-set_other)
-
-    pub value_len : slab_len (with_value s n new) ≡ slab_len s
-    value_len = omega (arith, slot_count s.slots n present (Some new))
-
 module _ {T : Type 0} where
-  content_some : (xs : List T) (slot : Option Node) → IsSome (content_of xs slot) → IsSome slot
-  content_some xs slot present = grind arith
-
-  contents_read : (rows : List (List T)) (slots : List (Option Node)) (k : ℕ)
-      → get_or (contents rows slots) k None ≡ content_of (row_of rows k) (get_or slots k None)
+  contents_len : (lists : List (List ℕ)) (rows : List (List T))
+      → length (contents lists rows) ≡ length lists
   unfolding contents
-  contents_read rows [] k = refl
-  contents_read [] (slot ∷ slots) zero = refl
-  contents_read [] (slot ∷ slots) (suc k) = contents_read [] slots k
-  contents_read (xs ∷ rows) (slot ∷ slots) zero = refl
-  contents_read (xs ∷ rows) (slot ∷ slots) (suc k) = contents_read rows slots k
+  contents_len [] rows = refl
+  contents_len (ks ∷ lists) [] = ap suc (contents_len lists [])
+  contents_len (ks ∷ lists) (xs ∷ rows) = ap suc (contents_len lists rows)
 
-  content_bit : (xs : List T) (slot : Option Node)
-      → is_some (content_of xs slot) ≡ is_some slot
-  content_bit xs slot = grind arith
-
-  count_contents : (rows : List (List T)) (slots : List (Option Node))
-      → count_by is_some (contents rows slots) ≡ count_by is_some slots
+  contents_read : (lists : List (List ℕ)) (rows : List (List T)) (k : ℕ) → k < length lists
+      → get_or (contents lists rows) k None ≡ Some (content (row_of rows k) (row_of lists k))
   unfolding contents
-  count_contents rows [] = refl
-  count_contents [] (slot ∷ slots) =
-      omega (
-        arith,
-        sum_by-cons,
-        ap {B = ℕ} (λ b. cond b 1 0) (content_bit [] slot),
-        count_contents [] slots,
-      )
-  count_contents (xs ∷ rows) (slot ∷ slots) =
-      omega (
-        arith,
-        sum_by-cons,
-        ap {B = ℕ} (λ b. cond b 1 0) (content_bit xs slot),
-        count_contents rows slots,
-      )
+  contents_read [] rows k within = absurd (omega arith)
+  contents_read (ks ∷ lists) [] zero within = refl
+  contents_read (ks ∷ lists) [] (suc k) within = contents_read lists [] k (omega arith)
+  contents_read (ks ∷ lists) (xs ∷ rows) zero within = refl
+  contents_read (ks ∷ lists) (xs ∷ rows) (suc k) within = contents_read lists rows k (omega arith)
 
-  contents_set : (rows : List (List T)) (slots : List (Option Node)) (n : ℕ) (xs : List T)
+  contents_count : (lists : List (List ℕ)) (rows : List (List T))
+      → count_by is_some (contents lists rows) ≡ length lists
+  unfolding contents
+  contents_count [] rows = refl
+  contents_count (ks ∷ lists) [] = omega (arith, sum_by-cons, contents_count lists [])
+  contents_count (ks ∷ lists) (xs ∷ rows) = omega (arith, sum_by-cons, contents_count lists rows)
+
+  contents_set : (lists : List (List ℕ)) (rows : List (List T)) (n : ℕ) (xs : List T)
       → n < length rows
-      → contents (set rows n xs) slots
-      ≡ set (contents rows slots) n (content_of xs (get_or slots n None))
+      → contents lists (set rows n xs)
+      ≡ set (contents lists rows) n (Some (content xs (row_of lists n)))
   unfolding contents
-  contents_set [] slots n xs within = absurd (omega arith)
-  contents_set (ys ∷ rows) [] zero xs within = refl
-  contents_set (ys ∷ rows) [] (suc n) xs within = refl
-  contents_set (ys ∷ rows) (slot ∷ slots) zero xs within = refl
-  contents_set (ys ∷ rows) (slot ∷ slots) (suc n) xs within =
-      ap (λ zs. content_of ys slot ∷ zs) (contents_set rows slots n xs (omega arith))
+  contents_set lists [] n xs within = absurd (omega arith)
+  contents_set [] (ys ∷ rows) zero xs within = refl
+  contents_set [] (ys ∷ rows) (suc n) xs within = refl
+  contents_set (ks ∷ lists) (ys ∷ rows) zero xs within = refl
+  contents_set (ks ∷ lists) (ys ∷ rows) (suc n) xs within =
+      ap (λ zs. Some (content ys ks) ∷ zs) (contents_set lists rows n xs (omega arith))
 
-module _ {T : Type 0} (slab : Slab Node) (rows : List (List T)) (spares : List ℕ) where
+module _ {T : Type 0} (lists : List (List ℕ)) (rows : List (List T)) (spares : List ℕ) where
   abbrev heap : Heap T
-  heap = heap_of slab rows spares
+  heap = heap_of lists rows spares
 
   spare_read : (k : ℕ) → 0 < occurrences k spares → node_of heap k ≡ None
-  spare_read k among = without_here spares (contents rows slab.slots) k among
+  spare_read k among = without_here spares (contents lists rows) k among
 
-  slot_seen : (k : ℕ) → occurrences k spares ≡ 0
-      → node_of heap k ≡ content_of (row_of rows k) (get slab k)
-  slot_seen k none =
-      without_other spares (contents rows slab.slots) k none ∙ contents_read rows slab.slots k
+  slot_seen : (k : ℕ) → k < length lists → occurrences k spares ≡ 0
+      → node_of heap k ≡ Some (content (row_of rows k) (row_of lists k))
+  slot_seen k within none =
+      without_other spares (contents lists rows) k none ∙ contents_read lists rows k within
 
   -- a node that is seen is no spare
   in_use : (k : ℕ) → HasNode heap k → occurrences k spares ≡ 0
   in_use k present = grind (arith, spare_read)
 
--- a node that is seen has what its slot and its row have
-pub record IsSeen {T : Type 0} (slab : Slab Node) (rows : List (List T)) (spares : List ℕ) (n : ℕ)
-    (node : Node) : Type 0 where
-  pub items : node_items (heap_of slab rows spares) n ≡ row_of rows n
-  pub children : node_children (heap_of slab rows spares) n ≡ node.children.items
+  slot_past : (k : ℕ) → length lists ≤ k → node_of heap k ≡ None
+  slot_past k past =
+      elim (cases_lt 0 (occurrences k spares)) [
+        | inl among ↦ spare_read k among
+        | inr few ↦
+            without_other spares (contents lists rows) k (omega (arith, few))
+            ∙ get_or_past (contents lists rows) k None
+            (omega (arith, past, contents_len lists rows))
+      ]
 
-module _ {T : Type 0} {slab : Slab Node} {rows : List (List T)} {spares : List ℕ}
-    (whole : IsWhole slab rows spares) where
-  pub found : (k : ℕ) → HasNode (heap_of slab rows spares) k → IsSome (get slab k)
-  found k present = grind (arith, slot_seen)
+  inside : (k : ℕ) → HasNode heap k → k < length lists
+  inside k present = grind (arith, slot_past)
 
-  pub items_seen : (k : ℕ) → HasNode (heap_of slab rows spares) k
-      → node_items (heap_of slab rows spares) k ≡ row_of rows k
-  items_seen k present = grind (arith, slot_seen, in_use)
+module _ {T : Type 0} {lists : List (List ℕ)} {rows : List (List T)} {spares : List ℕ}
+    (whole : IsWhole lists rows spares) where
+  pub number_there : (k : ℕ) → HasNode (heap_of lists rows spares) k → k < length lists
+  number_there k present = inside lists rows spares k present
 
-  pub row_there : (k : ℕ) → HasNode (heap_of slab rows spares) k → k < length rows
-  row_there k present = whole.there k (found k present)
+  pub row_there : (k : ℕ) → HasNode (heap_of lists rows spares) k → k < length rows
+  row_there k present = omega (arith, whole.there, number_there k present)
 
-  pub seen : (k : ℕ) → HasNode (heap_of slab rows spares) k → {node : Node}
-      → get slab k ≡ Some node → IsSeen slab rows spares k node
-  seen k present is = grind (arith, slot_seen, in_use)
+  pub items_seen : (k : ℕ) → HasNode (heap_of lists rows spares) k
+      → node_items (heap_of lists rows spares) k ≡ row_of rows k
+  items_seen k present = grind (arith, slot_seen, number_there, in_use)
 
-  pub counted : node_count (heap_of slab rows spares) + length spares ≡ slab_len slab
+  pub children_seen : (k : ℕ) → HasNode (heap_of lists rows spares) k
+      → node_children (heap_of lists rows spares) k ≡ row_of lists k
+  children_seen k present = grind (arith, slot_seen, number_there, in_use)
+
+  pub counted : node_count (heap_of lists rows spares) + length spares ≡ length lists
   counted =
-      grind (arith, without_count, contents_read, count_contents)
+      without_count spares (contents lists rows) whole.once
+      (λ k among. rw (contents_read lists rows k (whole.within k among)) refl)
+      ∙ contents_count lists rows
 
-  pub spares_left : (more : ℕ) → HasRoomFor (heap_of slab rows spares) more → more ≤ length spares
+  pub spares_left : (more : ℕ) → HasRoomFor (heap_of lists rows spares) more
+      → more ≤ length spares
   spares_left more room = omega (arith, room, counted)
 
   -- a node that is seen leaves fewer spares than nodes
-  pub fewer_spares : (k : ℕ) → HasNode (heap_of slab rows spares) k
-      → length spares + 1 ≤ slab_len slab
+  pub fewer_spares : (k : ℕ) → HasNode (heap_of lists rows spares) k
+      → length spares + 1 ≤ length lists
   fewer_spares k present =
-      omega (arith, counted, slot_count (heap_of slab rows spares).slots k present None)
+      omega (arith, counted, slot_count (heap_of lists rows spares).slots k present None)
 
--- the number n has this node and these items, and each other number what it had
-pub record Changes {T : Type 0} (old new : Slab Node) (was now : List (List T)) (n : ℕ)
-    (node : Node) (items : List T) : Type 0 where
-  pub updates : Updates old new n (Some node)
-  pub here : row_of now n ≡ items
-  pub others : (k : ℕ) → k ≢ n → row_of now k ≡ row_of was k
-  pub long : length was ≤ length now
-  pub there : n < length now
+-- a number got these children and items, which left these spares, and made this of the nodes
+pub record Leaves {T : Type 0} (lists : List (List ℕ)) (rows : List (List T)) (spares : List ℕ)
+    (n : ℕ) (ks : List ℕ) (items : List T) (left : List ℕ) (Became : Heap T → Heap T → Type 0)
+    : Type 0 where
+  pub whole : IsWhole (set lists n ks) (set rows n items) left
+  pub nodes : Became (heap_of lists rows spares) (heap_of (set lists n ks) (set rows n items) left)
 
-module _ {T : Type 0} {old new : Slab Node} {was now : List (List T)} {spares : List ℕ}
-    (whole : IsWhole old was spares) {n : ℕ} {node : Node} {items : List T}
-    (changes : Changes old new was now n node items) where
-  changed_whole : (left : List ℕ) → ((k : ℕ) → occurrences k left ≤ occurrences k spares)
-      → occurrences n left ≡ 0 → IsWhole new now left
-  changed_whole left fewer apart = grind arith
+module _ {T : Type 0} {lists : List (List ℕ)} {rows : List (List T)} {spares : List ℕ}
+    (whole : IsWhole lists rows spares) (n : ℕ) (there : n < length lists) (ks : List ℕ)
+    (items : List T) where
+  row_here : row_of (set rows n items) n ≡ items
+  row_here = get_or-set_same rows n items [] (omega (arith, there, whole.there))
 
-  -- the number became a spare, with nothing
-  more_whole : (left : List ℕ)
-      → ((k : ℕ) → occurrences k left ≡ occurrences k (n ∷ []) + occurrences k spares)
-      → occurrences n spares ≡ 0 → items ≡ [] → node.children.items ≡ [] → IsWhole new now left
-  more_whole left told apart no_items no_children =
-      grind (arith, occurrences_other, occurrences_itself)
+  list_here : row_of (set lists n ks) n ≡ ks
+  list_here = get_or-set_same lists n ks [] there
 
-  module _ (len : slab_len new ≡ slab_len old) where
-    -- a node was written
-    pub written_whole : occurrences n spares ≡ 0 → IsWhole new now spares
-    written_whole apart = changed_whole spares (λ k. omega arith) apart
+  row_other : (k : ℕ) → k ≢ n → row_of (set rows n items) k ≡ row_of rows k
+  row_other k other = get_or-set_other rows n k items [] other
 
-    here : (left : List ℕ) → occurrences n left ≡ 0 → node_of (heap_of new now left) n
-        ≡ Some (record { items = items; children = node.children.items })
-    here left apart = slot_seen new now left n apart ∙ (grind arith)
+  list_other : (k : ℕ) → k ≢ n → row_of (set lists n ks) k ≡ row_of lists k
+  list_other k other = get_or-set_other lists n k ks [] other
 
-    pub written : HasNode (heap_of old was spares) n
-        → Writes (heap_of old was spares) (heap_of new now spares) n items node.children.items
-    written present = grind (arith, here, slot_seen, spare_read, counted, in_use)
-
-    -- a spare got what a new node has
-    module _ {left : List ℕ} (parts : spares ≡ n ∷ left) where
-      told : (k : ℕ) → occurrences k spares ≡ occurrences k (n ∷ []) + occurrences k left
-      told k = ap (occurrences k) parts ∙ occurrences-cons k n left
-
-      spare_apart : occurrences n left ≡ 0
-      spare_apart = omega (arith, told n, occurrences_itself n, whole.once n)
-
-      pub stored_whole : IsWhole new now left
-      stored_whole = changed_whole left (λ k. omega (arith, told k)) spare_apart
-
-      pub stored : Stores (heap_of old was spares) (heap_of new now left) n items
-          node.children.items
-      stored =
-          let read = here left spare_apart in
-          grind (arith, spare_read, told, occurrences_itself, slot_seen, occurrences_other, counted)
-
-    -- a node became a spare
-    module _ (present : HasNode (heap_of old was spares) n) (no_items : items ≡ [])
-        (no_children : node.children.items ≡ []) where
-      longer : (k : ℕ)
-          → occurrences k (n ∷ spares) ≡ occurrences k (n ∷ []) + occurrences k spares
-      longer k = occurrences-cons k n spares
-
-      apart : occurrences n spares ≡ 0
-      apart = in_use old was spares n present
-
-      pub freed_whole : IsWhole new now (n ∷ spares)
-      freed_whole = more_whole (n ∷ spares) longer apart no_items no_children
-
-      pub removed : Removes (heap_of old was spares) (heap_of new now (n ∷ spares)) n
-      removed = record {
-        was = present;
-        gone = grind (arith, spare_read, longer, occurrences_itself);
-        others = grind (arith, slot_seen, spare_read, longer, occurrences_other);
-        len = omega (arith, counted whole, counted freed_whole);
-        capacity = len;
+  -- these are spares still
+  fewer_whole : (left : List ℕ) → ((k : ℕ) → occurrences k left ≤ occurrences k spares)
+      → occurrences n left ≡ 0 → IsWhole (set lists n ks) (set rows n items) left
+  fewer_whole left fewer apart =
+      let other : (k : ℕ) → 0 < occurrences k left → k ≢ n = λ k among same.
+      omega (arith, among, apart, ap (λ m. occurrences m left) same) in
+      let was : (k : ℕ) → 0 < occurrences k left → 0 < occurrences k spares = λ k among.
+      omega (arith, among, fewer k) in
+      record {
+        there = omega (arith, whole.there, length-set lists n ks, length-set rows n items);
+        bare = λ k past. row_other k (λ same. omega (arith, past, same, there, length-set lists n ks))
+            ∙ whole.bare k (omega (arith, past, length-set lists n ks));
+        within = λ k among. omega (arith, whole.within k (was k among), length-set lists n ks);
+        no_items = λ k among. row_other k (other k among) ∙ whole.no_items k (was k among);
+        no_children = λ k among. list_other k (other k among) ∙ whole.no_children k (was k among);
+        once = λ k. omega (arith, whole.once k, fewer k);
       }
 
-  -- a spare was added
-  module _ (fresh : get old n ≡ None) (len : slab_len new ≡ slab_len old + 1)
-      (no_items : items ≡ []) (no_children : node.children.items ≡ []) where
-    more : (k : ℕ)
-        → occurrences k (spares ++ n ∷ []) ≡ occurrences k spares + occurrences k (n ∷ [])
-    more k = occurrences-append k spares (n ∷ [])
+  here : (left : List ℕ) → occurrences n left ≡ 0
+      → node_of (heap_of (set lists n ks) (set rows n items) left) n ≡ Some (content items ks)
+  here left apart =
+      slot_seen (set lists n ks) (set rows n items) left n
+      (omega (arith, there, length-set lists n ks)) apart
+      ∙ rw (row_here, list_here) refl
 
-    added_whole : IsWhole new now (spares ++ n ∷ [])
-    added_whole = grind (arith, more_whole, more)
-
-    pub added : IsWhole new now (spares ++ n ∷ [])
-        × SameNodes (heap_of old was spares) (heap_of new now (spares ++ n ∷ []))
-    added = (
-      added_whole,
-      record {
-        nodes = λ k.
-            grind (arith, spare_read, more, occurrences_itself, slot_seen, occurrences_other);
-        len = omega (arith, counted whole, counted added_whole, length-append spares (n ∷ []));
-      },
-    )
-
--- a slab with more capacity, and rows that grew, but have what they had
-module _ {T : Type 0} {slab larger : Slab Node} {was : List (List T)} {spares : List ℕ}
-    (same : larger ≡ record slab { capacity = larger.capacity }) (now : List (List T))
-    (whole : IsWhole slab was spares) (long : length was ≤ length now)
-    (kept : (k : ℕ) → row_of now k ≡ row_of was k) where
-  pub roomier : IsWhole larger now spares
-      × SameNodes (heap_of slab was spares) (heap_of larger now spares)
-  roomier = grind (arith, slot_seen, spare_read, counted)
-
--- a node and its row were written, which left these spares, and made this of the nodes
-pub record Leaves {T : Type 0} (slab : Slab Node) (rows : List (List T)) (spares : List ℕ) (n : ℕ)
-    (node : Node) (items : List T) (left : List ℕ) (Became : Heap T → Heap T → Type 0) : Type 0
-  where
-    pub whole : IsWhole (with_value slab n node) (set rows n items) left
-    pub nodes : Became (heap_of slab rows spares)
-        (heap_of (with_value slab n node) (set rows n items) left)
-    pub len : slab_len (with_value slab n node) ≡ slab_len slab
-
--- a row was written for a spare, which left these
-pub record Filled {T : Type 0} (slab : Slab Node) (rows : List (List T)) (spares : List ℕ) (n : ℕ)
-    (items : List T) (left : List ℕ) : Type 0 where
-  pub whole : IsWhole slab (set rows n items) left
-  pub nodes : Stores (heap_of slab rows spares) (heap_of slab (set rows n items) left) n items []
-
-module _ {T : Type 0} {slab : Slab Node} {rows : List (List T)} {spares : List ℕ}
-    (whole : IsWhole slab rows spares) (n : ℕ) {was : Node} (at : get slab n ≡ Some was)
-    (node : Node) (items : List T) {ks : List ℕ} (children_are : node.children.items ≡ ks) where
-  there : IsSome (get slab n)
-  there = rw at refl
-
-  edit : Changes slab (with_value slab n node) rows (set rows n items) n node items
-  edit = grind (arith, value_updates, get_or-set_same, get_or-set_other, length-set)
-
-  same_len : slab_len (with_value slab n node) ≡ slab_len slab
-  same_len = value_len slab n there node
+  -- any other number has what it had, if it is as often a spare
+  same_slot : (left : List ℕ) (k : ℕ) → k ≢ n → occurrences k left ≡ occurrences k spares
+      → node_of (heap_of (set lists n ks) (set rows n items) left) k
+      ≡ node_of (heap_of lists rows spares) k
+  same_slot left k other often =
+      elim (cases_lt 0 (occurrences k spares)) [
+        | inl among ↦
+            spare_read (set lists n ks) (set rows n items) left k (omega (arith, among, often))
+            ∙ sym (spare_read lists rows spares k among)
+        | inr few ↦
+            elim (cases_lt k (length lists)) [
+              | inl within ↦
+                  slot_seen (set lists n ks) (set rows n items) left k
+                  (omega (arith, within, length-set lists n ks)) (omega (arith, few, often))
+                  ∙ rw (row_other k other, list_other k other) refl
+                  ∙ sym (slot_seen lists rows spares k within (omega (arith, few)))
+              | inr past ↦
+                  slot_past (set lists n ks) (set rows n items) left k
+                  (omega (arith, past, length-set lists n ks))
+                  ∙ sym (slot_past lists rows spares k past)
+            ]
+      ]
 
   -- a node was written
-  pub edited : HasNode (heap_of slab rows spares) n
-      → Leaves slab rows spares n node items spares (λ old new. Writes old new n items ks)
-  edited present = record {
-    whole = written_whole whole edit same_len (in_use slab rows spares n present);
-    nodes = rw (← children_are) (written whole edit same_len present);
-    len = same_len;
-  }
+  pub edited : HasNode (heap_of lists rows spares) n
+      → Leaves lists rows spares n ks items spares (λ old new. Writes old new n items ks)
+  edited present =
+      let apart = in_use lists rows spares n present in
+      let now = here spares apart in
+      let kept = fewer_whole spares (λ k. omega arith) apart in
+      record {
+        whole = kept;
+        nodes = record {
+          was = present;
+          present = rw now refl;
+          items_are = rw now refl;
+          children_are = rw now refl;
+          others = λ k other. same_slot spares k other refl;
+          len = omega (arith, counted whole, counted kept, length-set lists n ks);
+          capacity = length-set lists n ks;
+        };
+      }
 
   -- a spare got what a new node has
   pub filled : {left : List ℕ} → spares ≡ n ∷ left
-      → Leaves slab rows spares n node items left (λ old new. Stores old new n items ks)
-  filled parts =
-      grind (arith, stored_whole whole edit same_len parts, stored whole edit same_len parts)
+      → Leaves lists rows spares n ks items left (λ old new. Stores old new n items ks)
+  filled {left} parts =
+      let told : (k : ℕ) → occurrences k spares ≡ occurrences k (n ∷ []) + occurrences k left
+      = λ k. ap (occurrences k) parts ∙ occurrences-cons k n left in
+      let apart : occurrences n left ≡ 0 =
+      omega (arith, told n, occurrences_itself n, whole.once n) in
+      let now = here left apart in
+      let kept = fewer_whole left (λ k. omega (arith, told k)) apart in
+      record {
+        whole = kept;
+        nodes = record {
+          fresh = spare_read lists rows spares n (omega (arith, told n, occurrences_itself n));
+          present = rw now refl;
+          items_are = rw now refl;
+          children_are = rw now refl;
+          others = λ k other.
+              same_slot left k other
+              (omega (arith, told k, occurrences_other k n (λ same. other (sym same))));
+          len =
+              omega (
+                arith,
+                counted whole,
+                counted kept,
+                length-set lists n ks,
+                ap length parts,
+              );
+          capacity = length-set lists n ks;
+        };
+      }
 
   -- a node became a spare
-  pub emptied : HasNode (heap_of slab rows spares) n → items ≡ [] → ks ≡ []
-      → Leaves slab rows spares n node items (n ∷ spares) (λ old new. Removes old new n)
-  emptied present no_items none = record {
-    whole = freed_whole whole edit same_len present no_items (children_are ∙ none);
-    nodes = removed whole edit same_len present no_items (children_are ∙ none);
-    len = same_len;
+  pub emptied : HasNode (heap_of lists rows spares) n → items ≡ [] → ks ≡ []
+      → Leaves lists rows spares n ks items (n ∷ spares) (λ old new. Removes old new n)
+  emptied present no_items no_children =
+      let apart = in_use lists rows spares n present in
+      let kept = fewer_whole spares (λ k. omega arith) apart in
+      let told : (k : ℕ) → occurrences k (n ∷ spares) ≡ occurrences k (n ∷ [])
+      + occurrences k spares = λ k. occurrences-cons k n spares in
+      let freed : IsWhole (set lists n ks) (set rows n items) (n ∷ spares)
+      = grind (arith, occurrences_other, occurrences_itself, row_here, list_here, length-set) in
+      record {
+        whole = freed;
+        nodes = record {
+          was = present;
+          gone = spare_read (set lists n ks) (set rows n items) (n ∷ spares) n
+              (occurrences_here n spares);
+          others = λ k other.
+              same_slot (n ∷ spares) k other
+              (omega (arith, told k, occurrences_other k n (λ same. other (sym same))));
+          len = omega (arith, counted whole, counted freed, length-set lists n ks);
+          capacity = length-set lists n ks;
+        };
+      }
+
+-- a number with nothing was added, as a spare
+module _ {T : Type 0} {lists : List (List ℕ)} {rows : List (List T)} {spares : List ℕ}
+    (whole : IsWhole lists rows spares) (n : ℕ) (next : n ≡ length lists)
+    (fits : n < length rows) where
+  more : (k : ℕ)
+      → occurrences k (spares ++ n ∷ []) ≡ occurrences k spares + occurrences k (n ∷ [])
+  more k = occurrences-append k spares (n ∷ [])
+
+  longer : length (lists ++ [] ∷ []) ≡ length lists + 1
+  longer = length-append lists ([] ∷ [])
+
+  list_kept : (k : ℕ) → k < length lists → row_of (lists ++ [] ∷ []) k ≡ row_of lists k
+  list_kept k within = get_or_append_left lists ([] ∷ []) [] k within
+
+  apart : occurrences n spares ≡ 0
+  apart =
+      elim (cases_lt 0 (occurrences n spares)) [
+        | inl among ↦ absurd (omega (arith, whole.within n among, next))
+        | inr few ↦ omega (arith, few)
+      ]
+
+  either : {k : ℕ} → {A : Type 0} → 0 < occurrences k (spares ++ n ∷ [])
+      → (k ≡ n → A) → (0 < occurrences k spares → A) → A
+  either {k} among this before =
+      elim (cases_eq k n) [
+        | inl same ↦ this same
+        | inr other ↦
+            before
+            (omega (arith, among, more k, occurrences_other k n (λ same. other (sym same))))
+      ]
+
+  added_whole : IsWhole (lists ++ [] ∷ []) rows (spares ++ n ∷ [])
+  added_whole = record {
+    there = omega (arith, longer, next, fits);
+    bare = λ k past. whole.bare k (omega (arith, longer, past));
+    within = λ k among.
+        either among (λ same. omega (arith, same, next, longer))
+        (λ was. omega (arith, whole.within k was, longer));
+    no_items = λ k among.
+        either among (λ same. rw same (whole.bare n (omega (arith, next))))
+        (λ was. whole.no_items k was);
+    no_children = λ k among.
+        either among (λ same. rw same (get_or_at lists [] [] [] n (sym next)))
+        (λ was. list_kept k (whole.within k was) ∙ whole.no_children k was);
+    once = λ k.
+        elim (cases_eq k n) [
+          | inl same ↦ rw same (omega (arith, more n, apart, occurrences_itself n))
+          | inr other ↦
+              omega (
+                arith,
+                more k,
+                whole.once k,
+                occurrences_other k n (λ same. other (sym same)),
+              )
+        ];
   }
 
--- a node that had no item became a spare
-module _ {T : Type 0} {slab : Slab Node} {rows : List (List T)} {spares : List ℕ}
-    (whole : IsWhole slab rows spares) (n : ℕ) {was : Node} (at : get slab n ≡ Some was)
-    (present : HasNode (heap_of slab rows spares) n)
-    (none : length (node_items (heap_of slab rows spares) n) ≡ 0) (node : Node)
-    (no_children : node.children.items ≡ []) where
-  no_items : row_of rows n ≡ []
-  no_items = nil_from_length _ (sym (ap length (items_seen whole n present)) ∙ none)
-
-  pub freed : Leaves slab rows spares n node (row_of rows n) (n ∷ spares)
-      (λ old new. Removes old new n)
-  freed = emptied whole n at node (row_of rows n) no_children present no_items refl
-
--- an item was put among those of a node, or taken out
-module _ {T : Type 0} {slab : Slab Node} {rows : List (List T)} {spares : List ℕ}
-    (whole : IsWhole slab rows spares) (n : ℕ) {was : Node} (at : get slab n ≡ Some was)
-    (present : HasNode (heap_of slab rows spares) n) (node : Node) (i : ℕ) where
-  pub put_among : (x : T) → {ks : List ℕ} → node.children.items ≡ ks
-      → Leaves slab rows spares n node (insert (row_of rows n) i x) spares
-      (λ old new. Writes old new n (insert (node_items (heap_of slab rows spares) n) i x) ks)
-  put_among x children =
-      let items = items_seen whole n present in
-      rw items (edited whole n at node (insert (row_of rows n) i x) children present)
-
-  pub taken_out : {ks : List ℕ} → node.children.items ≡ ks
-      → Leaves slab rows spares n node (remove (row_of rows n) i) spares
-      (λ old new. Writes old new n (remove (node_items (heap_of slab rows spares) n) i) ks)
-  taken_out children =
-      let items = items_seen whole n present in
-      rw items (edited whole n at node (remove (row_of rows n) i) children present)
-
--- a node went to the end of another, with an item between
-module _ {T : Type 0} {slab : Slab Node} {rows : List (List T)} {spares : List ℕ}
-    (whole : IsWhole slab rows spares) (l r : ℕ) (apart : l ≢ r) {lower upper : Node}
-    (left_at : get slab l ≡ Some lower) (right_at : get slab r ≡ Some upper)
-    (left : HasNode (heap_of slab rows spares) l) (right : HasNode (heap_of slab rows spares) r)
-    (blank : Node) (no_children : blank.children.items ≡ []) (node : Node) (x : T)
-    (children_are : node.children.items ≡ lower.children.items ++ upper.children.items) where
-  gone : Leaves slab rows spares r blank [] (r ∷ spares) (λ old new. Removes old new r)
-  gone = emptied whole r right_at blank [] no_children right refl refl
-
-  pub absorbs : Leaves (with_value slab r blank) (set rows r []) (r ∷ spares) l node
-      (row_of rows l ++ x ∷ row_of rows r) (r ∷ spares)
-      (λ old new. Absorbs (heap_of slab rows spares) new l x r)
-  absorbs =
-      grind (
+  pub added : IsWhole (lists ++ [] ∷ []) rows (spares ++ n ∷ [])
+      × SameNodes (heap_of lists rows spares) (heap_of (lists ++ [] ∷ []) rows (spares ++ n ∷ []))
+  added = (
+    added_whole,
+    record {
+      nodes = λ k.
+          grind (
+            arith,
+            spare_read,
+            more,
+            occurrences_itself,
+            slot_seen,
+            occurrences_other,
+            slot_past,
+            list_kept,
+            longer,
+          );
+      len = omega (
         arith,
-        seen,
-        edited gone.whole l
-            (get_or-set_other slab.slots r l (Some blank) None apart ∙ left_at) node
-            (row_of rows l ++ x ∷ row_of rows r) children_are
-            (rw (gone.nodes.others l apart) left),
-        heap_of,
-        with_value,
-        gone,
-      )
+        counted whole,
+        counted added_whole,
+        longer,
+        length-append spares (n ∷ []),
+      );
+    },
+  )
+
+-- rows that grew, but have what they had
+module _ {T : Type 0} {lists : List (List ℕ)} {was : List (List T)} {spares : List ℕ}
+    (now : List (List T)) (whole : IsWhole lists was spares) (long : length was ≤ length now)
+    (kept : (k : ℕ) → row_of now k ≡ row_of was k) where
+  pub roomier : IsWhole lists now spares
+      × SameNodes (heap_of lists was spares) (heap_of lists now spares)
+  roomier = grind (arith, slot_seen, spare_read, slot_past, counted)
+
+-- a spare got items alone, which left these spares
+pub record Stocked {T : Type 0} (lists : List (List ℕ)) (rows : List (List T)) (spares : List ℕ)
+    (n : ℕ) (items : List T) (left : List ℕ) : Type 0 where
+  pub whole : IsWhole lists (set rows n items) left
+  pub nodes : Stores (heap_of lists rows spares) (heap_of lists (set rows n items) left) n items []
 
 -- a spare has nothing, and may get items
-module _ {T : Type 0} {slab : Slab Node} {rows : List (List T)} {spares : List ℕ}
-    (whole : IsWhole slab rows spares) {n : ℕ} {left : List ℕ} (parts : spares ≡ n ∷ left) where
+module _ {T : Type 0} {lists : List (List ℕ)} {rows : List (List T)} {spares : List ℕ}
+    (whole : IsWhole lists rows spares) {n : ℕ} {left : List ℕ} (parts : spares ≡ n ∷ left) where
   among : 0 < occurrences n spares
   among = omega (arith, ap (occurrences n) parts, occurrences-cons, occurrences_itself)
 
-  pub spare_found : IsSome (get slab n)
-  spare_found = content_some (row_of rows n) (get slab n) (rw (whole.empty n among) refl)
+  pub spare_there : n < length lists
+  spare_there = whole.within n among
 
   pub spare_row : n < length rows
-  spare_row = whole.there n spare_found
+  spare_row = omega (arith, whole.there, spare_there)
 
   pub bare_row : row_of rows n ≡ []
-  bare_row = grind (arith, among)
+  bare_row = whole.no_items n among
 
-  pub bare_children : {was : Node} → get slab n ≡ Some was → was.children.items ≡ []
-  bare_children at =
-      ap children_of (sym (ap (content_of (row_of rows n)) at) ∙ whole.empty n among)
-
-  node_there : (slot : Option Node) → get slab n ≡ slot → (node : Node) × (get slab n ≡ Some node)
-  node_there (Some node) is = (node, is)
-  node_there None is = absurd (grind (arith, spare_found))
-
-  pub stocked : (items : List T) → Filled slab rows spares n items left
-  stocked items =
-      let node = node_there (get slab n) refl in
-      let same : with_value slab n node.0 ≡ slab =
-      ap (λ slots. record slab { slots = slots })
-      (ap (λ slot. set slab.slots n slot) (sym node.1) ∙ set-get_or slab.slots n None) in
-      let filled = filled whole n node.1 node.0 items (bare_children node.1) parts in
-      record {
-        whole = subst (λ s. IsWhole s (set rows n items) left) same filled.whole;
-        nodes = subst
-            (λ s. Stores (heap_of slab rows spares) (heap_of s (set rows n items) left) n items [])
-            same filled.nodes;
-      }
+  pub bare_children : row_of lists n ≡ []
+  bare_children = whole.no_children n among
 
   -- a node in use is no spare
-  pub apart_from_spare : (k : ℕ) → HasNode (heap_of slab rows spares) k → k ≢ n
+  pub apart_from_spare : (k : ℕ) → HasNode (heap_of lists rows spares) k → k ≢ n
   apart_from_spare k present same =
-      omega (arith, in_use slab rows spares k present, among, ap (λ m. occurrences m spares) same)
+      omega (arith, in_use lists rows spares k present, among, ap (λ m. occurrences m spares) same)
+
+  pub stocked : (items : List T) → Stocked lists rows spares n items left
+  stocked items =
+      let filled = filled whole n spare_there [] items parts in
+      let same : set lists n [] ≡ lists = rw (← bare_children) (set-get_or lists n []) in
+      record {
+        whole = subst (λ l. IsWhole l (set rows n items) left) same filled.whole;
+        nodes = subst (λ l. Stores (heap_of lists rows spares) (heap_of l (set rows n items) left) n
+            items []) same filled.nodes;
+      }
 
 -- no node at all
-pub none_whole : {T : Type 0} (slab : Slab Node) (rows : List (List T)) (spares : List ℕ)
-    → slab.slots ≡ [] → rows ≡ [] → spares ≡ [] → IsWhole slab rows spares
-none_whole slab rows spares no_slots no_rows no_spares = grind (arith, occurrences-nil)
+pub none_whole : {T : Type 0} (lists : List (List ℕ)) (rows : List (List T)) (spares : List ℕ)
+    → lists ≡ [] → rows ≡ [] → spares ≡ [] → IsWhole lists rows spares
+none_whole lists rows spares no_lists no_rows no_spares = grind (arith, occurrences-nil)
 
 -- another item was written in the place of one
-module _ {T : Type 0} {slab : Slab Node} {rows : List (List T)} {spares : List ℕ}
-    (whole : IsWhole slab rows spares) (n i : ℕ) (x : T)
-    (present : HasNode (heap_of slab rows spares) n) where
-  pub item_written : heap_of slab (set rows n (set (row_of rows n) i x)) spares
-      ≡ with_item (heap_of slab rows spares) n i x
-  item_written = grind (arith, in_use, contents_set, row_there, without_set, found, slot_seen)
+module _ {T : Type 0} {lists : List (List ℕ)} {rows : List (List T)} {spares : List ℕ}
+    (whole : IsWhole lists rows spares) (n i : ℕ) (x : T)
+    (present : HasNode (heap_of lists rows spares) n) where
+  pub item_written : heap_of lists (set rows n (set (row_of rows n) i x)) spares
+      ≡ with_item (heap_of lists rows spares) n i x
+  item_written =
+      grind (arith, in_use, contents_set, row_there, without_set, number_there, slot_seen)
 
 -- what fits a node fits its numbers
 pub fits_full : {T : Type 0} (child : Option ℕ) (xs : List T) (ks : List ℕ) → length xs ≡ 11
@@ -450,4 +461,4 @@ pub fits_place : {T : Type 0} (child : Option ℕ) (place : ℕ) (xs : List T) (
     → place ≤ length xs + 1 → length xs < 11 → FitsChild child xs ks → FitsPlace child place ks
 fits_place None place xs ks near room fits = tt
 fits_place (Some k) place xs ks near room fits =
-    (omega (arith, near, fits), omega (arith, room, fits))
+    (omega (arith, fits), omega (arith, near, fits), omega (arith, room, fits))

@@ -1,3 +1,4 @@
+pub mod Children
 pub mod Heap
 pub mod Occurrences
 pub mod Rows

@@ -5,9 +5,8 @@ ghost use Rattle.std.specs.Vec.Iter.{into_iter_items};
 ghost use Rattle.std.specs.VecDeque.{deque_capacity};
 ghost use Rattle.range_nodes.specs.Heap.{HasNode, node_count, HasRoomFor, SameNodes, with_child, with_item, FitsChild, Writes, Stores, Removes, Divides, left_items, right_items, HasPair, RotatesLeft, RotatesRight, Merges, Absorbs, node_items, node_children, node_child};
 
-use crate::node::Node;
+use crate::children::Children;
 use crate::rows::Rows;
-use slab::Slab;
 use std::alloc::{AllocError, Global};
 use std::collections::VecDeque;
 use std::marker::Model;
@@ -31,7 +30,7 @@ pub const CHILD_PLACES: usize = CAPACITY + 1;
 /// Nodes under numbers, each with items and the numbers of its children.
 #[derive(Drop)]
 pub struct Nodes<T> {
-    slab: Slab<Node>,
+    children: Children,
     rows: Rows<T>,
     // The numbers of empty nodes that are not in use. The first is taken next: one that was in use
     // before, or the least, so that the memory of the others need not be written.
@@ -45,15 +44,14 @@ impl<T> Model for Nodes<T> {
 
     ghost coded = { heap_code T.code };
 
-    ghost use Rattle.std.specs.Prelude.{◌≤◌};
+    ghost use Rattle.std.specs.Prelude.{◌≤◌, length};
     ghost use Rattle.std.specs.VecDeque.{deque_capacity};
-    ghost use Rattle.slab.specs.Slab.{slab_len};
     ghost use Rattle.range_nodes.specs.Spares.{heap_of, IsWhole};
 
-    ghost view = { λ s. heap_of s.slab s.rows s.spares.items };
+    ghost view = { λ s. heap_of s.children.lists s.rows s.spares.items };
 
-    ghost invariant = { λ s. IsWhole s.slab s.rows s.spares.items
-        × (slab_len s.slab ≤ deque_capacity s.spares) };
+    ghost invariant = { λ s. IsWhole s.children.lists s.rows s.spares.items
+        × (length s.children.lists ≤ deque_capacity s.spares) };
 }
 
 /// A node was cut in two: `middle` stands between it and `right`.
@@ -81,7 +79,7 @@ impl<T: Drop> Nodes<T> {
         ensures capacity { result.capacity ≡ 0 }
     {
         Nodes {
-            slab: Slab::new(alloc),
+            children: Children::new(alloc),
             rows: Rows::new(alloc),
             spares: VecDeque::new(alloc),
         }
@@ -91,7 +89,7 @@ impl<T: Drop> Nodes<T> {
     pub fn len(&self) -> usize
         ensures { result ≡ node_count self.now }
     {
-        self.slab.len() - self.spares.len()
+        self.children.len() - self.spares.len()
     }
 
     /// How many nodes there can be without an allocation.
@@ -99,7 +97,7 @@ impl<T: Drop> Nodes<T> {
         ensures value { result ≡ self.now.capacity }
         ensures holds_all { node_count self.now ≤ result }
     {
-        self.slab.len()
+        self.children.len()
     }
 
     /// Makes room for so many more nodes. Where it fails, the room that it made is kept.
@@ -113,15 +111,12 @@ impl<T: Drop> Nodes<T> {
         if missing == 0 {
             return Ok(());
         }
-        self.slab.reserve(missing)?;
-        // For the proof: numbers are below the capacity, which is a `usize`.
-        let _capacity = self.slab.capacity();
-        self.spares
-            .reserve(self.slab.len() - self.spares.len() + missing)?;
-        for _ in 0..missing {
-            self.rows
-                .reserve(alloc, self.slab.vacant_key().saturating_add(1))?;
-            let number = self.slab.insert_reserved(Node::new());
+        let many = self.children.len().checked_add(missing).ok_or(AllocError)?;
+        self.children.reserve(many)?;
+        self.spares.reserve(many - self.spares.len())?;
+        self.rows.reserve(alloc, many)?;
+        for number in self.children.len()..many {
+            self.children.add();
             self.spares.push_back_reserved(number);
         }
         Ok(())
@@ -160,7 +155,7 @@ impl<T: Drop> Nodes<T> {
         requires within { index < length (node_children self.now number) }
         ensures { result ≡ node_child self.now number index }
     {
-        self.slab[number].children.as_slice()[index]
+        self.children.child_at(number, index)
     }
 
     /// The item of a node at an index, to be changed where it stands.
@@ -186,6 +181,7 @@ impl<T: Drop> Nodes<T> {
 
     /// Puts an item before the one at `index` of a node that is not full, and a child, if there is
     /// one, before the one at `place`.
+    #[inline]
     pub fn put(&mut self, number: usize, index: usize, item: T, place: usize, child: Option<usize>)
         requires present { HasNode self.old number }
         requires within { index ≤ length (node_items self.old number) }
@@ -196,7 +192,7 @@ impl<T: Drop> Nodes<T> {
         ensures { Writes self.old self.new number (insert (node_items self.old number) index item)
             (with_child (node_children self.old number) place child) }
     {
-        self.slab[number].add(place, child);
+        self.children.put(number, place, child);
         self.rows.put(number, index, item);
     }
 
@@ -215,8 +211,7 @@ impl<T: Drop> Nodes<T> {
             result.right }
     {
         let right = next_spare(&mut self.spares);
-        let upper = self.slab[number].divide(index + 1, child);
-        self.slab[right] = upper;
+        self.children.divide(number, right, index + 1, child);
         let middle = self.rows.divide(number, right, index, item);
         Split { middle, right }
     }
@@ -261,7 +256,7 @@ impl<T: Drop> Nodes<T> {
         ensures { Stores self.old self.new result [] (child ∷ []) }
     {
         let number = next_spare(&mut self.spares);
-        self.slab[number].children.push(child);
+        self.children.put_first(number, child);
         number
     }
 
@@ -271,7 +266,7 @@ impl<T: Drop> Nodes<T> {
         requires empty { length (node_items self.old number) ≡ 0 }
         ensures { Removes self.old self.new number }
     {
-        self.slab[number] = Node::new();
+        self.children.clear(number);
         self.spares.push_front_reserved(number);
     }
 
@@ -325,6 +320,7 @@ impl<T: Drop> Nodes<T> {
     }
 
     /// Takes the item at an index out of a node, and the child at `place`, if there is one.
+    #[inline]
     pub fn take_beside(&mut self, number: usize, index: usize, place: usize) -> (T, Option<usize>)
         requires present { HasNode self.old number }
         requires within { index < length (node_items self.old number) }
@@ -333,7 +329,7 @@ impl<T: Drop> Nodes<T> {
         ensures rest { Writes self.old self.new number (remove (node_items self.old number) index)
             (remove (node_children self.old number) place) }
     {
-        let child = self.slab[number].take(place);
+        let child = self.children.take(number, place);
         (self.rows.take(number, index), child)
     }
 
@@ -350,8 +346,7 @@ impl<T: Drop> Nodes<T> {
             + length (node_children self.old right) ≤ CHILD_PLACES }
         ensures { Absorbs self.old self.new left middle right }
     {
-        let upper = mem::replace(&mut self.slab[right], Node::new());
-        self.slab[left].absorb(&upper);
+        self.children.absorb(left, right);
         self.rows.absorb(left, middle, right);
         self.spares.push_front_reserved(right);
     }

@@ -139,6 +139,7 @@ impl<T: Drop> Storage<T> for BoxStorage<T> {
         Some(edge)
     }
 
+    #[inline]
     fn get(&self, p: Edge) -> &T {
         let home = self.home(p);
         self.nodes.item_at(home.node, home.index)

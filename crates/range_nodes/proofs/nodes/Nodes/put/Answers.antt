@@ -1,40 +1,64 @@
-use Rattle.std.proofs.Common.{arith}
-use Rattle.range_nodes.proofs.Spares.{IsSeen, fits_place, found, put_among, seen}
+use Rattle.std.proofs.Common.{List, ℕ, arith}
+use Rattle.std.proofs.Math.ListN.{length-set}
+use Rattle.std.specs.List.{insert}
+use Rattle.range_nodes.specs.Heap.{Writes, with_child}
+use Rattle.range_nodes.specs.Rows.{row_of}
+use Rattle.range_nodes.proofs.Spares.{Leaves, children_seen, edited, fits_place, items_seen, number_there, row_there}
 use Rattle.range_nodes.proofs.nodes.Nodes.put.Given.{Over}
 use Rattle.range_nodes.proofs.nodes.Nodes.put.Goals as goal
-use Rattle.range_nodes.proofs.nodes.Nodes.put.Goals.{After-index_mut}
+use Rattle.range_nodes.proofs.nodes.Nodes.put.Goals.{After-put}
 
-seen_node : (g : Over) (c : After-index_mut g) → IsSeen c.self.inside.slab c.self.inside.rows
-    c.self.inside.spares.items c.args.number c.index_mut.result.now
-seen_node g c =
-    grind (arith, seen)
+written : (g : Over) (c : After-put g) → Leaves c.self.inside.children.lists c.self.inside.rows
+    c.self.inside.spares.items c.args.number
+    (with_child (row_of c.self.inside.children.lists c.args.number) c.args.place c.args.child)
+    (insert (row_of c.self.inside.rows c.args.number) c.args.index c.args.item)
+    c.self.inside.spares.items (λ old new. Writes old new c.args.number
+    (insert (row_of c.self.inside.rows c.args.number) c.args.index c.args.item)
+    (with_child (row_of c.self.inside.children.lists c.args.number) c.args.place c.args.child))
+written g c =
+    let present = rw (← c.self.view_is) at c.requires.present in
+    edited c.self.invariant.0 c.args.number
+    (number_there c.self.invariant.0 c.args.number present) _ _ present
 
-pub index_mut-requires : goal.index_mut-requires
-index_mut-requires g c = grind (arith, found)
+pub put-requires : goal.put-requires
+put-requires g c =
+    let present = rw (← c.self.view_is) at c.requires.present in
+    let items = items_seen c.self.invariant.0 c.args.number present in
+    let children = children_seen c.self.invariant.0 c.args.number present in
+    let near = rw (← c.self.view_is) at c.requires.near in
+    let room = rw (← c.self.view_is) at c.requires.room in
+    let fits = rw (← c.self.view_is) at c.requires.child in
+    fits_place c.args.child c.args.place _ _ (rw items at near) (rw items at room)
+    (rw (items, children) at fits)
 
-pub add-requires : goal.add-requires
-add-requires g c =
-    grind (arith, seen, seen_node, fits_place)
+pub put-requires-2-clause-number : goal.put-requires-2-clause-number
+put-requires-2-clause-number g c =
+    row_there c.self.invariant.0 c.args.number (rw (← c.self.view_is) at c.requires.present)
 
-pub put-requires-clause-within : goal.put-requires-clause-within
-put-requires-clause-within g c =
-    grind (arith, seen, seen_node)
+pub put-requires-2-clause-within : goal.put-requires-2-clause-within
+put-requires-2-clause-within g c =
+    let present = rw (← c.self.view_is) at c.requires.present in
+    let within = rw (← c.self.view_is) at c.requires.within in
+    rw (items_seen c.self.invariant.0 c.args.number present) at within
 
-pub put-requires-clause-room : goal.put-requires-clause-room
-put-requires-clause-room g c =
-    grind (arith, seen, seen_node)
+pub put-requires-2-clause-room : goal.put-requires-2-clause-room
+put-requires-2-clause-room g c =
+    let present = rw (← c.self.view_is) at c.requires.present in
+    let room = rw (← c.self.view_is) at c.requires.room in
+    rw (items_seen c.self.invariant.0 c.args.number present) at room
 
 pub invariant_of-self : goal.invariant_of-self
 invariant_of-self g c =
-    let put = put_among c.self.invariant.0 c.args.number c.index_mut.ensures.value
-    (rw (← c.self.view_is) at c.requires.present) c.add.new.self c.args.index c.args.item
-    c.add.ensures in
-    (rw c.put.ensures put.whole, omega (arith, c.self.invariant.1, put.len))
+    let written = written g (goal.at.invariant_of-self g c).After-put in
+    rw (c.put.ensures, c.put-2.ensures)
+    (written.whole, omega (arith, c.self.invariant.1, length-set {A = List ℕ}))
 
 pub returns : goal.returns
 returns g c =
-    let seen = seen_node g (goal.at.returns g c).After-index_mut in
-    let put = put_among c.self.invariant.0 c.args.number c.index_mut.ensures.value
-    (rw (← c.self.view_is) at c.requires.present) c.add.new.self c.args.index c.args.item
-    c.add.ensures in
-    rw (← c.self.view_is, c.put.ensures) (rw seen.children put.nodes)
+    let present = rw (← c.self.view_is) at c.requires.present in
+    let written = written g (goal.at.returns g c).After-put in
+    rw (← c.self.view_is, c.put.ensures, c.put-2.ensures)
+    (rw (
+      items_seen c.self.invariant.0 c.args.number present,
+      children_seen c.self.invariant.0 c.args.number present,
+    ) written.nodes)

@@ -1,7 +1,7 @@
 use Rattle.std.proofs.Common.{sym, ap, ◌∙◌, arith}
 use Rattle.std.specs.List.{insert}
 use Rattle.range_nodes.proofs.Halves.{take_insert_before, take_insert_after, drop_insert_after, drop_insert_before}
-use Rattle.range_nodes.proofs.node.divide_children.Goals as goal
+use Rattle.range_nodes.proofs.children.divide_children.Goals as goal
 
 pub returns-then-index-le-HALF : goal.returns-then-index-le-HALF
 returns-then-index-le-HALF c =
