@@ -1,5 +1,5 @@
 //! Many stored ranges at once.
-ghost use Rattle.std.specs.Prelude.{◌≡◌, ◌⊎◌, ◌<◌, ◌≤◌, ◌∷◌, ◌++◌, List, [], take, drop, map, reverse, length, MatchOption};
+ghost use Rattle.std.specs.Prelude.{◌≡◌, ◌⊎◌, ℕ, ◌+◌, ◌<◌, ◌≤◌, ◌∷◌, ◌++◌, List, [], take, drop, map, reverse, length, MatchOption};
 ghost use Rattle.btree_range_map.specs.Holding.{box_items};
 ghost use Rattle.btree_range_map.specs.Overlapping.{AreOverlapping};
 ghost use Rattle.btree_range_map.specs.Position.{bound_of};
@@ -14,6 +14,7 @@ use btree_range_map::storage::Item;
 use btree_range_map::{AnyRange, DefaultMapContainer, RangeMap};
 use range_ffi::items::Shown;
 use range_ffi::status::{DONE, NONE};
+use range_map::inner::onward::Onward;
 use std::ops::Bound;
 
 /// What gives what crosses to C, one after the other.
@@ -45,6 +46,47 @@ pub fn fill<X, E: Copy + Drop, S: Source<E, X>>(source: &mut S, slots: &mut [E])
             }
             None => return count,
         }
+    }
+    count
+}
+
+/// Writes the items to the slots from one on.
+fn write_each<K, V, E: Shown<K, V>>(items: &[Item<AnyRange<K>, V>], slots: &mut [E], start: usize)
+    requires { start + length items.now ≤ length slots.old }
+    ensures shown { map E.said (take (start + length items.now) slots.new)
+        ≡ map E.said (take start slots.old) ++ items.now }
+    ensures rest { (n : ℕ) → start + length items.now ≤ n → drop n slots.new ≡ drop n slots.old }
+    ensures long { length slots.new ≡ length slots.old }
+{
+    let mut count = 0;
+    while count < items.len() {
+        let item = &items[count];
+        slots[start + count] = E::of_item(&item.key, &item.value);
+        count += 1;
+    }
+}
+
+/// Writes the items that are left to the front of the slots, as `fill` does. Those that lie together
+/// are written by one loop.
+pub fn fill_onward<K: PartialEnum, V: Eq + Drop, E: Shown<K, V>>(
+    items: &mut Onward<'_, K, V, DefaultMapContainer<Item<AnyRange<K>, V>>>,
+    slots: &mut [E],
+) -> usize
+    ensures shown { items.old ≡ map E.said (take result slots.new) ++ items.new }
+    ensures rest { drop result slots.new ≡ drop result slots.old }
+    ensures within { result ≤ length slots.old }
+    ensures all { result < length slots.old → items.new ≡ [] }
+{
+    let mut count = 0;
+    while count < slots.len() {
+        let Some(item) = items.next() else {
+            return count;
+        };
+        slots[count] = E::of_item(&item.key, &item.value);
+        count += 1;
+        let near = items.next_items(slots.len() - count);
+        write_each(near, slots, count);
+        count += near.len();
     }
     count
 }

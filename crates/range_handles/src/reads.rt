@@ -14,13 +14,14 @@ ghost use Rattle.btree_range_map.specs.Range.{IsEmptyRange};
 ghost use Rattle.range_ffi.specs.Bindings.{binding_value};
 ghost use Rattle.range_ffi.specs.Flags.{number_of, from_key, upto_key, said_range};
 
-use crate::batch::{fill, fill_one, from, upto, within};
+use crate::batch::{fill, fill_one, fill_onward, from, upto, within};
 use crate::key::Key;
 use btree_range_map::range::traits::{Bounded, Counted, measure_counts_keys};
 use btree_range_map::{AnyRange, RangeMap};
 use range_ffi::bounds::{Binding, Length};
 use range_ffi::items::Shown;
 use range_ffi::status::{DONE, NO_ROOM, NONE, answer};
+use range_map::inner::onward::onward_from;
 
 /// Writes the stored range that holds the key, with its value.
 pub fn get<K: Key, V: Eq + Drop, E: Shown<K, V>>(
@@ -163,8 +164,8 @@ pub fn read<K: Key, V: Eq + Drop, E: Shown<K, V>>(
     ensures behind { drop count.new entries.new ≡ drop count.new entries.old }
     ensures done { result ≡ DONE }
 {
-    let mut items = from(stored, key);
-    *count = fill(&mut items, entries);
+    let mut items = onward_from(stored, key);
+    *count = fill_onward(&mut items, entries);
     DONE
 }
 

@@ -13,6 +13,7 @@ pub mod Likeness
 pub mod MappedValues
 pub mod MeasureTotals
 pub mod Once
+pub mod Onward
 pub mod Overlays
 pub mod PartWay
 pub mod FreePieces

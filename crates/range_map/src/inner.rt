@@ -2,5 +2,6 @@
 
 pub mod append;
 pub mod build;
+pub mod onward;
 pub mod relate;
 pub mod scan;

@@ -1,5 +1,6 @@
 -- The items that a range meets are one run of a stored list.
-use Rattle.range_runs.proofs.Common.{common_steps, PLe, PLt, lower, Every, any_none, any_left, any_right, any_split, every_at, list_is_take_and_drop, drop_all, unbounded_end, IsBoundOfKey, with_bounds, AnyRange, MeetsSome, IsStored, KeyOrder, IsLawful, start_position, end_position, position_cmp, Position, AreOverlapping, le_refl, lt_le, le_trans, lt_not_le, le_lt_trans, rank_or_len, Item, ◌≡◌, refl, sym, ap, ◌∙◌, ℕ, zero, suc, ◌+◌, ◌-◌, ◌<◌, ◌≤◌, Bool, true, false, List, [], ◌∷◌, ◌++◌, length, take, drop, get_or, arith, Option, Some, None, inl, inr, drop-drop, IsEquivalence, is_gt, MatchOption, Bound, Included, Unbounded, IsFound, IsLastStarting, index_after}
+use Rattle.range_runs.proofs.Common.{common_steps, PLe, PLt, lower, Every, any_none, any_left, any_right, any_split, every_at, list_is_take_and_drop, drop_all, unbounded_end, IsBoundOfKey, with_bounds, AnyRange, MeetsSome, IsStored, KeyOrder, IsLawful, start_position, end_position, position_cmp, Position, AreOverlapping, le_refl, lt_le, le_trans, lt_not_le, le_lt_trans, rank_or_len, Item, ◌≡◌, refl, sym, ap, ◌∙◌, ℕ, zero, suc, ◌+◌, ◌-◌, ◌<◌, ◌≤◌, Bool, true, false, List, [], ◌∷◌, ◌++◌, length, take, drop, length-drop, get_or, arith, Option, Some, None, inl, inr, drop-drop, IsEquivalence, is_gt, MatchOption, Bound, Included, Unbounded, IsFound, IsLastStarting, index_after}
+use Rattle.std.proofs.lemmas.List.{take_all}
 use Rattle.range_runs.proofs.Forms.{every_front, every_back}
 use Rattle.range_runs.proofs.Found.{starts_rise, stored_tail, every_nonempty}
 use Rattle.range_runs.proofs.Listed.{IsListed, stored_list_is_listed}
@@ -119,6 +120,23 @@ module _ {K : Type 0} {order : KeyOrder K} (lawful : IsLawful order) {V : Type 0
   at_end (Some p) h = h.1
 
   -- all that stand not before what the search for a key finds
+  pub found_onward : (k : K) → order.is_key k → (before first : Option P)
+      → IsFound order is_good rank items (start_position order (Included k)) before first
+      → AreOverlapping order items (with_bounds (Included k) Unbounded)
+      (drop (rank_or_len rank (length items) first) items)
+  found_onward k key before first found =
+      let upper : Position K = end_position order Unbounded in
+      let all : Every (λ i. PLe lawful (lower order i.key) upper) items = every_with _ _ _ items
+      (every_nonempty order lawful same items (stored_list_is_listed order lawful same items
+      stored)) stored.known (λ i own known. le_trans lawful _ _ _ own
+      (ends_full lawful i.key.end known.1)) in
+      let n = length items in
+      let a = rank_or_len rank n first in
+      rw (← take_all (n - a) (drop a items) (omega (arith, length-drop a items)))
+      (overlapping_are lawful (with_bounds (Included k) Unbounded) items a n found.below
+      found.above (every_front _ n items all) (rw (drop_all items n refl) tt))
+
+  -- the same up to the last item
   pub found_from : (k : K) → order.is_key k → (before first last : Option P)
       → IsFound order is_good rank items (start_position order (Included k)) before first
       → MatchOption last (items ≡ []) (λ p. is_good p × (rank p + 1 ≡ length items))
@@ -126,15 +144,10 @@ module _ {K : Type 0} {order : KeyOrder K} (lawful : IsLawful order) {V : Type 0
       (take (index_after rank last - rank_or_len rank (length items) first)
       (drop (rank_or_len rank (length items) first) items))
   found_from k key before first last found is_last =
-      let upper : Position K = end_position order Unbounded in
-      let all : Every (λ i. PLe lawful (lower order i.key) upper) items = every_with _ _ _ items
-      (every_nonempty order lawful same items (stored_list_is_listed order lawful same items
-      stored)) stored.known (λ i own known. le_trans lawful _ _ _ own
-      (ends_full lawful i.key.end known.1)) in
-      let b = index_after rank last in
-      overlapping_are lawful (with_bounds (Included k) Unbounded) items
-      (rank_or_len rank (length items) first) b found.below found.above (every_front _ b items all)
-      (rw (drop_all items b (at_end last is_last)) tt)
+      let a = rank_or_len rank (length items) first in
+      rw (take_all (index_after rank last - a) (drop a items)
+      (omega (arith, length-drop a items, at_end last is_last)))
+      (found_onward k key before first found)
 
 -- the last of the items that lie together stands at the last of their indices
 pub near_last : {T : Type 0} (items near front : List T) (k : ℕ) (x : T)

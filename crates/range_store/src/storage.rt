@@ -113,6 +113,17 @@ impl<'a, T> Run<'a, T> {
         Some(item)
     }
 
+    /// The first items, at most so many, which are taken from the run.
+    #[inline(always)]
+    pub fn next_items(&mut self, most: usize) -> &'a [T]
+        ensures items { result.now ≡ take most self.old }
+        ensures rest { self.new ≡ drop most self.old }
+    {
+        let (items, rest) = self.items.split_at(self.items.len().min(most));
+        self.items = rest;
+        items
+    }
+
     /// The last item, which is taken from the run, or none where no item is left.
     pub fn next_back(&mut self) -> Option<&'a T>
         ensures { MatchOption result ((self.old ≡ []) × (self.new ≡ []))
