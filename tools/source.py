@@ -3,7 +3,7 @@
 import dataclasses
 import re
 
-HEAD = re.compile(r"( *)(pub )?(?:const |unsafe )?(fn|struct|enum|trait|type) (\w+)")
+HEAD = re.compile(r"( *)(pub )?(?:const |unsafe |extern \"C\" )*(fn|struct|enum|trait|type) (\w+)")
 IMPORT = re.compile(r"^ *(?:ghost )?use Rattle\.(\w+)\.specs\.([\w.]+)\.\{([^}]*)\}", re.M)
 DEFINED = re.compile(r"( *)(?:abbrev )?pub (?:record |data )?([\w<≡≤]+)\b(?! use)")
 FUNCTION = re.compile(r"( *)(?:pub(?:\([a-z]+\))? )?(?:final |const |unsafe |extern \"C\" )*fn (\w+)")
