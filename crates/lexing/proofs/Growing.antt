@@ -1,16 +1,17 @@
 -- Machines in the making: a state more.
-use Rattle.std.proofs.Common.{◌≡◌, ◌⊎◌, inl, inr, refl, ℕ, ◌<◌, ◌≤◌, ◌+◌, ◌*◌, List, [], ◌∷◌, ◌++◌, length, Option, Some, None, BTreeSet, arith}
+use Rattle.std.proofs.Common.{◌≡◌, ◌⊎◌, inl, inr, refl, ℕ, ◌<◌, ◌≤◌, ◌+◌, ◌*◌, List, [], ◌∷◌, ◌++◌, length, length-append, Option, Some, None, BTreeSet, arith}
 use Rattle.std.specs.List.{slice_get}
 use Rattle.std.proofs.lemmas.Grind.{common_steps}
 use Rattle.std.proofs.lemmas.Option.{slice_get_cases, slice_get_within}
 use Rattle.lexing.specs.declared.lexer.Lexer.{Lexer}
 use Rattle.lexing.specs.declared.states.States.{States}
+use Rattle.lexing.specs.declared.step.Step.{Step}
 use Rattle.state_sets.specs.Listed.{KeepsAll}
 use Rattle.state_sets.specs.Tokens.{IsFirstAmong}
 use Rattle.state_sets.proofs.Lists.{slice_get-push, keeps_pushed}
 use Rattle.lexing.specs.Lexers.{rules_in, Accepts}
-use Rattle.lexing.specs.Machines.{Row, RowBinds, Goes, IsRowOf, AreDense, AreStates}
-use Rattle.lexing.specs.Building.{AreFirst, IsRowAt, AddsDense}
+use Rattle.lexing.specs.Machines.{Row, Goes, IsRowOf, IsStepOf, AreSteps, AreStates}
+use Rattle.lexing.specs.Building.{AreFirst, IsRowAt, AddsSteps}
 
 -- what stands at an index of before has stood there
 stood : {X : Type 0} (before after : List X) → KeepsAll before after → (i : ℕ) (x : X)
@@ -19,13 +20,13 @@ stood before after keeps i x within at = grind (arith, slice_get_cases before i,
 
 -- the first set, and no state
 pub states_none : (lexer : Lexer) (sets : List (BTreeSet ℕ)) (states : States)
-    → AreFirst (rules_in lexer) sets → states.rows.items ≡ [] → states.dense.items ≡ []
+    → AreFirst (rules_in lexer) sets → states.rows.items ≡ [] → states.steps.items ≡ []
     → states.first_rules.items ≡ [] → AreStates lexer sets states
-states_none lexer sets states (set, only, starts) rows dense rules = record {
+states_none lexer sets states (set, only, starts) rows steps rules = record {
   start = (set, rw only refl, starts);
   row = λ i row s at. absurd (grind arith);
   first = λ i found s at. absurd (grind arith);
-  ascii = λ i c row next below at. absurd (grind arith);
+  steps = λ i byte row step below at. absurd (grind arith);
   marked = grind arith;
   full = grind arith;
   few = grind arith;
@@ -44,7 +45,7 @@ module _ (lexer : Lexer) (sets after : List (BTreeSet ℕ)) (keeps : KeepsAll se
       (among : (set : BTreeSet ℕ) → slice_get after (length before.rows.items) ≡ Some set
       → IsFirstAmong (Accepts lexer) set first)
       (rows : new.rows.items ≡ before.rows.items ++ row ∷ [])
-      (adds : AddsDense row 128 before.dense.items new.dense.items)
+      (adds : AddsSteps row 256 before.steps.items new.steps.items)
       (rules : new.first_rules.items ≡ before.first_rules.items ++ first ∷ []) where
     row_at : (i : ℕ) (r : Row) → slice_get new.rows.items i ≡ Some r
         → ((slice_get before.rows.items i ≡ Some r) × (i < length before.rows.items))
@@ -53,14 +54,14 @@ module _ (lexer : Lexer) (sets after : List (BTreeSet ℕ)) (keeps : KeepsAll se
         let parts = slice_get-push before.rows.items row i r in
         grind (arith, slice_get_within before.rows.items i r)
 
-    dense_more : AreDense new.rows.items new.dense.items
-    dense_more i c r next ascii at here =
+    steps_more : AreSteps new.rows.items new.steps.items
+    steps_more i byte r step below at here =
         grind (
           arith,
           row_at i r,
-          was.ascii i c r next ascii,
-          stood before.dense.items new.dense.items adds.0 (128 * i + c) next,
-          adds.2 c next ascii,
+          was.steps i byte r step below,
+          stood before.steps.items new.steps.items adds.0 (256 * i + byte) step,
+          adds.2 byte step below,
         )
 
     row_still : (i : ℕ) (r : Row) (set : BTreeSet ℕ) → slice_get new.rows.items i ≡ Some r
@@ -94,12 +95,31 @@ module _ (lexer : Lexer) (sets after : List (BTreeSet ℕ)) (keeps : KeepsAll se
           start = (set, keeps 0 set at, is);
           row = row_still;
           first = first_still;
-          ascii = dense_more;
+          steps = steps_more;
           marked = grind (arith, common_steps, was.marked);
           full = grind (arith, common_steps, was.full, adds.1);
           few = grind (arith, common_steps);
         }
 
--- one character more in a dense row
-pub dense_none : (row : Row) (dense : List (Option ℕ)) → AddsDense row 0 dense dense
-dense_none row dense = (λ i x h. h, omega arith, λ c next h at. absurd (omega (arith, h)))
+-- a step more
+pub steps_push : (row : Row) (count : ℕ) (before mid after : List Step) (step : Step)
+    → AddsSteps row count before mid → IsStepOf row count step → after ≡ mid ++ step ∷ []
+    → AddsSteps row (count + 1) before after
+steps_push row count before mid after step (keeps, longer, are) this pushed =
+    let stays = keeps_pushed mid after step pushed in (
+      λ i x at. stays i x (keeps i x at),
+      rw pushed (omega (arith, length-append mid (step ∷ []))),
+      λ byte other below at.
+          elim ((slice_get-push mid step (length before + byte) other).0 (rw pushed at at)) [
+            | inl old ↦
+                let within = slice_get_within mid (length before + byte) other old in
+                are byte other (omega arith) old
+            | inr (last, same) ↦
+                let here : byte ≡ count = omega arith in
+                rw (here, ← same) this
+          ],
+    )
+
+-- no step so far
+pub steps_none : (row : Row) (steps : List Step) → AddsSteps row 0 steps steps
+steps_none row steps = (λ i x h. h, omega arith, λ byte step h at. absurd (omega (arith, h)))

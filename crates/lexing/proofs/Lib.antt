@@ -1,3 +1,4 @@
+pub mod Furthest
 pub mod Giving
 pub mod Growing
 pub mod Leads

@@ -1,5 +1,5 @@
 -- What the states of a machine stand for.
-use Rattle.std.specs.Prelude.{◌≡◌, ℕ, ◌+◌, ◌*◌, ◌<◌, ◌≤◌, List, length, Option, Some, None, IsTrue, slice_get, nat_eq}
+use Rattle.std.specs.Prelude.{◌≡◌, ℕ, ◌+◌, ◌*◌, ◌/◌, ◌<◌, ◌≤◌, ◌==◌, if◌then◌else◌, List, length, Option, Some, None, IsTrue, slice_get, nat_eq}
 use Rattle.std.specs.Ordering.{nat_cmp}
 use Rattle.std.specs.BTreeSet.{BTreeSet, contains}
 use Rattle.btree_range_map.specs.AnyRange.{AnyRange}
@@ -12,6 +12,7 @@ use Rattle.charmoves.specs.declared.rules.Rules.{Rules}
 use Rattle.charmoves.specs.Automata.{HasRule, AreStarts, AreReached}
 use Rattle.lexing.specs.declared.lexer.Lexer.{Lexer}
 use Rattle.lexing.specs.declared.states.States.{States}
+use Rattle.lexing.specs.declared.step.Step.{Step}
 use Rattle.state_sets.specs.Tokens.{IsFirstAmong}
 use Rattle.lexing.specs.Lexers.{rules_in, Accepts}
 
@@ -36,10 +37,20 @@ module _ (rules : Rules) (sets : List (BTreeSet ℕ)) where
   IsRowOf set row = (c : ℕ) → IsCharacter c → (next : Option ℕ) → RowBinds row c next
       → Goes set c next
 
--- the dense rows say of each character of ASCII what the rows say
-abbrev pub AreDense : List Row → List (Option ℕ) → Type 0
-AreDense rows dense = (i c : ℕ) (row : Row) (next : Option ℕ) → c < 128
-    → slice_get rows i ≡ Some row → slice_get dense (128 * i + c) ≡ Some next → RowBinds row c next
+-- the state that the step leads to, if it leads to one
+abbrev pub target : Step → Option ℕ
+target step = if step.code == 1 then None else Some (step.code / 256)
+
+-- by a byte of ASCII the step leads where the row does, by others nowhere
+abbrev pub IsStepOf : Row → ℕ → Step → Type 0
+IsStepOf row byte step = (byte < 128 → RowBinds row byte (target step))
+    × (128 ≤ byte → target step ≡ None)
+
+-- for each row stand the steps of all bytes
+abbrev pub AreSteps : List Row → List Step → Type 0
+AreSteps rows steps = (i byte : ℕ) (row : Row) (step : Step) → byte < 256
+    → slice_get rows i ≡ Some row → slice_get steps (256 * i + byte) ≡ Some step
+    → IsStepOf row byte step
 
 module _ (lexer : Lexer) where
   -- of the sets the first is that of the start states, and the states stand for the first of them
@@ -50,9 +61,9 @@ module _ (lexer : Lexer) where
     pub first : (i : ℕ) (found : Option ℕ) (set : BTreeSet ℕ)
         → slice_get states.first_rules.items i ≡ Some found → slice_get sets i ≡ Some set
         → IsFirstAmong (Accepts lexer) set found
-    pub ascii : AreDense states.rows.items states.dense.items
+    pub steps : AreSteps states.rows.items states.steps.items
     pub marked : length states.first_rules.items ≡ length states.rows.items
-    pub full : length states.dense.items ≡ 128 * length states.rows.items
+    pub full : length states.steps.items ≡ 256 * length states.rows.items
     pub few : length states.rows.items ≤ length sets
 
   -- each state stands for a set of states of the lexer's automaton

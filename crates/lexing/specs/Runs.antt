@@ -1,6 +1,7 @@
 -- The tokens of a text, one after the other.
 use Rattle.std.specs.Prelude.{◌≡◌, ℕ, ◌+◌, ◌<◌, List, [], ◌∷◌, Option, Some, None, Result, Ok, Err, drop, length, ⊤}
 use Rattle.std.specs.List.{AllByRecursion}
+use Rattle.std.specs.Char.{len_utf8}
 use Rattle.std.specs.Str.{chars}
 use Rattle.lexing.specs.declared.lexer.Lexer.{Lexer}
 use Rattle.lexing.specs.declared.token.Token.{Token}
@@ -12,6 +13,10 @@ use Rattle.lexing.specs.Tokens.{IsToken, BeginsWithNone}
 -- between the two places of the text stands one character
 abbrev pub IsBehindOne : List ℕ → ℕ → ℕ → Type 0
 IsBehindOne text at after = (c : ℕ) × (chars (drop at text) ≡ c ∷ chars (drop after text))
+
+-- at the place of the text stands the character
+abbrev pub IsCharacterAt : List ℕ → ℕ → ℕ → Type 0
+IsCharacterAt text at c = chars (drop at text) ≡ c ∷ chars (drop (at + len_utf8 c) text)
 
 module _ (lexer : Lexer) (text : List ℕ) where
   -- the token stands at the place

@@ -30,6 +30,7 @@ impl Machine {
     /// A machine may have exponentially many states: one for each set of states of the lexer that
     /// some text reaches. Each set is looked for in a search tree of those that were met: a machine
     /// of `n` states with `m` ranges in all costs about `m * log n` comparisons of sets. Allocates.
+    /// It has at most 16,777,216 states: beyond that, building fails as without memory.
     ///
     /// ```
     /// // of a lexer

@@ -12,7 +12,7 @@ pub enum BuildError {
     /// It would have more states than the budget.
     #[error("too many states")]
     TooLarge,
-    /// An allocation failed.
+    /// An allocation failed, or a step cannot tell so many states apart.
     #[error("out of memory")]
     Memory,
 }

@@ -28,8 +28,8 @@
 //!   `src/{lexer,scanner}.rt`, `specs/{Lexers,Tokens}.antt`, over `Tokens` of the crate `state_sets`
 //! - the tokens of a text, one after the other: `src/{tokens,cutting}.rt`,
 //!   `specs/{Runs,Given}.antt`, `proofs/{TokenLists,Giving}.antt`
-//! - the machine of a lexer, which finds the same tokens: `src/machine.rt`,
-//!   `specs/{Machines,MachineSteps}.antt`, `proofs/Running.antt`
+//! - the machine of a lexer, which finds the same tokens: `src/{machine,step}.rt`,
+//!   `specs/{Machines,MachineSteps}.antt`, `proofs/{Running,Furthest}.antt`
 //! - how it is built, within a budget of states: `src/{build,states,error}.rt`,
 //!   `specs/{Building,Budgets}.antt`, `proofs/{Rows,Growing,Meeting}.antt`
 //! - lines and columns: `src/{place,placed}.rt`, `specs/Places.antt`, `proofs/Places.antt`
@@ -45,6 +45,7 @@ mod place;
 mod placed;
 mod scanner;
 mod states;
+mod step;
 mod table;
 mod token;
 mod tokens;

@@ -1,10 +1,12 @@
 //! An automaton with one state at a time, made from that of a lexer.
-ghost use Rattle.std.specs.Prelude.{◌≡◌, ◌*◌, ◌<◌, IfSome, vec_len};
+ghost use Rattle.std.specs.Prelude.{◌≡◌, ◌*◌, ◌<◌, Some, IfSome, MatchOption, slice_get, vec_len};
 ghost use Rattle.lexing.specs.Machines.{IsMachine};
 
 use crate::lexer::Lexer;
 use crate::scanner::Scanner;
 use crate::states::States;
+use crate::step::STEPS;
+use crate::tokens::character_at;
 use btree_range_map::MapError;
 use btree_range_map::range::traits::MaybeBounded;
 use state_sets::Match;
@@ -17,13 +19,14 @@ use state_sets::Match;
 pub struct Machine {
     pub(crate) lexer: Lexer,
     pub(crate) states: States,
-    ghost full: { vec_len states.dense ≡ 128 * vec_len states.rows },
+    ghost full: { vec_len states.steps ≡ 256 * vec_len states.rows },
     ghost marked: { vec_len states.first_rules ≡ vec_len states.rows },
     ghost sound: { ∥ IsMachine lexer states ∥₁ },
 }
 
 impl Machine {
     ghost use Rattle.lexing.specs.MachineSteps.{GoesTo, lexer_of, state_count};
+    ghost use Rattle.lexing.specs.Tokens.{BeginsWithNone, IsToken};
 
     /// The lexer that the machine was built from. Allocates nothing.
     pub fn lexer(&self) -> &Lexer
@@ -40,18 +43,84 @@ impl Machine {
     }
 
     /// The state that the character leads to from the state, if there is one.
-    #[inline(always)]
-    fn next(&self, state: u32, c: char) -> Option<u32>
+    fn next(&self, state: usize, c: char) -> Option<usize>
         requires { state < state_count self.now }
         ensures goes { GoesTo self.now state c result }
         ensures known { IfSome result (λ next. next < state_count self.now) }
     {
         c.known();
         if c.is_ascii() {
-            self.states.dense[128 * state as usize + c as usize]
+            let first = self.states.steps[STEPS * state + c as usize].first()?;
+            Some(first / STEPS)
         } else {
-            self.states.rows[state as usize].get(c).copied()
+            let next = self.states.rows[state].get(c).copied()?;
+            Some(next as usize)
         }
+    }
+
+    /// The token that ends where the text leads no further, if one ends there. Notes nothing on the
+    /// way.
+    #[inline(always)]
+    fn furthest_match(&self, text: &str) -> Option<Match>
+        ensures { IfSome result (λ m. IsToken (lexer_of self.now) text.now m.rule m.len) }
+    {
+        let mut first = 0;
+        let mut at = 0;
+        while at < text.len() {
+            let byte = text.as_bytes()[at];
+            if let Some(next) = self.states.steps[first + byte as usize].first() {
+                first = next;
+                at += 1;
+            } else if byte < 128 {
+                return self.match_in(first / STEPS, at);
+            } else {
+                let c = character_at(text, at);
+                let Some(next) = self.next(first / STEPS, c) else {
+                    return self.match_in(first / STEPS, at);
+                };
+                first = STEPS * next;
+                at += c.len_utf8();
+            }
+        }
+        self.match_in(first / STEPS, at)
+    }
+
+    /// So many bytes as a token of the rule of the state; none where there are none.
+    fn match_in(&self, state: usize, len: usize) -> Option<Match>
+        requires { state < state_count self.now }
+        ensures some { IfSome result (λ _. 0 < len) }
+        ensures len { IfSome result (λ m. m.len ≡ len) }
+        ensures rule { IfSome result (λ m.
+            slice_get self.now.states.first_rules.items state ≡ Some (Some m.rule)) }
+    {
+        if len == 0 {
+            return None;
+        }
+        let rule = self.states.first_rules[state]?;
+        Some(Match { rule, len })
+    }
+
+    /// The token that the text begins with. Each place where one ends is noted, since the text may
+    /// lead further.
+    #[inline(never)]
+    fn noted_match(&self, text: &str) -> Option<Match>
+        ensures { MatchOption result (BeginsWithNone (lexer_of self.now) text.now)
+            (λ m. IsToken (lexer_of self.now) text.now m.rule m.len) }
+    {
+        let mut state = 0;
+        let mut len = 0;
+        let mut longest = None;
+        for c in text.chars() {
+            match self.next(state, c) {
+                Some(next) => state = next,
+                None => return longest,
+            }
+            len += c.len_utf8();
+            if let Some(rule) = self.states.first_rules[state] {
+                longest = Some(Match { rule, len });
+            }
+        }
+        longest
     }
 }
 
@@ -62,22 +131,13 @@ impl Scanner for Machine {
 
     ghost may_refuse = { λ _. ⊥ };
 
-    /// Costs one look-up a character, up to the first that leads nowhere. Allocates nothing.
+    /// Costs one look-up a character, up to the first that leads nowhere; two where no token ends
+    /// just before that. Allocates nothing.
     fn longest_match(&self, text: &str) -> Result<Option<Match>, MapError> {
-        let mut state = 0;
-        let mut len = 0;
-        let mut longest = None;
-        for c in text.chars() {
-            match self.next(state, c) {
-                Some(next) => state = next,
-                None => return Ok(longest),
-            }
-            len += c.len_utf8();
-            if let Some(rule) = self.states.first_rules[state as usize] {
-                longest = Some(Match { rule, len });
-            }
+        match self.furthest_match(text) {
+            Some(found) => Ok(Some(found)),
+            None => Ok(self.noted_match(text)),
         }
-        Ok(longest)
     }
 
     fn is_skipped(&self, rule: u32) -> bool {

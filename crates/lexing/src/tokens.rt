@@ -1,10 +1,11 @@
 //! The tokens of a text, one after the other.
-ghost use Rattle.std.specs.Prelude.{◌≡◌, ◌-◌, ◌<◌, ◌≤◌, length, IsTrue, IfSome, OnSome, MatchResult};
+ghost use Rattle.std.specs.Prelude.{◌≡◌, ◌+◌, ◌-◌, ◌<◌, ◌≤◌, length, IsTrue, IfSome, OnSome, MatchResult};
+ghost use Rattle.std.specs.Char.{len_utf8};
 ghost use Rattle.std.specs.Str.{IsCharBoundary};
 ghost use Rattle.std.specs.Iterator.{at_most};
 ghost use Rattle.lexing.specs.Given.{GivesNext};
 ghost use Rattle.lexing.specs.Places.{BeginsAt};
-ghost use Rattle.lexing.specs.Runs.{IsNext, IsTokenAt, IsReasonAt, IsBehindOne};
+ghost use Rattle.lexing.specs.Runs.{IsNext, IsTokenAt, IsReasonAt, IsBehindOne, IsCharacterAt};
 
 use crate::scanner::Scanner;
 use crate::token::{LexError, Token};
@@ -151,8 +152,18 @@ fn behind_one(text: &str, at: usize) -> usize
     ensures boundary { IsCharBoundary text.now result }
     ensures further { at < result }
 {
+    at + character_at(text, at).len_utf8()
+}
+
+/// The character at the place.
+pub(crate) fn character_at(text: &str, at: usize) -> char
+    requires boundary { IsCharBoundary text.now at }
+    requires within { at < length text.now }
+    ensures one { IsCharacterAt text.now at result }
+    ensures boundary { IsCharBoundary text.now (at + len_utf8 result) }
+{
     match text[at..].chars().next() {
-        Some(c) => at + c.len_utf8(),
-        None => text.len(),
+        Some(c) => c,
+        None => unreachable!(),
     }
 }

@@ -5,7 +5,7 @@ use Rattle.std.proofs.lemmas.Iterator.{YieldsList-from_chars}
 use Rattle.std.proofs.lemmas.Option.{slice_get_read}
 use Rattle.state_sets.proofs.Reading.{bytes_of, bytes_of-push, read_more, read_all, read_fits}
 use Rattle.lexing.proofs.Running.{running_none, running_grows, running_stays, token_at_end, token_when_stuck, some_state}
-use Rattle.lexing.proofs.machine.MachineScanner.longest_match.Goals as goal
+use Rattle.lexing.proofs.machine.Machine.noted_match.Goals as goal
 
 pub loop-c-init : goal.loop-c-init
 loop-c-init c =
@@ -23,11 +23,8 @@ returns-in-None-next c =
     let all = YieldsList-from_chars text c.utf8.text cc in
     let (rest, split) =
     read_more all read _ c.loop-c.yielded_by _ _ c.in-Some.c c.in-Some.is c.next.ensures.steps in
-    record {
-      longest = token_when_stuck c.args.self.now text c.utf8.text c.loop-c.longest read rest
-          c.in-Some.c c.loop-c.state split c.in-None-next.ensures.goes c.loop-c.invariant.running;
-      refused = tt;
-    }
+    token_when_stuck c.args.self.now text c.utf8.text c.loop-c.longest read rest c.in-Some.c
+    c.loop-c.state split c.in-None-next.ensures.goes c.loop-c.invariant.running
 
 pub overflow_add-len : goal.overflow_add-len
 overflow_add-len c =
@@ -44,11 +41,8 @@ returns c =
     let all = YieldsList-from_chars text c.utf8.text cc in
     let whole =
     read_all all c.loop-c.yielded _ c.loop-c.yielded_by _ _ c.in-None.is c.next.ensures.steps in
-    record {
-      longest = token_at_end c.args.self.now text c.utf8.text c.loop-c.longest c.loop-c.yielded
-          c.loop-c.state whole c.loop-c.invariant.running;
-      refused = tt;
-    }
+    token_at_end c.args.self.now text c.utf8.text c.loop-c.longest c.loop-c.yielded c.loop-c.state
+    whole c.loop-c.invariant.running
 
 pub loop-c-preserved-in-Some-index : goal.loop-c-preserved-in-Some-index
 loop-c-preserved-in-Some-index c =

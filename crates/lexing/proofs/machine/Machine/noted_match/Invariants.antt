@@ -2,7 +2,7 @@ use Rattle.std.proofs.Common.{◌≡◌, ◌<◌}
 use Rattle.state_sets.proofs.Reading.{bytes_of}
 use Rattle.lexing.specs.MachineSteps.{state_count}
 use Rattle.lexing.proofs.Running.{IsRunning}
-use Rattle.lexing.proofs.machine.MachineScanner.longest_match.Given as goal
+use Rattle.lexing.proofs.machine.Machine.noted_match.Given as goal
 
 -- the state stands for the states that what is read leads to, and the longest is that of what is
 -- read
