@@ -1,20 +1,19 @@
 -- Blank lines at the start of a list.
-use Rattle.std.proofs.Common.{◌≡◌, ◌≢◌, ℕ, suc, ◌+◌, Bool, true, false, List, [], ◌∷◌, ◌++◌, length, drop, Option, None, Some, IfSome, inl, inr, refl, ap, sym, subst, ◌∙◌, append_assoc, arith}
+use Rattle.std.proofs.Common.{◌≡◌, ◌≢◌, ◌↔◌, ℕ, suc, ◌+◌, Bool, true, false, List, [], ◌∷◌, ◌++◌, length, drop, Option, None, Some, IfSome, inl, inr, refl, ap, sym, subst, ◌∙◌, append_assoc, arith}
 use Rattle.std.proofs.lemmas.Bool.{eqb-true}
 use Rattle.std.specs.Char.{is_ascii_whitespace}
 use Rattle.std.specs.Io.BufRead.{drop_through, take_through}
 use Rattle.std.specs.List.{before_first}
 use Rattle.address_text.specs.Lines.{Says, from_word, is_hash, trimmed}
+use Rattle.address_text.specs.declared.family.Family.{Family}
 use Rattle.address_text.specs.declared.line.Line.{Line}
 use Rattle.address_text.specs.declared.line.Line.TheVariants.{Nothing}
-use Rattle.address_lists.specs.Files.{AreBlank, IsReadAs, IsStart, is_blank, mark}
+use Rattle.address_lists.specs.Files.{AreBlank, IsStart, is_blank, mark}
 use Rattle.address_lists.specs.Files.AreBlank.{NoLine, OneMore}
-use Rattle.address_lists.specs.Lists.{HasJust, IsListed}
+use Rattle.address_lists.specs.Lists.{AreGood, IsListed}
 use Rattle.address_lists.specs.Lists.AreGood.{Said}
 use Rattle.address_lists.specs.Reading.{HasFaultFrom, IsBad}
-use Rattle.address_lists.specs.declared.addresses.Addresses.{Addresses}
 use Rattle.address_lists.specs.declared.file.Start.{Start}
-use Rattle.address_lists.specs.declared.read.BadLines.{BadLines}
 use Rattle.address_lists.specs.declared.read.ListError.{ListError}
 
 -- a line and what follows it are the text
@@ -163,35 +162,30 @@ start_found (Some bytes) left later start (rest, count, left_is, before, place) 
       marked,
     )
 
+-- the lines say the same addresses
+abbrev pub SaySame : List Line → List Line → Type 0
+SaySame lines others = (family : Family) (n : ℕ)
+    → IsListed family n lines ↔ IsListed family n others
+
 module _ (strict : Bool) where
-  no_more : (list : Addresses) (lines : List Line)
-      → HasJust list (λ family n. IsListed family n lines)
-      → HasJust list (λ family n. IsListed family n (Nothing ∷ lines))
-  no_more list lines just family n h =
-      let has = just family n h in
-      (λ it. inr (has.0 it), λ e. elim e [ inl never ↦ absurd never | inr said ↦ has.1 said ])
-
-  read_behind : (bad_lines : BadLines) (rest : List ℕ) (list : Addresses) (others : ℕ)
-      → rest ≢ [] → mark (take_through 10 rest) ≡ None
-      → IsReadAs strict false bad_lines (drop_through 10 rest) list others
-      → IsReadAs strict false bad_lines rest list others
-  read_behind bad_lines rest list others some blank (lines, good, just, none) = (
-    Nothing ∷ lines,
-    Said rest Nothing lines others [] some (says_nothing strict (take_through 10 rest) blank) good,
-    no_more list lines just,
-    none,
-  )
-
-  -- blank lines change nothing that is read
-  pub lines_behind : (bad_lines : BadLines) (input blanks rest : List ℕ) (count : ℕ)
-      (list : Addresses) (others : ℕ) → AreBlank input blanks count rest
-      → IsReadAs strict false bad_lines rest list others
-      → IsReadAs strict false bad_lines input list others
-  lines_behind bad_lines input _ _ _ list others (NoLine _) read = read
-  lines_behind bad_lines input _ _ _ list others (OneMore _ blanks count rest before some blank)
-      read =
-      lines_behind bad_lines input blanks rest count list others before
-      (read_behind bad_lines rest list others some blank read)
+  -- blank lines change nothing that is said
+  pub good_behind : (input blanks rest : List ℕ) (count : ℕ) (lines : List Line) (others : ℕ)
+      → AreBlank input blanks count rest → AreGood strict rest lines others []
+      → (all : List Line) × AreGood strict input all others [] × SaySame lines all
+  good_behind input _ _ _ lines others (NoLine _) good =
+      (lines, good, λ family n. (λ said. said, λ said. said))
+  good_behind input _ _ _ lines others (OneMore _ blanks count rest before some blank) good =
+      let (all, all_good, same) =
+      good_behind input blanks rest count (Nothing ∷ lines) others before
+      (Said rest Nothing lines others [] some
+      (says_nothing strict (take_through 10 rest) blank) good) in (
+        all,
+        all_good,
+        λ family n. let one = same family n in (
+          λ said. one.0 (inr said),
+          λ said. elim (one.1 said) [ inl never ↦ absurd never | inr later ↦ later ],
+        ),
+      )
 
   -- a line that says something is counted before a bad one
   pub fault_after : (first : ℕ) (rest : List ℕ) (line : Line) (error : ListError) → rest ≢ []

@@ -1,5 +1,5 @@
 -- What lists of lines say, and lines that are put together.
-use Rattle.std.proofs.Common.{◌≡◌, ℕ, zero, suc, ◌<◌, ◌^◌, ◌↔◌, ◌⊎◌, List, [], ◌∷◌, ◌++◌, length, get_or, map, inl, inr, refl, sym, subst, arith}
+use Rattle.std.proofs.Common.{◌≡◌, ℕ, zero, suc, ◌<◌, ◌^◌, ◌↔◌, ◌⊎◌, List, [], ◌∷◌, ◌++◌, length, get_or, map, Result, Ok, Err, OnOk, inl, inr, refl, sym, subst, arith}
 use Rattle.std.proofs.lemmas.List.{map_push}
 use Rattle.std.proofs.lemmas.List.Sorted.{Contains-permutation, IsPermutation-sym}
 use Rattle.std.specs.List.{Contains}
@@ -10,7 +10,7 @@ use Rattle.address_text.specs.Texts.{width}
 use Rattle.address_text.specs.declared.family.Family.{Family}
 use Rattle.address_text.specs.declared.family.Family.TheVariants.{V4, V6}
 use Rattle.address_text.specs.declared.line.Line.{Line}
-use Rattle.address_text.specs.declared.line.Line.TheVariants.{Addresses}
+use Rattle.address_text.specs.declared.line.Line.TheVariants.{Addresses, Nothing}
 use Rattle.address_lists.specs.Lists.{Has, HasJust}
 use Rattle.address_lists.specs.Waiting.{HasOrSays, IsTogether, Spans}
 use Rattle.address_lists.specs.declared.addresses.Addresses.{Addresses as Held}
@@ -56,28 +56,6 @@ spans_together V4 start end from to first last spans V6 n = neither
 spans_together V6 start end from to first last spans V4 n = neither
 spans_together V6 start end from to first last spans V6 n = spans.numbers n
 
-pub added_more : (old now next : Held) (lines : List Line) (line : Line)
-    → HasJust now (HasOrSays old lines)
-    → HasJust next (λ family n. Has now family n ⊎ SaysAddress family n line)
-    → HasJust next (HasOrSays old (lines ++ line ∷ []))
-added_more old now next lines line before more family n h = grind (arith, any_append)
-
--- in another order
-pub added_moved : (old now : Held) (lines moved : List Line) → IsPermutation lines moved
-    → HasJust now (HasOrSays old moved) → HasJust now (HasOrSays old lines)
-added_moved old now lines moved there added family n h =
-    let one = added family n h in
-    let back = IsPermutation-sym lines moved there in (
-      λ has. elim (one.0 has) [
-        | inl had ↦ inl had
-        | inr said ↦ inr (any_moved (SaysAddress family n) moved lines back said)
-      ],
-      λ e. elim e [
-        | inl had ↦ one.1 (inl had)
-        | inr said ↦ one.1 (inr (any_moved (SaysAddress family n) lines moved there said))
-      ],
-    )
-
 -- a line more waits
 pub put_more : (list : Held) (lines : List Line) (line : Line) (family : Family) (n : ℕ)
     → HasOrSays list (lines ++ line ∷ []) family n
@@ -97,6 +75,71 @@ put_more list lines line family n =
           | inr said ↦ inr (split.1 (inl said))
         ]
         | inr says ↦ inr (split.1 (inr (inl says)))
+      ],
+    )
+
+-- the list has the address, or the line that waits says it
+abbrev pub HasWith : Held → Line → Family → ℕ → Type 0
+HasWith list line family n = Has list family n ⊎ SaysAddress family n line
+
+-- those that spans say are added, or the last line says them
+abbrev pub AreFollowed : Held → Held → Line → List Line → Type 0
+AreFollowed old now last lines = (family : Family) (n : ℕ) → n < 2 ^ width family
+    → HasWith now last family n ↔ HasOrSays old lines family n
+
+pub none_followed : (old : Held) → AreFollowed old old Nothing []
+none_followed old family n h = (λ has. has, λ has. has)
+
+-- one line more is added, or waits
+abbrev pub IsFollowed : Held → Held → Line → Line → Line → Type 0
+IsFollowed now next last line said = (family : Family) (n : ℕ) → n < 2 ^ width family
+    → HasWith next line family n ↔ (HasWith now last family n ⊎ SaysAddress family n said)
+
+pub followed : (old now next : Held) (last line said : Line) (lines : List Line)
+    → AreFollowed old now last lines → IsFollowed now next last line said
+    → AreFollowed old next line (lines ++ said ∷ [])
+followed old now next last line said lines before more family n h =
+    let one = before family n h in
+    let all = more family n h in
+    let split = put_more old lines said family n in (
+      λ has. split.1 (elim (all.0 has) [
+        | inl was ↦ inl (one.0 was)
+        | inr says ↦ inr says
+      ]),
+      λ is. all.1 (elim (split.0 is) [
+        | inl was ↦ inl (one.1 was)
+        | inr says ↦ inr says
+      ]),
+    )
+
+-- at the end the last line is added
+pub last_added : {X E : Type 0} (old now next : Held) (last : Line) (lines : List Line)
+    (result : Result X E) → AreFollowed old now last lines
+    → OnOk result (HasJust next (HasWith now last))
+    → OnOk result (HasJust next (HasOrSays old lines))
+last_added old now next last lines (Ok done) before added = λ family n h.
+    let one = before family n h in
+    let all = added family n h in (λ has. one.0 (all.0 has), λ is. all.1 (one.1 is))
+last_added old now next last lines (Err error) before added = tt
+
+-- two lines that are one: of an address, H, the list has it; L, both say it; A, the first does; N,
+-- the second does
+pub follows_together : (H L A N : Type 0) → (L ↔ (A ⊎ N)) → (H ⊎ L) ↔ ((H ⊎ A) ⊎ N)
+follows_together H L A N one = grind arith
+
+-- in another order
+pub added_moved : (old now : Held) (lines moved : List Line) → IsPermutation lines moved
+    → HasJust now (HasOrSays old moved) → HasJust now (HasOrSays old lines)
+added_moved old now lines moved there added family n h =
+    let one = added family n h in
+    let back = IsPermutation-sym lines moved there in (
+      λ has. elim (one.0 has) [
+        | inl had ↦ inl had
+        | inr said ↦ inr (any_moved (SaysAddress family n) moved lines back said)
+      ],
+      λ e. elim e [
+        | inl had ↦ one.1 (inl had)
+        | inr said ↦ one.1 (inr (any_moved (SaysAddress family n) lines moved there said))
       ],
     )
 

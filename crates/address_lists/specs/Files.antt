@@ -1,9 +1,10 @@
 -- What a file is read as: a list of lines, or JSON where it begins so behind white space.
 use Rattle.std.specs.Prelude.{◌≡◌, ◌≢◌, ◌⊎◌, ◌==◌, ◌||◌, ◌+◌, ℕ, Bool, true, false, not, List, [], ◌++◌, Option, None, Some, find}
 use Rattle.std.specs.Io.BufRead.{drop_through, take_through}
+use Rattle.address_text.specs.declared.family.Family.{Family}
 use Rattle.address_text.specs.declared.line.Line.{Line}
 use Rattle.address_lists.specs.Json.{IsDocument, IsJsonReason}
-use Rattle.address_lists.specs.Lists.{AreGood, HasJust, IsListed}
+use Rattle.address_lists.specs.Lists.{AreAdded, AreGood, Has, HasJust, IsListed}
 use Rattle.address_lists.specs.Reading.{HasFault}
 use Rattle.address_lists.specs.declared.addresses.Addresses.{Addresses}
 use Rattle.address_lists.specs.declared.file.Start.{Start}
@@ -48,6 +49,16 @@ IsStart bytes (Some start) later = (rest : List ℕ) × (count : ℕ)
     × AreBlank bytes start.blanks.items count rest × (start.number ≡ count + 1)
     × IsFirstLine rest start.line.items later × (mark start.line.items ≡ Some start.mark)
 
+-- what a file says: lines, or the list that its JSON is read as
+pub data Content : Type 0 where
+  InLines : List Line → Content
+  InJson : Addresses → Content
+
+-- it says the address
+abbrev pub IsSaidIn : Content → Family → ℕ → Type 0
+IsSaidIn (InLines lines) family n = IsListed family n lines
+IsSaidIn (InJson list) family n = Has list family n
+
 module _ (strict : Bool) where
   -- what is read of JSON, and of lines; of these so many are left out: none where they are refused
   abbrev pub IsReadAs : Bool → BadLines → List ℕ → Addresses → ℕ → Type 0
@@ -59,6 +70,29 @@ module _ (strict : Bool) where
   -- the file is read as the list
   abbrev pub IsFile : BadLines → List ℕ → Addresses → ℕ → Type 0
   IsFile bad_lines bytes list others = IsReadAs (is_json bytes) bad_lines bytes list others
+
+  -- what JSON says, and lines
+  abbrev pub IsContentAs : Bool → BadLines → List ℕ → Content → ℕ → Type 0
+  IsContentAs true bad_lines bytes (InLines lines) others = ⊥
+  IsContentAs true bad_lines bytes (InJson list) others = IsDocument bytes list × (others ≡ 0)
+  IsContentAs false bad_lines bytes (InLines lines) others =
+      AreGood strict bytes lines others [] × (bad_lines ≡ Refused → others ≡ 0)
+  IsContentAs false bad_lines bytes (InJson list) others = ⊥
+
+  -- what the file says, and how many lines are left out of it
+  abbrev pub IsContent : BadLines → List ℕ → Content → ℕ → Type 0
+  IsContent bad_lines bytes content others = IsContentAs (is_json bytes) bad_lines bytes content others
+
+  abbrev pub IsAddedAs : Bool → BadLines → List ℕ → (Family → ℕ → Type 0)
+      → (Family → ℕ → Type 0) → ℕ → Type 0
+  IsAddedAs told bad_lines bytes Before After others = (content : Content)
+      × IsContentAs told bad_lines bytes content others × AreAdded Before After (IsSaidIn content)
+
+  -- what the file says is added
+  abbrev pub IsAdded : BadLines → List ℕ → (Family → ℕ → Type 0) → (Family → ℕ → Type 0) → ℕ
+      → Type 0
+  IsAdded bad_lines bytes Before After others =
+      IsAddedAs (is_json bytes) bad_lines bytes Before After others
 
   -- why JSON is not read, and lines: for no bad line where these are left out
   abbrev pub IsReasonAs : Bool → BadLines → List ℕ → ListError → Type 0

@@ -1,6 +1,7 @@
 -- What a list of addresses says, and how it is printed.
 pub mod Counted
 pub mod Files
+pub mod Fitting
 pub mod Json
 pub mod Lists
 pub mod Lookups

@@ -1,5 +1,5 @@
 -- The addresses of lists: those that their lines say.
-use Rattle.std.specs.Prelude.{◌≢◌, ℕ, suc, ◌<◌, ◌^◌, ◌↔◌, Bool, List, [], ◌∷◌}
+use Rattle.std.specs.Prelude.{◌≢◌, ◌⊎◌, ℕ, suc, ◌<◌, ◌^◌, ◌↔◌, Bool, List, [], ◌∷◌}
 use Rattle.std.specs.Io.BufRead.{drop_through, take_through}
 use Rattle.btree_range_map.specs.Holding.{box_items}
 use Rattle.btree_range_map.specs.Intervals.{Any}
@@ -30,6 +30,11 @@ HasAllOf list other = (family : Family) (n : ℕ) → n < 2 ^ width family → H
 abbrev pub ShareNone : Addresses → Addresses → Type 0
 ShareNone list other = (family : Family) (n : ℕ) → n < 2 ^ width family → Has list family n
     → ¬ Has other family n
+
+-- after, it is so of those of which it was so before, and of these
+abbrev pub AreAdded : (Family → ℕ → Type 0) → (Family → ℕ → Type 0) → (Family → ℕ → Type 0) → Type 0
+AreAdded Before After P = (family : Family) (n : ℕ) → n < 2 ^ width family
+    → After family n ↔ (Before family n ⊎ P family n)
 
 -- one of the lines says the address
 abbrev pub IsListed : Family → ℕ → List Line → Type 0

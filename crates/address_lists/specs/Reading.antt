@@ -3,9 +3,9 @@ use Rattle.std.specs.Prelude.{◌≡◌, ◌≢◌, ℕ, ◌+◌, ◌-◌, ◌�
 use Rattle.std.specs.Io.BufRead.{drop_through, take_through}
 use Rattle.address_text.specs.Faults.{IsFault}
 use Rattle.address_text.specs.Lines.{AreAddresses, Says, SaysAddress, content}
+use Rattle.address_text.specs.declared.family.Family.{Family}
 use Rattle.address_text.specs.declared.line.Line.{Line}
-use Rattle.address_lists.specs.Lists.{AreSaid, Has, HasJust, SaysNothingKnown}
-use Rattle.address_lists.specs.declared.addresses.Addresses.{Addresses}
+use Rattle.address_lists.specs.Lists.{AreAdded, AreSaid, SaysNothingKnown}
 use Rattle.address_lists.specs.declared.read.Found.{Found}
 use Rattle.address_lists.specs.declared.read.Found.TheVariants.{Good, Other, End}
 use Rattle.address_lists.specs.declared.read.ListError.{ListError}
@@ -31,11 +31,11 @@ module _ (strict : Bool) where
   IsSaid text None = SaysNothingKnown strict text
 
   -- a line is taken in: what it says is added, or it says nothing known and is left out
-  abbrev pub IsTakenIn : List ℕ → Addresses → Addresses → ℕ → Type 0
-  IsTakenIn text old now others =
+  abbrev pub IsTakenIn : List ℕ → (Family → ℕ → Type 0) → (Family → ℕ → Type 0) → ℕ → Type 0
+  IsTakenIn text Before After others =
       ((said : Line) × Says strict text said
-      × HasJust now (λ family n. Has old family n ⊎ SaysAddress family n said) × (others ≡ 0))
-      ⊎ (SaysNothingKnown strict text × HasJust now (Has old) × (others ≡ 1))
+      × AreAdded Before After (λ family n. SaysAddress family n said) × (others ≡ 0))
+      ⊎ (SaysNothingKnown strict text × AreAdded Before After (λ family n. ⊥) × (others ≡ 1))
 
   -- what is read next, of the input before and after
   abbrev pub IsFound : Option (List ℕ) → Option (List ℕ) → Found → Type 0

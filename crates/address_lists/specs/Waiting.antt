@@ -1,5 +1,6 @@
 -- Addresses that are read and not added yet.
 use Rattle.std.specs.Prelude.{◌≡◌, ℕ, ◌≤◌, ◌⊎◌, ◌↔◌, List, map}
+use Rattle.address_keys.specs.Addresses.{ipv4_number, ipv6_number}
 use Rattle.address_text.specs.Lines.{SaysAddress}
 use Rattle.address_text.specs.declared.family.Family.{Family}
 use Rattle.address_text.specs.declared.family.Family.TheVariants.{V4, V6}
@@ -7,15 +8,11 @@ use Rattle.address_text.specs.declared.line.Line.{Line}
 use Rattle.address_text.specs.declared.line.Line.TheVariants.{Addresses as AddressesOf}
 use Rattle.address_lists.specs.Lists.{Has, IsListed}
 use Rattle.address_lists.specs.declared.addresses.Addresses.{Addresses}
-use Rattle.address_lists.specs.declared.waiting.SpanV4.{SpanV4}
-use Rattle.address_lists.specs.declared.waiting.SpanV6.{SpanV6}
-use Rattle.address_lists.specs.declared.waiting.Waiting.{Waiting}
+use Rattle.address_lists.specs.declared.spans.Span.{Span}
+use Rattle.address_lists.specs.declared.spans.Waiting.{Waiting}
 
-abbrev pub line_v4 : SpanV4 → Line
-line_v4 span = AddressesOf V4 span.0 span.1
-
-abbrev pub line_v6 : SpanV6 → Line
-line_v6 span = AddressesOf V6 span.0 span.1
+abbrev pub line_of : {A : Type 0} → Family → (A → ℕ) → Span A → Line
+line_of family number span = AddressesOf family (number span.0) (number span.1)
 
 -- the list has the address, or one of the lines says it
 abbrev pub HasOrSays : Addresses → List Line → Family → ℕ → Type 0
@@ -25,8 +22,8 @@ HasOrSays list lines family n = Has list family n ⊎ IsListed family n lines
 abbrev pub HasSoFar : Addresses → Waiting → Family → ℕ → Type 0
 HasSoFar list waiting family n = Has list family n
     ⊎ (SaysAddress family n waiting.last
-    ⊎ (IsListed family n (map line_v4 waiting.v4.items)
-    ⊎ IsListed family n (map line_v6 waiting.v6.items)))
+    ⊎ (IsListed family n (map (line_of V4 ipv4_number) waiting.v4.items)
+    ⊎ IsListed family n (map (line_of V6 ipv6_number) waiting.v6.items)))
 
 -- the one line says what the two do
 abbrev pub IsTogether : Line → Line → Line → Type 0

@@ -1,11 +1,8 @@
 //! Reading a list.
 
-ghost use Rattle.std.specs.Prelude.{◌⊎◌, ◌↔◌, ◌≡◌, ◌≢◌, ◌+◌, ◌≤◌, ◌<◌, ◌^◌, ℕ, List, [], None, Err, Ok, IfErr, IfOk, IfSome, IsOk, OnOk};
-ghost use Rattle.address_text.specs.Lines.{AreAddresses};
-ghost use Rattle.address_text.specs.Texts.{width};
-ghost use Rattle.address_text.specs.declared.family.Family.{Family};
+ghost use Rattle.std.specs.Prelude.{◌⊎◌, ◌≡◌, ◌≢◌, ◌+◌, ◌≤◌, ◌<◌, ◌^◌, List, [], None, Err, Ok, IfErr, IfOk, IfSome, IsOk};
 ghost use Rattle.address_text.specs.declared.line.Line.{Line};
-ghost use Rattle.address_lists.specs.Lists.{AreGood, Has, HasJust, IsListed};
+ghost use Rattle.address_lists.specs.Lists.{AreAdded, AreGood, Has, HasJust, IsListed};
 ghost use Rattle.address_lists.specs.Waiting.{HasSoFar};
 ghost use Rattle.address_lists.specs.Reading.{HasFault, HasFaultFrom, IsBad, IsBadLine, IsFound, IsSaid};
 ghost use Rattle.address_lists.specs.declared.read.BadLines.TheVariants.{Refused, Skipped};
@@ -14,7 +11,7 @@ ghost use Rattle.address_lists.specs.declared.read.ListError.TheVariants.{Memory
 
 use crate::addresses::Addresses;
 use crate::json::JsonFault;
-use crate::waiting::Waiting;
+use crate::spans::Waiting;
 use address_text::fault::fault_of;
 use address_text::{Excerpt, Expected, Line, excerpt_at, line_of};
 use line_program::read::{LineRead, ReadError};
@@ -146,50 +143,11 @@ fn read_line<R: LineRead>(
     }
 }
 
-/// Reads all lines, of which the first has this number: what they say is added, or waits. Returns
-/// how many lines were left out.
-fn read_all<R: LineRead>(
-    buffer: &mut Vec<u8>,
-    waiting: &mut Waiting,
-    list: &mut Addresses,
-    input: &mut R,
-    first: u64,
-    strict: bool,
-    bad_lines: BadLines,
-) -> Result<u64, ListError>
-    requires counted { 1 ≤ first }
-    requires last { AreAddresses waiting.old.last }
-    requires none { (family : Family) (n : ℕ) → HasSoFar list.old waiting.old family n
-        ↔ Has list.old family n }
-    ensures read { IfOk result (λ others. IfSome (R.remaining input.old) (λ bytes.
-        (lines : List Line) × AreGood strict bytes lines others []
-        × ((family : Family) (n : ℕ) → n < 2 ^ width family
-        → HasSoFar list.new waiting.new family n
-        ↔ (Has list.old family n ⊎ IsListed family n lines)))) }
-    ensures last { OnOk result (AreAddresses waiting.new.last) }
-    ensures all { bad_lines ≡ Refused → IfOk result (λ others. others ≡ 0) }
-    ensures few { IfOk result (λ others. others + 1 < 2 ^ 64) }
-    ensures bad { IfErr result (λ error. IfSome (R.remaining input.old)
-        (λ bytes. HasFaultFrom strict first bytes error)) }
-    ensures skipped { bad_lines ≡ Skipped
-        → IfErr result (λ error. (error ≡ Unread) ⊎ (error ≡ Memory)) }
-    ensures unread { result ≡ Err Unread → R.fails }
-{
-    let mut others = 0;
-    for number in first..u64::MAX {
-        match read_line(buffer, input, number, strict, bad_lines)? {
-            Found::Good(line) => waiting.take(list, line)?,
-            Found::Other => others += 1,
-            Found::End => return Ok(others),
-        }
-    }
-    Err(ListError::Memory)
-}
-
-/// Adds the addresses of the lines that are left, of which the first has this number. Returns how
-/// many were left out.
-pub(crate) fn read_from<R: LineRead>(
+/// Reads the lines that are left, of which the first has this number: what they say is added, or
+/// waits. Returns how many lines were left out.
+pub(crate) fn read_all<R: LineRead>(
     alloc: Global,
+    waiting: &mut Waiting,
     list: &mut Addresses,
     input: &mut R,
     first: u64,
@@ -199,7 +157,8 @@ pub(crate) fn read_from<R: LineRead>(
     requires { 1 ≤ first }
     ensures read { IfOk result (λ others. IfSome (R.remaining input.old) (λ bytes.
         (lines : List Line) × AreGood strict bytes lines others []
-        × HasJust list.new (λ family n. Has list.old family n ⊎ IsListed family n lines))) }
+        × AreAdded (HasSoFar list.old waiting.old) (HasSoFar list.new waiting.new)
+        (λ family n. IsListed family n lines))) }
     ensures all { bad_lines ≡ Refused → IfOk result (λ others. others ≡ 0) }
     ensures few { IfOk result (λ others. others + 1 < 2 ^ 64) }
     ensures bad { IfErr result (λ error. IfSome (R.remaining input.old)
@@ -209,18 +168,15 @@ pub(crate) fn read_from<R: LineRead>(
     ensures unread { result ≡ Err Unread → R.fails }
 {
     let mut buffer = Vec::new(alloc);
-    let mut waiting = Waiting::new(alloc);
-    let others = read_all(
-        &mut buffer,
-        &mut waiting,
-        list,
-        input,
-        first,
-        strict,
-        bad_lines,
-    )?;
-    waiting.add_all(list)?;
-    Ok(others)
+    let mut others = 0;
+    for number in first..u64::MAX {
+        match read_line(&mut buffer, input, number, strict, bad_lines)? {
+            Found::Good(line) => waiting.take(list, line)?,
+            Found::Other => others += 1,
+            Found::End => return Ok(others),
+        }
+    }
+    Err(ListError::Memory)
 }
 
 /// Adds the addresses of a list, which is read to its end. Returns how many lines were left out.
@@ -256,5 +212,8 @@ pub fn read_list<R: LineRead>(
         → IfErr result (λ error. (error ≡ Unread) ⊎ (error ≡ Memory)) }
     ensures unread { result ≡ Err Unread → R.fails }
 {
-    read_from(alloc, list, input, 1, strict, bad_lines)
+    let mut waiting = Waiting::new(alloc);
+    let others = read_all(alloc, &mut waiting, list, input, 1, strict, bad_lines)?;
+    waiting.add_all(list)?;
+    Ok(others)
 }

@@ -6,64 +6,34 @@ ghost use Rattle.address_text.specs.Texts.{width};
 ghost use Rattle.address_text.specs.declared.family.Family.{Family};
 ghost use Rattle.address_text.specs.declared.line.Line.{Line};
 ghost use Rattle.address_lists.specs.Lists.{Has, HasJust};
-ghost use Rattle.address_lists.specs.Waiting.{HasOrSays, HasSoFar, IsTogether, Spans};
+ghost use Rattle.address_lists.specs.Waiting.{HasOrSays, HasSoFar, IsTogether, Spans, line_of};
 ghost use Rattle.address_lists.specs.declared.read.ListError.TheVariants.{Memory};
 
 use crate::addresses::Addresses;
+use crate::print::FamilyAddress;
 use crate::read::ListError;
+use crate::spans::{Span, Waiting};
+use address_sets::{Ipv4, Ipv6};
 use address_text::{Family, Line};
 use std::alloc::Global;
 
-/// The first and the last of some addresses of one family.
-pub(crate) trait Span: Ord + Copy {
-    ghost line: { Self → Line };
-
-    /// So many wait at most.
-    const MOST: usize;
-
+impl<A: FamilyAddress> Span<A> {
     fn line(self) -> Line
-        ensures line { result ≡ line self }
-        ensures fits { AreAddresses result };
-}
-
-#[derive(Clone, Copy, PartialEq, Eq, PartialOrd, Ord)]
-pub(crate) struct SpanV4(u32, u32);
-
-#[derive(Clone, Copy, PartialEq, Eq, PartialOrd, Ord)]
-pub(crate) struct SpanV6(u128, u128);
-
-impl Span for SpanV4 {
-    ghost use Rattle.address_lists.specs.Waiting.{line_v4};
-
-    ghost line = { line_v4 };
-
-    const MOST: usize = 1 << 20;
-
-    fn line(self) -> Line {
-        Line::Addresses(Family::V4, u128::from(self.0), u128::from(self.1))
+        ensures line { result ≡ line_of A.its_family A.number self }
+        ensures fits { AreAddresses result }
+    {
+        self.0.known();
+        self.1.known();
+        Line::Addresses(A::family(), self.0.number(), self.1.number())
     }
 }
 
-impl Span for SpanV6 {
-    ghost use Rattle.address_lists.specs.Waiting.{line_v6};
-
-    ghost line = { line_v6 };
-
-    const MOST: usize = 1 << 18;
-
-    fn line(self) -> Line {
-        Line::Addresses(Family::V6, self.0, self.1)
+/// So many spans of a family wait at most.
+fn most(family: Family) -> usize {
+    match family {
+        Family::V4 => 1 << 20,
+        Family::V6 => 1 << 18,
     }
-}
-
-/// What lines say that are read and not added yet: the last one, and spans of those before it.
-///
-/// Spans are sorted before they are added, so that a list in no order costs few searches.
-#[derive(Drop)]
-pub(crate) struct Waiting {
-    last: Line,
-    v4: Vec<SpanV4>,
-    v6: Vec<SpanV6>,
 }
 
 /// The numbers of two spans as one, where the second starts in the first or just after it.
@@ -101,7 +71,7 @@ fn together(first: Line, second: Line) -> Option<Line>
 }
 
 /// Adds the addresses that a line says.
-pub(crate) fn add(list: &mut Addresses, line: Line) -> Result<(), ListError>
+fn add(list: &mut Addresses, line: Line) -> Result<(), ListError>
     requires { AreAddresses line }
     ensures added { OnOk result (HasJust list.new
         (λ family n. Has list.old family n ⊎ SaysAddress family n line)) }
@@ -113,21 +83,44 @@ pub(crate) fn add(list: &mut Addresses, line: Line) -> Result<(), ListError>
     }
 }
 
-/// Adds the addresses of spans, one after the other.
-fn add_each<S: Span>(list: &mut Addresses, spans: &[S]) -> Result<(), ListError>
-    ensures added { OnOk result (HasJust list.new (HasOrSays list.old (map S.line spans.now))) }
+/// The line that waits after the last one and the next: both as one, or the next, and then the
+/// addresses of the last one are added.
+fn follow(list: &mut Addresses, last: Line, next: Line) -> Result<Line, ListError>
+    requires last { AreAddresses last }
+    requires next { AreAddresses next }
+    ensures said { IfOk result (λ line. (family : Family) (n : ℕ) → n < 2 ^ width family
+        → (Has list.new family n ⊎ SaysAddress family n line)
+        ↔ ((Has list.old family n ⊎ SaysAddress family n last) ⊎ SaysAddress family n next)) }
+    ensures fits { IfOk result AreAddresses }
     ensures memory { IfErr result (λ error. error ≡ Memory) }
 {
-    for span in spans {
-        add(list, span.line())?;
+    if let Some(both) = together(last, next) {
+        return Ok(both);
     }
-    Ok(())
+    add(list, last)?;
+    Ok(next)
+}
+
+/// Adds the addresses of spans, one after the other.
+fn add_each<A: FamilyAddress>(list: &mut Addresses, spans: &[Span<A>]) -> Result<(), ListError>
+    ensures added { OnOk result
+        (HasJust list.new (HasOrSays list.old (map (line_of A.its_family A.number) spans.now))) }
+    ensures memory { IfErr result (λ error. error ≡ Memory) }
+{
+    let mut last = Line::Nothing;
+    for span in spans {
+        last = follow(list, last, span.line())?;
+    }
+    add(list, last)
 }
 
 /// Adds the addresses of the spans, which then wait no more.
-fn add_sorted<S: Span>(list: &mut Addresses, spans: &mut Vec<S>) -> Result<(), ListError>
-    ensures added { OnOk result
-        (HasJust list.new (HasOrSays list.old (map S.line spans.old.items))) }
+fn add_sorted<A: FamilyAddress>(
+    list: &mut Addresses,
+    spans: &mut Vec<Span<A>>,
+) -> Result<(), ListError>
+    ensures added { OnOk result (HasJust list.new
+        (HasOrSays list.old (map (line_of A.its_family A.number) spans.old.items))) }
     ensures none { OnOk result (spans.new.items ≡ []) }
     ensures memory { IfErr result (λ error. error ≡ Memory) }
 {
@@ -138,14 +131,18 @@ fn add_sorted<S: Span>(list: &mut Addresses, spans: &mut Vec<S>) -> Result<(), L
 }
 
 /// Lets a span wait, and adds the addresses of those before it where these are too many.
-fn put<S: Span>(list: &mut Addresses, spans: &mut Vec<S>, span: S) -> Result<(), ListError>
+fn put<A: FamilyAddress>(
+    list: &mut Addresses,
+    spans: &mut Vec<Span<A>>,
+    span: Span<A>,
+) -> Result<(), ListError>
     ensures put { OnOk result ((family : Family) (n : ℕ) → n < 2 ^ width family
-        → HasOrSays list.new (map S.line spans.new.items) family n
-        ↔ (HasOrSays list.old (map S.line spans.old.items) family n
-        ⊎ SaysAddress family n (S.line span))) }
+        → HasOrSays list.new (map (line_of A.its_family A.number) spans.new.items) family n
+        ↔ (HasOrSays list.old (map (line_of A.its_family A.number) spans.old.items) family n
+        ⊎ SaysAddress family n (line_of A.its_family A.number span))) }
     ensures memory { IfErr result (λ error. error ≡ Memory) }
 {
-    if spans.len() >= S::MOST {
+    if spans.len() >= most(A::family()) {
         add_sorted(list, spans)?;
     }
     match spans.push(span) {
@@ -156,9 +153,8 @@ fn put<S: Span>(list: &mut Addresses, spans: &mut Vec<S>, span: S) -> Result<(),
 
 impl Waiting {
     /// Nothing. Allocates nothing.
-    pub(crate) fn new(alloc: Global) -> Waiting
-        ensures last { AreAddresses result.last }
-        ensures none { (list : Addresses) (family : Family) (n : ℕ)
+    pub fn new(alloc: Global) -> Waiting
+        ensures { (list : Addresses) (family : Family) (n : ℕ)
             → HasSoFar list result family n ↔ Has list family n }
     {
         Waiting {
@@ -170,12 +166,10 @@ impl Waiting {
 
     /// Takes in a line.
     pub(crate) fn take(&mut self, list: &mut Addresses, line: Line) -> Result<(), ListError>
-        requires last { AreAddresses self.old.last }
-        requires line { AreAddresses line }
+        requires { AreAddresses line }
         ensures taken { OnOk result ((family : Family) (n : ℕ) → n < 2 ^ width family
             → HasSoFar list.new self.new family n
             ↔ (HasSoFar list.old self.old family n ⊎ SaysAddress family n line)) }
-        ensures last { OnOk result (AreAddresses self.new.last) }
         ensures memory { IfErr result (λ error. error ≡ Memory) }
     {
         if let Some(both) = together(self.last, line) {
@@ -185,19 +179,22 @@ impl Waiting {
         match self.last {
             Line::Nothing => {}
             Line::Addresses(Family::V4, first, last) => {
-                put(list, &mut self.v4, SpanV4(first as u32, last as u32))?
+                put(
+                    list,
+                    &mut self.v4,
+                    Span(Ipv4(first as u32), Ipv4(last as u32)),
+                )?
             }
             Line::Addresses(Family::V6, first, last) => {
-                put(list, &mut self.v6, SpanV6(first, last))?
+                put(list, &mut self.v6, Span(Ipv6(first), Ipv6(last)))?
             }
         }
         self.last = line;
         Ok(())
     }
 
-    /// Adds the addresses of all lines.
-    pub(crate) fn add_all(mut self, list: &mut Addresses) -> Result<(), ListError>
-        requires { AreAddresses self.last }
+    /// Adds all addresses that wait. Fails where an allocation fails, and may then have added some.
+    pub fn add_all(mut self, list: &mut Addresses) -> Result<(), ListError>
         ensures added { OnOk result (HasJust list.new (HasSoFar list.old self)) }
         ensures memory { IfErr result (λ error. error ≡ Memory) }
     {

@@ -1,6 +1,6 @@
-use Rattle.std.proofs.Common.{IfSome, arith, inr, subst, sym}
+use Rattle.std.proofs.Common.{IfSome, arith, inr, subst}
 use Rattle.std.proofs.lemmas.Result.{err_from_is_err_and}
-use Rattle.address_lists.specs.Files.{IsFirstLine, IsStart}
+use Rattle.address_lists.specs.Files.{IsStart}
 use Rattle.address_lists.proofs.Files.{json_read, json_unread, lines_read, lines_unread, none_read, none_seen}
 use Rattle.address_lists.proofs.file.read_addresses.Goals as goal
 
@@ -53,8 +53,7 @@ returns-clause-read g c =
     c.in-Some.start c.read_lines.result
     (subst (λ s. IfSome (g.R.Read.remaining c.args.input.now) (λ bytes. IsStart bytes s later))
     c.in-Some.is c.in_ok-start.ensures.found)
-    (grind arith) (λ bytes first. c.read_lines.ensures.read bytes
-    (subst (λ l. IsFirstLine bytes l later) (sym c.as_slice-line.ensures.value) first))
+    (grind arith) c.read_lines.ensures.read
 
 pub returns-clause-fault : goal.returns-clause-fault
 returns-clause-fault g c =
@@ -63,6 +62,5 @@ returns-clause-fault g c =
     c.in-Some.start c.read_lines.result
     (subst (λ s. IfSome (g.R.Read.remaining c.args.input.now) (λ bytes. IsStart bytes s later))
     c.in-Some.is c.in_ok-start.ensures.found)
-    (grind arith) (λ bytes first. c.read_lines.ensures.bad bytes
-    (subst (λ l. IsFirstLine bytes l later) (sym c.as_slice-line.ensures.value) first))
+    (grind arith) c.read_lines.ensures.bad
     c.read_lines.ensures.skipped

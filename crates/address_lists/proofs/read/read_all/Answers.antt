@@ -1,16 +1,20 @@
-use Rattle.std.proofs.Common.{◌≡◌, ℕ, ◌+◌, Ok, IfSome, ◌∙◌, inr, ap, subst, sym, arith}
+use Rattle.std.proofs.Common.{◌≡◌, ℕ, ◌+◌, Ok, IfSome, ◌∙◌, inr, ap, refl, subst, arith}
 use Rattle.std.proofs.lemmas.Result.{err_from_is_err_and}
-use Rattle.address_text.specs.Lines.{AreAddresses}
 use Rattle.address_lists.specs.Reading.{IsFound}
 use Rattle.address_lists.specs.Waiting.{HasSoFar}
 use Rattle.address_lists.specs.declared.addresses.Addresses.{Addresses}
-use Rattle.address_lists.specs.declared.waiting.Waiting.{Waiting}
+use Rattle.address_lists.specs.declared.spans.Waiting.{Waiting}
 use Rattle.address_lists.proofs.Reading.{IsReadTo, all_read, fault_found, line_left_out, line_read, other_fault, read_none}
 use Rattle.address_lists.proofs.read.read_all.Goals as goal
 use Rattle.address_lists.proofs.read.read_all.Goals.{in-Good+in_ok-take-in-Good, in-Other}
 
 pub loop-number-init : goal.loop-number-init
-loop-number-init g c = grind (arith, read_none)
+loop-number-init g c = (
+  omega arith,
+  λ refused. refl,
+  read_none c.args.strict c.args.first (g.R.Read.remaining c.args.input.now)
+      (HasSoFar c.args.list.now c.args.waiting.now),
+)
 
 pub returns-in_err-line-clause-bad : goal.returns-in_err-line-clause-bad
 returns-in_err-line-clause-bad g c =
@@ -18,8 +22,9 @@ returns-in_err-line-clause-bad g c =
     rw (error.1, error.2)
     (fault_found c.args.strict c.args.first c.args.bad_lines (g.R.Read.remaining c.args.input.now)
     (g.R.Read.remaining c.loop-number.input) c.loop-number.number c.loop-number.others
-    c.args.list.now (HasSoFar c.loop-number.list c.loop-number.waiting) c.in_err-line.field-0.0
-    c.loop-number.invariant.1 c.in_err-line.ensures.skipped c.loop-number.invariant.3
+    (HasSoFar c.args.list.now c.args.waiting.now)
+    (HasSoFar c.loop-number.list c.loop-number.waiting) c.in_err-line.field-0.0
+    c.loop-number.invariant.1 c.in_err-line.ensures.skipped c.loop-number.invariant.2
     c.in_err-line.ensures.bad)
 
 pub returns-in_err-take-in-Good-clause-bad : goal.returns-in_err-take-in-Good-clause-bad
@@ -36,8 +41,9 @@ returns-in-End-clause-read g c =
     let ended = subst (IsFound c.args.strict rest (g.R.Read.remaining c.read_line.new.input))
     c.in-End.is c.in_ok-line.ensures.found in
     all_read c.args.strict c.args.first (g.R.Read.remaining c.args.input.now) rest c.loop-number.number
-    c.loop-number.others c.args.list.now (HasSoFar c.loop-number.list c.loop-number.waiting)
-    c.loop-number.invariant.3 ended
+    c.loop-number.others (HasSoFar c.args.list.now c.args.waiting.now)
+    (HasSoFar c.loop-number.list c.loop-number.waiting)
+    c.loop-number.invariant.2 ended
 
 as_before : {A B C : Type 0} (P : A → B → C → Type 0) (a a' : A) (b b' : B) (c c' : C) → a ≡ a'
     → b ≡ b' → c ≡ c' → P a' b' c' → P a b c
@@ -52,7 +58,7 @@ loop-number-preserved g c =
     let later = g.R.Read.remaining c.read_line.new.input in
     let number = c.loop-number.number in
     let others = c.loop-number.others in
-    let old = c.args.list.now in
+    let old = HasSoFar c.args.list.now c.args.waiting.now in
     let list = c.loop-number.list in
     let waiting = c.loop-number.waiting in
     let known = c.loop-number.invariant in
@@ -60,7 +66,6 @@ loop-number-preserved g c =
     let few = known.0 in
     let Holds : ℕ → Addresses → Waiting → Type 0 =
     λ n l w. IfSome input (λ bytes. IsReadTo strict first bytes later (number + 1) n old (HasSoFar l w)) in
-    let Fits : Waiting → Type 0 = λ w. AreAddresses w.last in
     elim next.branch [
       | in-Good+in_ok-take-in-Good w ↦
           let found =
@@ -68,11 +73,10 @@ loop-number-preserved g c =
           let same = w.others-is in (
             omega (arith, few, same),
             λ e. same ∙ known.1 e,
-            subst Fits (sym w.waiting-is) w.in_ok-take-in-Good.ensures.last,
             as_before Holds next.others others next.list w.take.new.list next.waiting
                 w.take.new.self same w.list-is w.waiting-is
                 (line_read strict first input rest later number others old (HasSoFar list waiting)
-                (HasSoFar w.take.new.list w.take.new.self) w.in-Good.line known.3 found.1
+                (HasSoFar w.take.new.list w.take.new.self) w.in-Good.line known.2 found.1
                 w.in_ok-take-in-Good.ensures.taken),
           )
       | in-Other w ↦
@@ -81,11 +85,10 @@ loop-number-preserved g c =
           let more = w.others-is in (
             omega (arith, few, more),
             λ e. absurd (c.in_ok-line.ensures.refused e (ap Ok w.in-Other.is)),
-            subst Fits (sym w.waiting-is) known.2,
             as_before Holds next.others (others + 1) next.list list next.waiting waiting more
                 w.list-is w.waiting-is
                 (line_left_out strict first input rest later number others old (HasSoFar list waiting)
-                known.3 found),
+                known.2 found),
           )
     ]
 

@@ -1,13 +1,13 @@
 use Rattle.std.proofs.Common.{map, subst}
 use Rattle.std.proofs.lemmas.List.Sorted.{IsPermutation-map}
 use Rattle.address_lists.specs.Lists.{HasJust}
-use Rattle.address_lists.specs.Waiting.{HasOrSays}
+use Rattle.address_lists.specs.Waiting.{HasOrSays, line_of}
 use Rattle.address_lists.proofs.Lines.{added_moved}
 use Rattle.address_lists.proofs.waiting.add_sorted.Goals as goal
 
 pub returns-clause-added : goal.returns-clause-added
 returns-clause-added g c =
-    let line = g.S.Span.line in
+    let line = line_of g.A.FamilyAddress.its_family g.A.Address.number in
     let old = c.args.list.now in
     let now = c.add_each.new.list in
     let spans = c.args.spans.now.items in
