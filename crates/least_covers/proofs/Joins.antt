@@ -1,0 +1,156 @@
+-- Rows of two halves, joined.
+use Rattle.std.proofs.Common.{◌≡◌, ℕ, zero, suc, ◌+◌, ◌-◌, ◌≤◌, ◌<◌, ◌⊎◌, min, List, [], ◌∷◌, ◌++◌, length, get_or, inl, inr, refl, ap, sym, subst, ◌∙◌, arith, length-append}
+use Rattle.std.proofs.lemmas.Bool.{cases_lt}
+use Rattle.std.proofs.lemmas.List.{get_or_append_left, get_or_push}
+use Rattle.least_covers.specs.Rows.{IsJoinedSoFar, IsShared, at}
+
+-- more prefixes add no more
+abbrev pub Falls : List ℕ → Type 0
+Falls row = (i j : ℕ) → 1 ≤ i → i ≤ j → at row j ≤ at row i
+
+pub at_place : (row : List ℕ) (i k : ℕ) → min k (length row) - 1 ≡ i → at row k ≡ get_or row i 0
+at_place row i k e = ap (λ n. get_or row n 0) e
+
+-- the last is the least
+pub at_last : (row : List ℕ) (k : ℕ) → Falls row → 1 ≤ k → 1 ≤ length row
+    → at row (length row) ≤ at row k
+at_last row k falls some any = elim (cases_lt (length row) k) [
+  | inl past ↦
+      let e = at_place row (length row - 1) k (omega arith) in
+      let f = at_place row (length row - 1) (length row) (omega arith) in omega arith
+  | inr inside ↦ falls k (length row) some inside
+]
+
+module _ (room : ℕ) (low high : List ℕ) where
+  -- the first number is the block's own
+  pub joined_none : IsJoinedSoFar room low high (0 ∷ []) (room ∷ [])
+  joined_none = record {
+    count = refl;
+    each = λ k some last. inl (
+      let z : k - 1 ≡ 0 = omega arith in rw z refl,
+      let z : k - 1 ≡ 0 = omega arith in rw z refl,
+    );
+    least = λ k i last some less. absurd (omega arith);
+  }
+
+  module _ (shares row : List ℕ) (share added : ℕ) where
+    joined_each : IsJoinedSoFar room low high shares row
+        → IsShared room low high (length row + 1) share added
+        → (k : ℕ) → 1 ≤ k → k ≤ length (row ++ added ∷ [])
+        → IsShared room low high k (get_or (shares ++ share ∷ []) (k - 1) 0)
+        (get_or (row ++ added ∷ []) (k - 1) 0)
+    joined_each so new k some last =
+        let more = length-append row (added ∷ []) in
+        let count = so.count in
+        elim (cases_lt (length row) k) [
+          | inl past ↦
+              let e : k ≡ length row + 1 = omega arith in
+              let s = get_or_push shares share 0 (k - 1) (omega arith) in
+              let t = get_or_push row added 0 (k - 1) (omega arith) in
+              rw (s, t) (rw e new)
+          | inr inside ↦
+              let s = get_or_append_left shares (share ∷ []) 0 (k - 1) (omega arith) in
+              let t = get_or_append_left row (added ∷ []) 0 (k - 1) (omega arith) in
+              rw (s, t) (so.each k some inside)
+        ]
+
+    joined_least : IsJoinedSoFar room low high shares row
+        → ((i : ℕ) → 1 ≤ i → i < length row + 1 → added ≤ at low i + at high (length row + 1 - i))
+        → (k i : ℕ) → k ≤ length (row ++ added ∷ []) → 1 ≤ i → i < k
+        → get_or (row ++ added ∷ []) (k - 1) 0 ≤ at low i + at high (k - i)
+    joined_least so new k i last some less =
+        let more = length-append row (added ∷ []) in
+        elim (cases_lt (length row) k) [
+          | inl past ↦
+              let e : k ≡ length row + 1 = omega arith in
+              let t = get_or_push row added 0 (k - 1) (omega arith) in
+              rw t (rw e (new i some (omega arith)))
+          | inr inside ↦
+              let t = get_or_append_left row (added ∷ []) 0 (k - 1) (omega arith) in
+              rw t (so.least k i inside some less)
+        ]
+
+    pub joined_more : IsJoinedSoFar room low high shares row
+        → IsShared room low high (length row + 1) share added
+        → ((i : ℕ) → 1 ≤ i → i < length row + 1 → added ≤ at low i + at high (length row + 1 - i))
+        → IsJoinedSoFar room low high (shares ++ share ∷ []) (row ++ added ∷ [])
+    joined_more so new least =
+        let more = length-append row (added ∷ []) in
+        let others = length-append shares (share ∷ []) in
+        let count = so.count in
+        record {
+          count = omega arith;
+          each = joined_each so new;
+          least = joined_least so least;
+        }
+
+  module _ (most : ℕ) (shares row : List ℕ) (so : IsJoinedSoFar room low high shares row)
+      (some : 1 ≤ most) (lows : 1 ≤ length low) (highs : 1 ≤ length high)
+      (whole : length row ≡ min most (length low + length high)) (low_falls : Falls low)
+      (high_falls : Falls high) (fits : at low 1 + at high 1 ≤ room) where
+    -- no way to share k prefixes adds fewer numbers
+    pub all_least : (k i : ℕ) → k ≤ most → 1 ≤ i → i < k → at row k ≤ at low i + at high (k - i)
+    all_least k i last first less = elim (cases_lt (length row) k) [
+      | inl past ↦
+          let e = at_place row (length row - 1) k (omega arith) in
+          let f = so.least (length row) (length low) (omega arith) lows (omega arith) in
+          let r : length row - length low ≡ length high = omega arith in
+          let g : get_or row (length row - 1) 0 ≤ at low (length low) + at high (length high) = rw r at f in
+          let l = at_last low i low_falls first lows in
+          let h = at_last high (k - i) high_falls (omega arith) highs in omega arith
+      | inr inside ↦
+          let e = at_place row (k - 1) k (omega arith) in
+          let f = so.least k i inside first less in omega arith
+    ]
+
+    all_within : (k : ℕ) → 1 ≤ k → k ≤ length row → at row k ≤ room
+    all_within k first last =
+        let e = at_place row (k - 1) k (omega arith) in
+        elim (so.each k first last) [
+          | inl own ↦ let is = own.1 in omega arith
+          | inr shared ↦
+              let s : ℕ = get_or shares (k - 1) 0 in
+              let is = shared.2 in
+              let less = shared.1 in
+              let l = low_falls 1 s (omega arith) shared.0 in
+              let h = high_falls 1 (k - s) (omega arith) (omega (arith, less)) in
+              omega (arith, is)
+        ]
+
+    step : (k : ℕ) → 1 ≤ k → k < length row → at row (suc k) ≤ at row k
+    step k first last =
+        let e = at_place row (k - 1) k (omega arith) in
+        elim (so.each k first (omega arith)) [
+          | inl own ↦
+              let is = own.1 in
+              let w = all_within (suc k) (omega arith) (omega arith) in omega arith
+          | inr shared ↦
+              let s : ℕ = get_or shares (k - 1) 0 in
+              let is = shared.2 in
+              let less = shared.1 in
+              let one = shared.0 in
+              let h = high_falls (k - s) (suc k - s) (omega (arith, less)) (omega arith) in
+              let l = all_least (suc k) s (omega arith) one (omega (arith, less)) in
+              omega (arith, is)
+        ]
+
+    steps : (more k : ℕ) → 1 ≤ k → at row (k + more) ≤ at row k
+    steps zero k first = let z : k + 0 ≡ k = omega arith in rw z (omega arith)
+    steps (suc more) k first =
+        let z : k + suc more ≡ suc (k + more) = omega arith in
+        let again = steps more k first in
+        elim (cases_lt (k + more) (length row)) [
+          | inl inside ↦ let next = step (k + more) (omega arith) inside in rw z (omega arith)
+          | inr past ↦
+              let e = at_place row (length row - 1) (k + more) (omega arith) in
+              let f = at_place row (length row - 1) (suc (k + more)) (omega arith) in
+              rw z (omega arith)
+        ]
+
+    pub all_falls : Falls row
+    all_falls i j first le =
+        let z : i + (j - i) ≡ j = omega arith in
+        let h = steps (j - i) i first in rw z at h
+
+    pub first_within : at row 1 ≤ room
+    first_within = all_within 1 (omega arith) (omega arith)
