@@ -1,12 +1,8 @@
 -- Rows of two halves, joined.
-use Rattle.std.proofs.Common.{◌≡◌, ℕ, zero, suc, ◌+◌, ◌-◌, ◌≤◌, ◌<◌, ◌⊎◌, min, List, [], ◌∷◌, ◌++◌, length, get_or, inl, inr, refl, ap, sym, subst, ◌∙◌, arith, length-append}
+use Rattle.std.proofs.Common.{◌≡◌, ℕ, zero, suc, ◌+◌, ◌-◌, ◌≤◌, ◌<◌, ◌⊎◌, max, min, List, [], ◌∷◌, ◌++◌, length, get_or, inl, inr, refl, ap, sym, subst, ◌∙◌, arith, length-append}
 use Rattle.std.proofs.lemmas.Bool.{cases_lt}
 use Rattle.std.proofs.lemmas.List.{get_or_append_left, get_or_push}
-use Rattle.least_covers.specs.Rows.{IsJoinedSoFar, IsShared, at}
-
--- more prefixes add no more
-abbrev pub Falls : List ℕ → Type 0
-Falls row = (i j : ℕ) → 1 ≤ i → i ≤ j → at row j ≤ at row i
+use Rattle.least_covers.specs.Rows.{Falls, IsJoinedSoFar, IsShared, at}
 
 pub at_place : (row : List ℕ) (i k : ℕ) → min k (length row) - 1 ≡ i → at row k ≡ get_or row i 0
 at_place row i k e = ap (λ n. get_or row n 0) e
@@ -154,3 +150,59 @@ module _ (room : ℕ) (low high : List ℕ) where
 
     pub first_within : at row 1 ≤ room
     first_within = all_within 1 (omega arith) (omega arith)
+
+-- of the shares from a first one to one before a last one, none adds fewer numbers
+pub record IsBestSoFar (low high : List ℕ) (prefixes start past first added : ℕ) : Type 0 where
+  pub some : 1 ≤ first
+  pub rest : first < prefixes
+  pub sum : added ≡ at low first + at high (prefixes - first)
+  pub least : (i : ℕ) → start ≤ i → i < past → added ≤ at low i + at high (prefixes - i)
+
+module _ (low high : List ℕ) (prefixes start past first added : ℕ)
+    (so : IsBestSoFar low high prefixes start past first added) where
+  pub best_new : (more : ℕ) → more ≡ at low past + at high (prefixes - past) → more < added
+      → 1 ≤ past → past < prefixes → IsBestSoFar low high prefixes start (past + 1) past more
+  best_new more is less some rest = record {
+    some = some;
+    rest = rest;
+    sum = is;
+    least = λ i from to. elim (cases_lt i past) [
+      | inl before ↦ let h = so.least i from before in omega arith
+      | inr after ↦ let e : i ≡ past = omega arith in rw e (omega arith)
+    ];
+  }
+
+  pub best_old : (more : ℕ) → more ≡ at low past + at high (prefixes - past) → added ≤ more
+      → IsBestSoFar low high prefixes start (past + 1) first added
+  best_old more is less = record {
+    some = so.some;
+    rest = so.rest;
+    sum = so.sum;
+    least = λ i from to. elim (cases_lt i past) [
+      | inl before ↦ so.least i from before
+      | inr after ↦ let e : i ≡ past = omega arith in rw e (omega arith)
+    ];
+  }
+
+  -- where those before and after would give a half more prefixes than its row has
+  pub best_of_all : (end : ℕ) → Falls low → Falls high → 1 ≤ length low → 1 ≤ length high
+      → 2 ≤ prefixes → prefixes ≤ length low + length high
+      → start ≡ max (prefixes - length high) 1 → end ≡ min (length low) (prefixes - 1)
+      → end < past → (i : ℕ) → 1 ≤ i → i < prefixes → added ≤ at low i + at high (prefixes - i)
+  best_of_all end low_falls high_falls lows highs two all first_is end_is done i one less =
+      elim (cases_lt i start) [
+        | inl before ↦
+            let e : prefixes - start ≡ length high = omega arith in
+            let l = low_falls i start one (omega arith) in
+            let h = at_last high (prefixes - i) high_falls (omega arith) highs in
+            let b = so.least start (omega arith) (omega arith) in
+            let c : added ≤ at low start + at high (length high) = rw e at b in omega arith
+        | inr from ↦ elim (cases_lt i past) [
+            | inl inside ↦ so.least i from inside
+            | inr after ↦
+                let b = so.least (length low) (omega arith) (omega arith) in
+                let l = at_last low i low_falls one lows in
+                let h = high_falls (prefixes - i) (prefixes - length low) (omega arith) (omega arith) in
+                omega arith
+          ]
+      ]

@@ -2,3 +2,4 @@
 pub mod Covers
 pub mod Rows
 pub mod Runs
+pub mod Trees

@@ -8,6 +8,10 @@ use Rattle.least_covers.specs.Covers.{how_many, some_holds}
 abbrev pub at : List ℕ → ℕ → ℕ
 at row k = get_or row (min k (length row) - 1) 0
 
+-- more prefixes add no more
+abbrev pub Falls : List ℕ → Type 0
+Falls row = (i j : ℕ) → 1 ≤ i → i ≤ j → at row j ≤ at row i
+
 -- the prefixes hold each number of a block that passes
 abbrev pub AreCovered : ℕ → (ℕ → Bool) → List Bits → Type 0
 AreCovered width f ps = (n : ℕ) → n < 2 ^ width → f n ≡ true → some_holds ps (bits width n) ≡ true
@@ -17,7 +21,7 @@ pub record IsRow (most width : ℕ) (f : ℕ → Bool) (room : ℕ) (row : List 
   pub some : (n : ℕ) × (n < 2 ^ width) × (f n ≡ true)
   pub least : (k : ℕ) → k ≤ most → (ps : List Bits) → length ps ≤ k → AreCovered width f ps
       → at row k + how_many (2 ^ width) f ≤ how_many (2 ^ width) (λ n. some_holds ps (bits width n))
-  pub falls : (i j : ℕ) → 1 ≤ i → i ≤ j → at row j ≤ at row i
+  pub falls : Falls row
   pub within : at row 1 ≤ room
   pub count : how_many (2 ^ width) f + room ≡ 2 ^ width
 
