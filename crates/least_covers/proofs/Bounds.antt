@@ -1,13 +1,12 @@
 -- The rows of blocks: that of a block whose numbers all pass, and that of two halves.
-use Rattle.std.proofs.Common.{◌≡◌, ℕ, zero, suc, ◌+◌, ◌-◌, ◌≤◌, ◌<◌, ◌^◌, ◌⊎◌, Bool, true, false, min, List, [], ◌∷◌, length, get_or, inl, inr, refl, ap, sym, subst, ◌∙◌, arith, pow_pos}
-use Rattle.std.proofs.lemmas.Bool.{cases_lt}
+use Rattle.std.proofs.Common.{◌≡◌, ℕ, suc, ◌+◌, ◌-◌, ◌≤◌, ◌<◌, ◌^◌, Bool, true, false, min, List, [], ◌∷◌, length, refl, ap, sym, ◌∙◌, arith, pow_pos}
 use Rattle.shortest_tables.specs.Tables.{Bits}
 use Rattle.shortest_tables.specs.Numbers.{bits}
 use Rattle.least_covers.specs.Covers.{how_many, some_holds}
 use Rattle.least_covers.specs.Rows.{AreCovered, Falls, IsJoinedSoFar, IsRow, at}
 use Rattle.least_covers.proofs.Counts.{counts_all, counts_ext, counts_halves, counts_le, counts_none}
 use Rattle.least_covers.proofs.Halves.{has_root, high_bits, low_bits, root_holds, some_prefix, under, under_both, under_fewer, under_holds}
-use Rattle.least_covers.proofs.Joins.{all_falls, all_least, at_place, first_within}
+use Rattle.least_covers.proofs.Joins.{all_falls, all_least, first_within}
 
 one_number : (k : ℕ) → at (0 ∷ []) k ≡ 0
 one_number k = let z : min k 1 - 1 ≡ 0 = omega arith in rw z refl

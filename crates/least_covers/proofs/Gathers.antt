@@ -1,10 +1,10 @@
 -- The row and the tree of a block, by those of its halves.
-use Rattle.std.proofs.Common.{◌≡◌, ℕ, zero, suc, ◌+◌, ◌-◌, ◌*◌, ◌≤◌, ◌<◌, ◌^◌, Bool, true, false, if◌then◌else◌, min, List, [], ◌∷◌, ◌++◌, append-nil, append_assoc, length, inl, inr, refl, ap, sym, subst, ◌∙◌, arith, pow_pos}
+use Rattle.std.proofs.Common.{◌≡◌, ℕ, suc, ◌+◌, ◌-◌, ◌*◌, ◌≤◌, ◌<◌, ◌^◌, Bool, true, false, if◌then◌else◌, min, List, [], ◌∷◌, ◌++◌, append-nil, append_assoc, length, inl, inr, ap, sym, subst, ◌∙◌, arith, pow_pos}
 use Rattle.std.proofs.Math.Nat.{add-mul, mul-add}
 use Rattle.std.proofs.lemmas.Bool.{cases_lt}
 use Rattle.least_covers.specs.Rows.{Falls, IsJoinedSoFar, IsRow, at}
 use Rattle.least_covers.specs.Runs.{AreLeft, IsUniform, has}
-use Rattle.least_covers.specs.Trees.{AreMade, HasTree, IsDivided, IsFound, IsGathered, IsJoined, IsTree, Tree, Whole, Divided, chosen, nodes_of, shares_of}
+use Rattle.least_covers.specs.Trees.{AreMade, HasTree, IsFound, IsGathered, IsJoined, IsTree, Tree, Whole, Divided, chosen, nodes_of, shares_of}
 use Rattle.least_covers.specs.declared.marks.Marks.{Marks}
 use Rattle.least_covers.specs.declared.marks.Node.{Node}
 use Rattle.least_covers.proofs.Bounds.{both_row, high_row, low_row, same_row, whole_row}
@@ -15,7 +15,11 @@ pub gathered_whole : (most : ℕ) (runs left : List (ℕ × ℕ)) (free from : �
     → AreLeft (from + 2 ^ free) left → ((n : ℕ) → from + 2 ^ free ≤ n → has left n ≡ has runs n)
     → room ≡ 0 → row ≡ (if is_held then 0 ∷ [] else [])
     → new.nodes.items ≡ (if is_held then old.nodes.items ++ record {
-      network = from; free = free; is_divided = false; shares = 0 } ∷ [] else old.nodes.items)
+      network = from;
+      free = free;
+      is_divided = false;
+      shares = 0;
+    } ∷ [] else old.nodes.items)
     → new.shares ≡ old.shares → IsGathered most runs free from old new room row left
 gathered_whole most runs left free from true old new room row uniform ahead alike room_is row_is nodes
     shares =
@@ -123,7 +127,7 @@ module _ (most : ℕ) (runs mid : List (ℕ × ℕ)) (less from : ℕ)
     found_second h highs low high same =
         let t : Tree = high.1.0 in (
           high_row most less (λ n. has runs (from + n)) high_room 0 (h ∷ highs) low.0
-          (second_row high_room (h ∷ highs) high.0),
+              (second_row high_room (h ∷ highs) high.0),
           (
             t,
             λ width aligned fits. high_made width less from runs (h ∷ highs) (chosen width t)
@@ -145,7 +149,7 @@ module _ (most : ℕ) (runs mid : List (ℕ × ℕ)) (less from : ℕ)
     found_first l lows low high same =
         let t : Tree = low.1.0 in (
           low_row most less (λ n. has runs (from + n)) low_room 0 (l ∷ lows)
-          (λ n few. upper_is n ∙ high.0 n few) low.0,
+              (λ n few. upper_is n ∙ high.0 n few) low.0,
           (
             t,
             λ width aligned fits. low_made width less from runs (l ∷ lows) (chosen width t)
@@ -169,7 +173,11 @@ module _ (most : ℕ) (runs mid : List (ℕ × ℕ)) (less from : ℕ)
           → IsJoinedSoFar room (l ∷ lows) (h ∷ highs) shares row
           → length row ≡ min most (length (l ∷ lows) + length (h ∷ highs))
           → new.nodes.items ≡ two.nodes.items ++ record {
-            network = from; free = suc less; is_divided = true; shares = length shares } ∷ []
+            network = from;
+            free = suc less;
+            is_divided = true;
+            shares = length shares;
+          } ∷ []
           → new.shares.items ≡ two.shares.items ++ shares
           → IsRow most (suc less) (λ n. has runs (from + n)) room row
           × ((t : Tree) × IsTree runs (suc less) from row t
@@ -192,11 +200,11 @@ module _ (most : ℕ) (runs mid : List (ℕ × ℕ)) (less from : ℕ)
                   (second_made (h ∷ highs) s high.1.1 width aligned fits) aligned fits,
               (
                 nodes ∙ ap (λ x. x ++ node ∷ []) (high.1.2.0 ∙ ap (λ x. x ++ nodes_of s) low.1.2.0
-                ∙ append_assoc old.nodes.items (nodes_of t) (nodes_of s))
-                ∙ append_assoc old.nodes.items (nodes_of t ++ nodes_of s) (node ∷ []),
+                    ∙ append_assoc old.nodes.items (nodes_of t) (nodes_of s))
+                    ∙ append_assoc old.nodes.items (nodes_of t ++ nodes_of s) (node ∷ []),
                 others ∙ ap (λ x. x ++ shares) (high.1.2.1 ∙ ap (λ x. x ++ shares_of s) low.1.2.1
-                ∙ append_assoc old.shares.items (shares_of t) (shares_of s))
-                ∙ append_assoc old.shares.items (shares_of t ++ shares_of s) shares,
+                    ∙ append_assoc old.shares.items (shares_of t) (shares_of s))
+                    ∙ append_assoc old.shares.items (shares_of t ++ shares_of s) shares,
               ),
             ),
           )
@@ -243,8 +251,8 @@ module _ (most : ℕ) (runs mid left : List (ℕ × ℕ)) (less from : ℕ) (old
       let is = joined.0 in
       let whole = joined.1.2 in (
         found_row most runs (suc less) from old new room row (omega (arith, whole))
-        (found_tree most runs mid less from low.alike old one two new low_room high_room l h lows highs row
-        room joined.1.0 some low.found high.found is joined.1.1 whole joined.1.3 joined.1.4),
+            (found_tree most runs mid less from low.alike old one two new low_room high_room l h lows highs row
+            room joined.1.0 some low.found high.found is joined.1.1 whole joined.1.3 joined.1.4),
         omega (arith, is),
       )
 

@@ -1,16 +1,16 @@
 -- Blocks: which numbers they hold, and how many.
-use Rattle.std.proofs.Common.{◌≡◌, ℕ, zero, suc, ◌+◌, ◌-◌, ◌*◌, ◌≤◌, ◌<◌, ◌^◌, Bool, true, false, ◌||◌, if◌then◌else◌, nat_le, List, [], ◌∷◌, ◌++◌, length, take, map, inl, inr, refl, ap, sym, ◌∙◌, arith, rules, length-append}
+use Rattle.std.proofs.Common.{◌≡◌, ℕ, zero, suc, ◌+◌, ◌-◌, ◌*◌, ◌≤◌, ◌<◌, ◌^◌, Bool, true, false, ◌||◌, if◌then◌else◌, nat_le, List, [], ◌∷◌, ◌++◌, length, take, inl, inr, refl, ap, arith, rules}
 use Rattle.std.specs.List.{AllByRecursion}
 use Rattle.std.proofs.Math.Nat.{mul-le-mul_right, mul-sub}
-use Rattle.std.proofs.Math.Pow.{pow-add, pow_pos}
+use Rattle.std.proofs.Math.Pow.{pow-add}
 use Rattle.std.proofs.lemmas.Bool.{cases_lt}
 use Rattle.std.proofs.lemmas.Bool.Decides.{nat_tests}
 use Rattle.shortest_tables.specs.Tables.{Bits, holds}
 use Rattle.shortest_tables.specs.Numbers.{bits}
-use Rattle.least_covers.specs.Covers.{are_held, how_many, prefixes, some_holds}
+use Rattle.least_covers.specs.Covers.{AreBetween, are_held, how_many}
 use Rattle.least_covers.specs.Trees.{IsBlock, sizes}
 use Rattle.least_covers.specs.declared.blocks.Block.{Block}
-use Rattle.least_covers.proofs.Counts.{counts_add, counts_all, counts_ext, counts_halves, counts_none, counts_or}
+use Rattle.least_covers.proofs.Counts.{counts_all, counts_ext, counts_halves, counts_none, counts_or}
 use Rattle.least_covers.proofs.Halves.{high_bits, low_bits}
 
 next_multiple : (a b c : ℕ) → a * c < b * c → a * c + c ≤ b * c
@@ -108,6 +108,23 @@ module _ (width : ℕ) where
       → AllByRecursion (IsBlock width) cs → AllByRecursion (IsBlock width) (bs ++ cs)
   blocks_append [] cs h k = k
   blocks_append (b ∷ bs) cs h k = (h.0, blocks_append bs cs h.1 k)
+
+  pub between_later : (from past more : ℕ) (bs : List Block) → past ≤ more
+      → AreBetween width from past bs → AreBetween width from more bs
+  between_later from past more [] h is = omega arith
+  between_later from past more (b ∷ bs) h is =
+      (is.0, between_later (b.network + 2 ^ (width - b.length)) past more bs h is.1)
+
+  pub between_sooner : (first from past : ℕ) (bs : List Block) → first ≤ from
+      → AreBetween width from past bs → AreBetween width first past bs
+  between_sooner first from past [] h is = omega arith
+  between_sooner first from past (b ∷ bs) h is = (let k = is.0 in omega (arith, k), is.1)
+
+  pub between_append : (from middle past : ℕ) (bs cs : List Block) → AreBetween width from middle bs
+      → AreBetween width middle past cs → AreBetween width from past (bs ++ cs)
+  between_append from middle past [] cs h k = between_sooner from middle past cs h k
+  between_append from middle past (b ∷ bs) cs h k =
+      (h.0, between_append (b.network + 2 ^ (width - b.length)) middle past bs cs h.1 k)
 
   or_true : (a b : Bool) → b ≡ true → (a || b) ≡ true
   or_true true b h = refl

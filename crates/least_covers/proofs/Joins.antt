@@ -1,5 +1,5 @@
 -- Rows of two halves, joined.
-use Rattle.std.proofs.Common.{◌≡◌, ℕ, zero, suc, ◌+◌, ◌-◌, ◌≤◌, ◌<◌, ◌⊎◌, max, min, List, [], ◌∷◌, ◌++◌, length, get_or, inl, inr, refl, ap, sym, subst, ◌∙◌, arith, length-append}
+use Rattle.std.proofs.Common.{◌≡◌, ℕ, zero, suc, ◌+◌, ◌-◌, ◌≤◌, ◌<◌, max, min, List, [], ◌∷◌, ◌++◌, length, get_or, inl, inr, refl, ap, arith, length-append}
 use Rattle.std.proofs.lemmas.Bool.{cases_lt}
 use Rattle.std.proofs.lemmas.List.{get_or_append_left, get_or_push}
 use Rattle.least_covers.specs.Rows.{Falls, IsJoinedSoFar, IsShared, at}
@@ -198,11 +198,11 @@ module _ (low high : List ℕ) (prefixes start past first added : ℕ)
             let b = so.least start (omega arith) (omega arith) in
             let c : added ≤ at low start + at high (length high) = rw e at b in omega arith
         | inr from ↦ elim (cases_lt i past) [
-            | inl inside ↦ so.least i from inside
-            | inr after ↦
-                let b = so.least (length low) (omega arith) (omega arith) in
-                let l = at_last low i low_falls one lows in
-                let h = high_falls (prefixes - i) (prefixes - length low) (omega arith) (omega arith) in
-                omega arith
-          ]
+          | inl inside ↦ so.least i from inside
+          | inr after ↦
+              let b = so.least (length low) (omega arith) (omega arith) in
+              let l = at_last low i low_falls one lows in
+              let h = high_falls (prefixes - i) (prefixes - length low) (omega arith) (omega arith) in
+              omega arith
+        ]
       ]

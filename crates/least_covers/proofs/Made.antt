@@ -1,16 +1,16 @@
 -- The blocks that trees choose.
-use Rattle.std.proofs.Common.{◌≡◌, ℕ, zero, suc, ◌+◌, ◌-◌, ◌*◌, ◌≤◌, ◌<◌, ◌^◌, ◌⊎◌, Bool, true, false, ◌&&◌, ◌||◌, ◌==◌, if◌then◌else◌, nat_lt, min, List, [], ◌∷◌, ◌++◌, length, get_or, take, inl, inr, refl, ap, sym, subst, ◌∙◌, arith, length-append, pow_mono, pow_pos}
+use Rattle.std.proofs.Common.{◌≡◌, ℕ, suc, ◌+◌, ◌-◌, ◌*◌, ◌≤◌, ◌<◌, ◌^◌, ◌⊎◌, Bool, true, false, ◌||◌, ◌==◌, nat_lt, min, List, [], ◌∷◌, ◌++◌, length, get_or, take, inl, inr, refl, ap, sym, ◌∙◌, arith, length-append, pow_mono, pow_pos}
 use Rattle.std.specs.List.{AllByRecursion}
 use Rattle.std.proofs.lemmas.Bool.{cases_lt, false≢true}
 use Rattle.std.proofs.lemmas.Bool.Decides.{nat_tests}
-use Rattle.shortest_tables.specs.Tables.{Bits, holds}
+use Rattle.shortest_tables.specs.Tables.{holds}
 use Rattle.shortest_tables.specs.Numbers.{bits}
-use Rattle.least_covers.specs.Covers.{are_held, how_many}
+use Rattle.least_covers.specs.Covers.{AreBetween, are_held, how_many}
 use Rattle.least_covers.specs.Rows.{IsJoinedSoFar, at}
 use Rattle.least_covers.specs.Runs.{has}
 use Rattle.least_covers.specs.Trees.{AreMade, IsBlock, high_of, is_own, low_of, own, sizes}
 use Rattle.least_covers.specs.declared.blocks.Block.{Block}
-use Rattle.least_covers.proofs.Held.{blocks_append, held_first, held_second, inside, sizes_append}
+use Rattle.least_covers.proofs.Held.{between_append, between_later, between_sooner, blocks_append, held_first, held_second, inside, sizes_append}
 use Rattle.least_covers.proofs.Counts.{counts_all, counts_ext, counts_halves, counts_none}
 
 or_false : (b : Bool) → b ≡ true → (b || false) ≡ true
@@ -35,6 +35,9 @@ module _ (width free from : ℕ) where
         let z : width - (width - free) ≡ free = omega arith in
         or_false (holds (take (width - free) (bits width from)) (bits width n))
         (inside width (width - free) from n (omega arith) whole_is.1 whole_is.2 low (rw z high))
+
+    whole_between : AreBetween width from (from + 2 ^ free) (whole ∷ [])
+    whole_between = let z : width - (width - free) ≡ free = omega arith in rw z (omega arith, omega arith)
 
     whole_size : sizes width (whole ∷ []) ≡ 2 ^ free
     whole_size = let z : width - (width - free) ≡ free = omega arith in rw z (omega arith)
@@ -100,6 +103,10 @@ whole_made width free from runs all aligned fits =
         | inl some ↦ rw (is k some) (whole_is width free from aligned fits short, tt)
         | inr zero' ↦ let z : k ≡ 0 = omega arith in rw z tt
       ];
+      between = λ k. elim (cases_lt 0 k) [
+        | inl some ↦ rw (is k some) (whole_between width free from aligned fits short)
+        | inr zero' ↦ let z : k ≡ 0 = omega arith in rw z (omega arith)
+      ];
     }
 
 -- runs that say the same of the numbers of a block
@@ -114,6 +121,7 @@ same_made width free from runs others row c same is =
       all = λ k some n low high passes. is.all k some n low high (same n low high ∙ passes);
       adds = λ k some. is.adds k some ∙ omega arith;
       blocks = is.blocks;
+      between = is.between;
     }
 
 module _ (width less from : ℕ) (runs : List (ℕ × ℕ)) where
@@ -127,6 +135,11 @@ module _ (width less from : ℕ) (runs : List (ℕ × ℕ)) where
       (λ n. has runs ((from + 2 ^ less) + n))
       (λ n few. ap (λ m. has runs m) (let z : from + (2 ^ less + n) ≡ (from + 2 ^ less) + n = omega arith in z)) in
       omega arith
+
+  high_end : (bs : List Block) → AreBetween width (from + 2 ^ less) ((from + 2 ^ less) + 2 ^ less) bs
+      → AreBetween width (from + 2 ^ less) (from + 2 ^ suc less) bs
+  high_end bs is =
+      between_later width (from + 2 ^ less) ((from + 2 ^ less) + 2 ^ less) (from + 2 ^ suc less) bs (omega arith) is
 
   -- a block of which one half has no number of the runs
   pub low_made : (row : List ℕ) (c : ℕ → List Block)
@@ -143,6 +156,7 @@ module _ (width less from : ℕ) (runs : List (ℕ × ℕ)) where
         ];
         adds = λ k some. is.adds k some ∙ omega arith;
         blocks = is.blocks;
+        between = λ k. between_later width from (from + 2 ^ less) (from + 2 ^ suc less) (c k) (omega arith) (is.between k);
       }
 
   pub high_made : (row : List ℕ) (c : ℕ → List Block)
@@ -159,6 +173,8 @@ module _ (width less from : ℕ) (runs : List (ℕ × ℕ)) where
         ];
         adds = λ k some. is.adds k some ∙ omega arith;
         blocks = is.blocks;
+        between = λ k. between_sooner width from (from + 2 ^ less) (from + 2 ^ suc less) (c k) (omega arith)
+            (high_end (c k) (is.between k));
       }
 
   module _ (room : ℕ) (low high shares row : List ℕ) (c d : ℕ → List Block)
@@ -212,13 +228,17 @@ module _ (width less from : ℕ) (runs : List (ℕ × ℕ)) where
               let owned : is_own shares k ≡ false = not_own shares k s lows positive in
               let rest : min (length shares) k - s ≡ m - s = omega arith in
               let highs : high_of shares k ≡ m - s = high_is shares k s lows positive ∙ rest in
-              inr (s, m, record {
-                few = omega arith;
-                some = positive;
-                less_is = shared.1;
-                divided_is = rw (owned, highs, lows) refl;
-                divided_adds = shared.2;
-              })
+              inr (
+                s,
+                m,
+                record {
+                  few = omega arith;
+                  some = positive;
+                  less_is = shared.1;
+                  divided_is = rw (owned, highs, lows) refl;
+                  divided_adds = shared.2;
+                },
+              )
         ]
 
     few_of : (k : ℕ) → Choice k → 1 ≤ k → length (bs k) ≤ k
@@ -262,6 +282,16 @@ module _ (width less from : ℕ) (runs : List (ℕ × ℕ)) where
     blocks_of k (inr (s, m, is)) =
         rw is.divided_is (blocks_append width (c s) (d (m - s)) (first.blocks s) (second.blocks (m - s)))
 
+    halves_between : (i j : ℕ) → AreBetween width from (from + 2 ^ suc less) (c i ++ d j)
+    halves_between i j =
+        between_append width from (from + 2 ^ less) (from + 2 ^ suc less) (c i) (d j) (first.between i)
+        (high_end (d j) (second.between j))
+
+    between_of : (k : ℕ) → Choice k → AreBetween width from (from + 2 ^ suc less) (bs k)
+    between_of k (inl is) =
+        rw is.own_is (whole_between width (suc less) from aligned fits (narrow width (suc less) from fits))
+    between_of k (inr (s, m, is)) = rw is.divided_is (halves_between s (m - s))
+
     pub both_made : AreMade width runs (suc less) from row bs
     both_made = record {
       few = λ k. elim (cases_lt 0 k) [
@@ -279,5 +309,9 @@ module _ (width less from : ℕ) (runs : List (ℕ × ℕ)) where
         | inr none ↦
             let z : k ≡ 0 = omega arith in
             rw z (blocks_append width (c 0) (d 0) (first.blocks 0) (second.blocks 0))
+      ];
+      between = λ k. elim (cases_lt 0 k) [
+        | inl some ↦ between_of k (choice k some)
+        | inr none ↦ let z : k ≡ 0 = omega arith in rw z (halves_between 0 0)
       ];
     }

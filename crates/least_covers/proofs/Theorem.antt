@@ -1,21 +1,22 @@
 -- The blocks that are chosen of all numbers cover the runs, and no others add fewer numbers.
-use Rattle.std.proofs.Common.{◌≡◌, ℕ, zero, suc, ◌+◌, ◌-◌, ◌*◌, ◌≤◌, ◌<◌, ◌^◌, Bool, true, false, List, [], ◌∷◌, ◌++◌, map, length, take, reverse, refl, ap, sym, ◌∙◌, subst, arith}
+use Rattle.std.proofs.Common.{◌≡◌, ℕ, ◌+◌, ◌≤◌, ◌<◌, ◌^◌, false, List, [], ◌∷◌, ◌++◌, length, take, reverse, refl, ap, sym, ◌∙◌, arith}
 use Rattle.std.specs.List.{AllByRecursion}
 use Rattle.std.proofs.lemmas.Bool.{false≢true}
 use Rattle.std.proofs.lemmas.List.{length-map, reverse-reverse}
 use Rattle.shortest_tables.specs.Numbers.{bits}
-use Rattle.least_covers.specs.Covers.{Covers, IsLeast, are_held, held, how_many, prefixes}
+use Rattle.least_covers.specs.Covers.{AreBetween, Covers, IsLeast, are_held, held, how_many, prefixes}
 use Rattle.least_covers.specs.Rows.{at}
 use Rattle.least_covers.specs.Runs.{has}
-use Rattle.least_covers.specs.Trees.{IsBlock, IsFound, IsWritten, Tree, chosen, nodes_of, shares_of, sizes}
+use Rattle.least_covers.specs.Trees.{IsBlock, IsFound, IsWritten, Tree, chosen, nodes_of, shares_of}
 use Rattle.least_covers.specs.declared.blocks.Block.{Block}
 use Rattle.least_covers.specs.declared.marks.Marks.{Marks}
 use Rattle.least_covers.proofs.Counts.{counts_ext, counts_none}
-use Rattle.least_covers.proofs.Held.{held_sizes}
+use Rattle.least_covers.proofs.Held.{between_later, held_sizes}
 
 -- what is claimed of the blocks that are returned
 pub record IsLeastCover (most width : ℕ) (runs : List (ℕ × ℕ)) (bs : List Block) (more : ℕ) : Type 0 where
   pub blocks : AllByRecursion (IsBlock width) bs
+  pub ascending : AreBetween width 0 (2 ^ width) bs
   pub within : length bs ≤ most
   pub covers : Covers width runs bs
   pub least : IsLeast width most runs bs
@@ -35,6 +36,7 @@ module _ (most width : ℕ) (runs : List (ℕ × ℕ)) where
       let no_block = counts_none (2 ^ width) (are_held width []) (λ n less. refl) in
       record {
         blocks = tt;
+        ascending = omega arith;
         within = omega arith;
         covers = λ n less passes. absurd (false≢true (sym (none n less) ∙ passes));
         least = λ others few covered. omega arith;
@@ -71,6 +73,7 @@ module _ (most width : ℕ) (runs : List (ℕ × ℕ)) where
       let own' = least cover few covers in
       rw same (record {
         blocks = blocks;
+        ascending = between_later width 0 (0 + 2 ^ width) (2 ^ width) cover (omega arith) (made.between most);
         within = few;
         covers = covers;
         least = λ others' fewer' covered. let h = least others' fewer' covered in omega arith;

@@ -1,5 +1,5 @@
 -- The chosen blocks of a tree, added after those of its halves.
-use Rattle.std.proofs.Common.{◌≡◌, ℕ, ◌+◌, Bool, true, false, List, [], ◌∷◌, ◌++◌, append_assoc, reverse, length, refl, ap, sym, ◌∙◌}
+use Rattle.std.proofs.Common.{◌≡◌, ℕ, Bool, true, false, List, [], ◌∷◌, ◌++◌, append_assoc, reverse, length, refl, ap, sym, ◌∙◌}
 use Rattle.std.proofs.lemmas.Bool.{false≢true}
 use Rattle.std.proofs.lemmas.List.{reverse-append}
 use Rattle.least_covers.specs.Trees.{IsPopped, IsWritten, Whole, Divided, chosen, high_of, is_own, low_of, nodes_of, own, shares_of}

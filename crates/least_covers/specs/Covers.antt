@@ -1,5 +1,5 @@
 -- Blocks that cover the numbers of some runs, and how many numbers they hold.
-use Rattle.std.specs.Prelude.{◌≡◌, ℕ, zero, suc, ◌+◌, ◌≤◌, ◌<◌, ◌^◌, Bool, true, if◌then◌else◌, List, map, length, take}
+use Rattle.std.specs.Prelude.{◌≡◌, ℕ, zero, suc, ◌+◌, ◌-◌, ◌≤◌, ◌<◌, ◌^◌, Bool, true, if◌then◌else◌, List, [], ◌∷◌, map, length, take}
 use Rattle.std.specs.List.{list_any}
 use Rattle.shortest_tables.specs.Tables.{Bits, holds}
 use Rattle.shortest_tables.specs.Numbers.{bits}
@@ -27,6 +27,13 @@ module _ (width : ℕ) where
   -- how many numbers the blocks hold
   abbrev pub held : List Block → ℕ
   held bs = how_many (2 ^ width) (are_held bs)
+
+  -- each block starts where the one before it has ended, or later, the first at a number or after
+  -- it, and the last one ends before another
+  abbrev pub AreBetween : ℕ → ℕ → List Block → Type 0
+  AreBetween from past [] = from ≤ past
+  AreBetween from past (b ∷ bs) = (from ≤ b.network)
+      × AreBetween (b.network + 2 ^ (width - b.length)) past bs
 
   -- the blocks hold each number of the runs
   abbrev pub Covers : List (ℕ × ℕ) → List Block → Type 0

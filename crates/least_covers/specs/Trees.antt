@@ -1,7 +1,7 @@
 -- Blocks divided into halves, and the blocks that are chosen of them with so many prefixes.
 use Rattle.std.specs.Prelude.{◌≡◌, ℕ, ◌+◌, ◌-◌, ◌*◌, ◌≤◌, ◌<◌, ◌^◌, Bool, true, false, ◌&&◌, ◌==◌, if◌then◌else◌, nat_lt, min, List, [], ◌∷◌, ◌++◌, length, reverse}
 use Rattle.std.specs.List.{AllByRecursion}
-use Rattle.least_covers.specs.Covers.{are_held, how_many}
+use Rattle.least_covers.specs.Covers.{AreBetween, are_held, how_many}
 use Rattle.least_covers.specs.Rows.{IsJoinedSoFar, IsRow, at}
 use Rattle.least_covers.specs.Runs.{AreLeft, has}
 use Rattle.least_covers.specs.declared.blocks.Block.{Block}
@@ -60,6 +60,7 @@ module _ (width : ℕ) where
     pub adds : (k : ℕ) → 1 ≤ k
         → sizes (c k) ≡ at row k + how_many (2 ^ free) (λ n. has runs (from + n))
     pub blocks : (k : ℕ) → AllByRecursion IsBlock (c k)
+    pub between : (k : ℕ) → AreBetween width from (from + 2 ^ free) (c k)
 
 -- a tree's nodes, each after those of its halves
 abbrev pub nodes_of : Tree → List Node
@@ -108,7 +109,11 @@ IsDivided most network free old new room low_room high_room lows highs row =
     × ((shares : List ℕ) × IsJoinedSoFar room lows highs shares row
     × (length row ≡ min most (length lows + length highs))
     × (new.nodes.items ≡ old.nodes.items ++ record {
-      network = network; free = free; is_divided = true; shares = length shares } ∷ [])
+      network = network;
+      free = free;
+      is_divided = true;
+      shares = length shares;
+    } ∷ [])
     × (new.shares.items ≡ old.shares.items ++ shares))
 
 -- likewise, but where one half has none, the block has what the other one has
@@ -125,7 +130,11 @@ abbrev pub IsPopped : ℕ → Marks → Marks → Taken → Type 0
 IsPopped k old new taken = (nodes : List Node) (others shares : List ℕ) (network free : ℕ)
     (is_divided : Bool)
     → old.nodes.items ≡ nodes ++ record {
-      network = network; free = free; is_divided = is_divided; shares = length shares } ∷ []
+      network = network;
+      free = free;
+      is_divided = is_divided;
+      shares = length shares;
+    } ∷ []
     → old.shares.items ≡ others ++ shares
     → (new.nodes.items ≡ nodes) × (new.shares.items ≡ others)
     × (taken.network ≡ network) × (taken.free ≡ free) × (taken.is_divided ≡ is_divided)

@@ -61,15 +61,12 @@ fn join_both(
         low.room high.room low.row.items high.row.items part.row.items) }
 {
     let room = low.room + high.room;
-    let joined = join_rows(
-        alloc,
-        low.row.as_slice(),
-        high.row.as_slice(),
-        room,
-        most,
-    )?;
+    let joined = join_rows(alloc, low.row.as_slice(), high.row.as_slice(), room, most)?;
     marks.push_divided(network, free, joined.shares.as_slice())?;
-    Ok(Part { row: joined.row, room })
+    Ok(Part {
+        row: joined.row,
+        room,
+    })
 }
 
 /// The part of a block whose halves have these.
@@ -97,7 +94,10 @@ fn join(
     let half = greatest_of(free - 1) + 1;
     if low.row.is_empty() {
         let room = high.room + half;
-        return Ok(Part { row: high.row, room });
+        return Ok(Part {
+            row: high.row,
+            room,
+        });
     }
     if high.row.is_empty() {
         let room = low.room + half;

@@ -2,7 +2,7 @@
 
 ghost use Rattle.std.specs.Prelude.{◌≡◌, ◌+◌, ◌≤◌, ◌<◌, ◌^◌, length, IfOk};
 ghost use Rattle.std.specs.List.{AllByRecursion};
-ghost use Rattle.least_covers.specs.Covers.{Covers, IsLeast, held, how_many};
+ghost use Rattle.least_covers.specs.Covers.{AreBetween, Covers, IsLeast, held, how_many};
 ghost use Rattle.least_covers.specs.Rows.{at};
 ghost use Rattle.least_covers.specs.Runs.{AreAscending, has};
 ghost use Rattle.least_covers.specs.Trees.{IsBlock};
@@ -46,6 +46,7 @@ pub fn least_cover(
     requires some { 0 < most }
     requires small { width ≤ 128 }
     ensures blocks { IfOk result (λ cover. AllByRecursion (IsBlock width) cover.blocks.items) }
+    ensures ascending { IfOk result (λ cover. AreBetween width 0 (2 ^ width) cover.blocks.items) }
     ensures within { IfOk result (λ cover. length cover.blocks.items ≤ most) }
     ensures covers { IfOk result (λ cover. Covers width runs.now cover.blocks.items) }
     ensures least { IfOk result (λ cover. IsLeast width most runs.now cover.blocks.items) }

@@ -63,7 +63,11 @@ impl Marks {
     ) -> Result<(), AllocError>
         ensures nodes { OnOk result (self.new.nodes.items ≡ (if is_held
             then self.old.nodes.items ++ record {
-            network = network; free = free; is_divided = false; shares = 0 } ∷ []
+              network = network;
+              free = free;
+              is_divided = false;
+              shares = 0;
+            } ∷ []
             else self.old.nodes.items)) }
         ensures shares { self.new.shares ≡ self.old.shares }
     {
@@ -87,7 +91,11 @@ impl Marks {
         shares: &[u32],
     ) -> Result<(), AllocError>
         ensures nodes { OnOk result (self.new.nodes.items ≡ self.old.nodes.items ++ record {
-            network = network; free = free; is_divided = true; shares = length shares.now } ∷ []) }
+          network = network;
+          free = free;
+          is_divided = true;
+          shares = length shares.now;
+        } ∷ []) }
         ensures shares { OnOk result (self.new.shares.items
             ≡ self.old.shares.items ++ shares.now) }
     {

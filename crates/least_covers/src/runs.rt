@@ -38,10 +38,16 @@ pub(crate) fn uniform(left: &[(u128, u128)], network: u128, free: u8) -> Option<
 {
     let last = network + greatest_of(free);
     let [run, rest @ ..] = left else {
-        return Some(Alike { is_held: false, left });
+        return Some(Alike {
+            is_held: false,
+            left,
+        });
     };
     if last < run.0 {
-        return Some(Alike { is_held: false, left });
+        return Some(Alike {
+            is_held: false,
+            left,
+        });
     }
     if network < run.0 || run.1 < last {
         return None;

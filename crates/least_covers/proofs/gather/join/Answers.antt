@@ -1,4 +1,4 @@
-use Rattle.std.proofs.Common.{rules, ◌+◌, ◌-◌, ◌≤◌, ◌<◌, ◌^◌, arith, pow_mono}
+use Rattle.std.proofs.Common.{rules, ◌+◌, ◌≤◌, ◌<◌, ◌^◌, arith, pow_mono}
 use Rattle.std.proofs.lemmas.Grind.{common_steps}
 use Rattle.shortest_tables.proofs.Gathers.{half_power}
 use Rattle.least_covers.proofs.gather.join.Goals as goal

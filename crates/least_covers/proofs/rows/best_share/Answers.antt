@@ -1,4 +1,4 @@
-use Rattle.std.proofs.Common.{◌+◌, ◌≤◌, refl, ap, subst, sym, arith, rules, max, min, length}
+use Rattle.std.proofs.Common.{◌+◌, subst, sym, arith}
 use Rattle.least_covers.proofs.Joins.{IsBestSoFar, best_new, best_of_all, best_old}
 use Rattle.least_covers.specs.declared.rows.Share.{Share}
 use Rattle.least_covers.proofs.rows.best_share.Goals.{then-added-best, else-added-best}

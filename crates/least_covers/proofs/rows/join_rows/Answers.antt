@@ -1,5 +1,5 @@
-use Rattle.std.proofs.Common.{◌≡◌, ◌+◌, ◌-◌, ◌≤◌, ◌<◌, ◌++◌, ◌∷◌, [], ℕ, length, inr, refl, ap, sym, subst, ◌∙◌, arith, rules, length-append}
-use Rattle.least_covers.specs.Rows.{IsJoinedSoFar, IsShared, at}
+use Rattle.std.proofs.Common.{◌+◌, ◌-◌, ◌≤◌, ◌<◌, ◌∷◌, [], ℕ, length, inr, arith, length-append}
+use Rattle.least_covers.specs.Rows.{IsShared, at}
 use Rattle.least_covers.proofs.Joins.{joined_more}
 use Rattle.least_covers.proofs.rows.join_rows.Goals as goal
 
