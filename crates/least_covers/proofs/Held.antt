@@ -49,6 +49,52 @@ inside (suc width) (suc l) n m short aligned fits low high =
           (omega arith) (omega arith) (omega arith))
     ]
 
+-- and one that begins with its bits lies in it
+pub outside : (width l n m : ℕ) → l ≤ width → ((q : ℕ) × (n ≡ q * 2 ^ (width - l)))
+    → n + 2 ^ (width - l) ≤ 2 ^ width → m < 2 ^ width
+    → holds (take l (bits width n)) (bits width m) ≡ true → (n ≤ m) × (m < n + 2 ^ (width - l))
+outside width zero n m short aligned fits small held =
+    let z : width - 0 ≡ width = omega arith in
+    let end : n + 2 ^ width ≤ 2 ^ width = rw z at fits in
+    rw z (omega (arith, end), omega (arith, end))
+outside zero (suc l) n m short aligned fits small held = absurd (omega arith)
+outside (suc width) (suc l) n m short aligned fits small held =
+    let z : suc width - suc l ≡ width - l = omega arith in
+    let is : n ≡ aligned.0 * 2 ^ (width - l) = rw z at aligned.1 in
+    let split = power_split l width (omega arith) in
+    let end : n + 2 ^ (width - l) ≤ 2 ^ suc width = rw z at fits in
+    rw z (elim (cases_lt n (2 ^ width)) [
+      | inl under ↦
+          let next = next_multiple aligned.0 (2 ^ l) (2 ^ (width - l)) (omega arith) in
+          let fewer : n + 2 ^ (width - l) ≤ 2 ^ width = omega arith in
+          let first : nat_le (2 ^ width) n ≡ false = grind (arith, nat_tests) in
+          elim (cases_lt m (2 ^ width)) [
+            | inl low ↦
+                let second : nat_le (2 ^ width) m ≡ false = grind (arith, nat_tests) in
+                let again : holds (take l (bits width n)) (bits width m) ≡ true = rw (first, second) at held in
+                outside width l n m (omega arith) (aligned.0, is) fewer low again
+            | inr high ↦
+                let second : nat_le (2 ^ width) m ≡ true = grind (arith, nat_tests) in
+                let none : false ≡ true = rw (first, second) at held in absurd (cc)
+          ]
+      | inr above ↦
+          let first : nat_le (2 ^ width) n ≡ true = grind (arith, nat_tests) in
+          elim (cases_lt m (2 ^ width)) [
+            | inl low ↦
+                let second : nat_le (2 ^ width) m ≡ false = grind (arith, nat_tests) in
+                let none : false ≡ true = rw (first, second) at held in absurd (cc)
+            | inr high ↦
+                let second : nat_le (2 ^ width) m ≡ true = grind (arith, nat_tests) in
+                let again : holds (take l (bits width (n - 2 ^ width))) (bits width (m - 2 ^ width)) ≡ true = rw (first, second) at held in
+                let in_half = outside width l (n - 2 ^ width) (m - 2 ^ width) (omega arith)
+                (aligned.0 - 2 ^ l, less_multiple n (2 ^ width) aligned.0 (2 ^ l) (2 ^ (width - l)) is split)
+                (omega arith) (omega arith) again in
+                let low_end = in_half.0 in
+                let high_end = in_half.1 in
+                (omega (arith, low_end), omega (arith, high_end))
+          ]
+    ])
+
 -- how many addresses begin with the bits of a prefix
 prefix_size : (width : ℕ) (p : Bits) → length p ≤ width
     → how_many (2 ^ width) (λ n. holds p (bits width n)) ≡ 2 ^ (width - length p)

@@ -15,7 +15,7 @@ use Rattle.least_covers.proofs.Held.{between_later, held_sizes}
 
 -- what is claimed of the blocks that are returned
 pub record IsLeastCover (most width : ℕ) (runs : List (ℕ × ℕ)) (bs : List Block) (more : ℕ) : Type 0 where
-  pub blocks : AllByRecursion (IsBlock width) bs
+  pub shapes : AllByRecursion (IsBlock width) bs
   pub ascending : AreBetween width 0 (2 ^ width) bs
   pub within : length bs ≤ most
   pub covers : Covers width runs bs
@@ -35,7 +35,7 @@ module _ (most width : ℕ) (runs : List (ℕ × ℕ)) where
       let no_run = counts_none (2 ^ width) (has runs) none in
       let no_block = counts_none (2 ^ width) (are_held width []) (λ n less. refl) in
       record {
-        blocks = tt;
+        shapes = tt;
         ascending = omega arith;
         within = omega arith;
         covers = λ n less passes. absurd (false≢true (sym (none n less) ∙ passes));
@@ -72,7 +72,7 @@ module _ (most width : ℕ) (runs : List (ℕ × ℕ)) where
       let few = made.few most in
       let own' = least cover few covers in
       rw same (record {
-        blocks = blocks;
+        shapes = blocks;
         ascending = between_later width 0 (0 + 2 ^ width) (2 ^ width) cover (omega arith) (made.between most);
         within = few;
         covers = covers;

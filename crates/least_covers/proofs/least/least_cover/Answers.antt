@@ -53,7 +53,7 @@ returns-clause-blocks c =
     (chosen_least c.args.most c.args.width c.args.runs.now c.new-marks.result c.gather.new.marks
     c.push_chosen.new.marks c.in_ok-found.found.part.room row c.push_chosen.new.blocks.items c.reverse.new.self.items
     c.added_with-added.result c.requires.some some c.new-marks.ensures.nodes c.new-marks.ensures.shares
-    c.in_ok-found.ensures.found written c.reverse.ensures.items shown).blocks
+    c.in_ok-found.ensures.found written c.reverse.ensures.items shown).shapes
 
 pub returns-clause-ascending : goal.returns-clause-ascending
 returns-clause-ascending c =
