@@ -1,5 +1,5 @@
 -- Rows of two halves, joined.
-use Rattle.std.proofs.Common.{◌≡◌, ℕ, zero, suc, ◌+◌, ◌-◌, ◌≤◌, ◌<◌, max, min, List, [], ◌∷◌, ◌++◌, length, get_or, inl, inr, refl, ap, arith, length-append}
+use Rattle.std.proofs.Common.{◌≡◌, ℕ, zero, suc, ◌+◌, ◌-◌, ◌≤◌, ◌<◌, max, min, List, [], ◌∷◌, ◌++◌, length, get_or, inl, inr, ap, arith, length-append}
 use Rattle.std.proofs.lemmas.Bool.{cases_lt}
 use Rattle.std.proofs.lemmas.List.{get_or_append_left, get_or_push}
 use Rattle.least_covers.specs.Rows.{Falls, IsJoinedSoFar, IsShared, at}
@@ -18,17 +18,6 @@ at_last row k falls some any = elim (cases_lt (length row) k) [
 ]
 
 module _ (room : ℕ) (low high : List ℕ) where
-  -- the first number is the block's own
-  pub joined_none : IsJoinedSoFar room low high (0 ∷ []) (room ∷ [])
-  joined_none = record {
-    count = refl;
-    each = λ k some last. inl (
-      let z : k - 1 ≡ 0 = omega arith in rw z refl,
-      let z : k - 1 ≡ 0 = omega arith in rw z refl,
-    );
-    least = λ k i last some less. absurd (omega arith);
-  }
-
   module _ (shares row : List ℕ) (share added : ℕ) where
     joined_each : IsJoinedSoFar room low high shares row
         → IsShared room low high (length row + 1) share added
