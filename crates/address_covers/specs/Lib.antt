@@ -1,0 +1,3 @@
+-- Sets that have all addresses of another, and few prefixes.
+pub mod Blocks
+pub mod Covers
