@@ -8,6 +8,7 @@
 //!
 //! - the calls for C, kind by kind: `src/exports/`; what each does to a map or a set:
 //!   `range_handles/src/{kept_map,kept_set}.rt`; what it asks of one: `range_handles/src/reads.rt`
+//! - which status a call answers: `specs/Statuses.antt`
 #![tactic(auto)]
 
 mod exports;

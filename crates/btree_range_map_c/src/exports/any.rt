@@ -1,10 +1,11 @@
 //! The calls on a handle of any kind.
-ghost use Rattle.std.specs.Prelude.{◌≡◌, ◌≢◌, ◌⊎◌, ◌++◌, ◌<◌, ℕ, List, length, drop, None, true, false, IsUtf8};
+ghost use Rattle.std.specs.Prelude.{◌≡◌, ◌≢◌, ◌⊎◌, ◌++◌, ◌<◌, ℕ, List, length, drop, None, true, false, IsUtf8, ◌∷◌, []};
 ghost use Rattle.serde_json.specs.Read.{read};
 ghost use Rattle.range_handles.specs.Alike.{AreAlike, IsCopy};
 ghost use Rattle.range_handles.specs.Fewest.{IsLeastRangeCount};
 ghost use Rattle.range_handles.specs.Held.{HoldsRanges, range_count, emptied};
 ghost use Rattle.range_handles.specs.Texts.{IsTextOf, IsTextRead, IsFaultyText};
+ghost use Rattle.btree_range_map_c.specs.Statuses.{IsAnswer};
 
 use range_ffi::status::{
     CLOSED, DONE, NO_MEMORY, NO_ROOM, NONE, NOT_JSON, NOT_READ, OPEN, OTHER_KIND,
@@ -61,11 +62,8 @@ pub extern "C" fn brm_raw_clone(alloc: Global, handle: &mut Handle, made: &mut H
     ensures made { result ≡ DONE → IsCopy made.new.seal.held handle.old.seal.held }
     ensures refused { result ≢ DONE → made.new.seal.held ≡ made.old.seal.held }
     ensures open { made.old.is_open ≡ true → result ≡ OPEN }
-    ensures closed { made.old.is_open ≡ false → handle.old.is_open ≡ false → result ≡ CLOSED }
-    ensures answer { made.old.is_open ≡ false → HoldsRanges handle.old.seal.held
-        → (result ≡ DONE) ⊎ (result ≡ NO_MEMORY) }
-    ensures other { made.old.is_open ≡ false → handle.old.is_open ≡ true
-        → (¬ HoldsRanges handle.old.seal.held) → result ≡ OTHER_KIND }
+    ensures answer { made.old.is_open ≡ false
+        → IsAnswer HoldsRanges handle.old result (DONE ∷ NO_MEMORY ∷ []) }
 {
     if made.is_open {
         return OPEN;
@@ -146,11 +144,7 @@ pub extern "C" fn brm_save(
         × (length buffer.old < length text) × (size.new ≡ length text) }
     ensures unwritten { result ≢ DONE → buffer.new ≡ buffer.old }
     ensures untold { result ≢ DONE → result ≢ NO_ROOM → size.new ≡ size.old }
-    ensures closed { handle.old.is_open ≡ false → result ≡ CLOSED }
-    ensures answer { HoldsRanges handle.old.seal.held
-        → (result ≡ DONE) ⊎ ((result ≡ NO_ROOM) ⊎ (result ≡ NO_MEMORY)) }
-    ensures other { handle.old.is_open ≡ true → (¬ HoldsRanges handle.old.seal.held)
-        → result ≡ OTHER_KIND }
+    ensures answer { IsAnswer HoldsRanges handle.old result (DONE ∷ NO_ROOM ∷ NO_MEMORY ∷ []) }
 {
     if !handle.is_open {
         return CLOSED;
@@ -174,11 +168,8 @@ pub extern "C" fn brm_load(alloc: Global, handle: &mut Handle, text: &[u8]) -> u
     ensures refused { result ≢ DONE → handle.new.seal.held ≡ handle.old.seal.held }
     ensures not_json { result ≡ NOT_JSON → IsUtf8 text.now → read text.now ≡ None }
     ensures not_read { result ≡ NOT_READ → IsFaultyText handle.old.seal.held text.now }
-    ensures closed { handle.old.is_open ≡ false → result ≡ CLOSED }
-    ensures answer { HoldsRanges handle.old.seal.held → (result ≡ DONE)
-        ⊎ ((result ≡ NO_MEMORY) ⊎ ((result ≡ NOT_JSON) ⊎ (result ≡ NOT_READ))) }
-    ensures other { handle.old.is_open ≡ true → (¬ HoldsRanges handle.old.seal.held)
-        → result ≡ OTHER_KIND }
+    ensures answer { IsAnswer HoldsRanges handle.old result
+        (DONE ∷ NO_MEMORY ∷ NOT_JSON ∷ NOT_READ ∷ []) }
 {
     if !handle.is_open {
         return CLOSED;

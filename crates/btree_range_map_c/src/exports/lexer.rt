@@ -1,5 +1,5 @@
 //! The calls on lexers.
-ghost use Rattle.std.specs.Prelude.{◌≡◌, ◌≢◌, ◌⊎◌, ◌↔◌, ◌≤◌, Some, IsUtf8, drop, true, false};
+ghost use Rattle.std.specs.Prelude.{◌≡◌, ◌≢◌, ◌⊎◌, ◌↔◌, ◌≤◌, Some, IsUtf8, drop, true, false, ◌∷◌, []};
 ghost use Rattle.lexing.specs.declared.machine.Machine.{Machine};
 ghost use Rattle.lexing.specs.MachineSteps.{lexer_of, state_count};
 ghost use Rattle.lexer_handles.specs.Rules.{IsLexerOf};
@@ -8,6 +8,7 @@ ghost use Rattle.lexer_handles.specs.Refusals.{IsTooLarge};
 ghost use Rattle.lexer_handles.specs.Tokens.{AreWritten};
 ghost use Rattle.range_handles.specs.Held.{HoldsLexer};
 ghost use Rattle.range_handles.specs.declared.collection.Collection.TheVariants.{Lexer};
+ghost use Rattle.btree_range_map_c.specs.Statuses.{IsAnswer};
 
 use lexer_handles::fault::{Fault, tell};
 use lexer_handles::lexer::machine_of;
@@ -83,10 +84,7 @@ pub extern "C" fn brm_lexer_tokens(
     ensures behind { drop count.new tokens.new ≡ drop count.new tokens.old }
     ensures no_text { HoldsLexer handle.old.seal.held → (result ≡ NOT_TEXT ↔ ¬ IsUtf8 text.now) }
     ensures unwritten { result ≢ DONE → (tokens.new ≡ tokens.old) × (count.new ≡ count.old) }
-    ensures answer { HoldsLexer handle.old.seal.held → (result ≡ DONE) ⊎ (result ≡ NOT_TEXT) }
-    ensures closed { handle.old.is_open ≡ false → result ≡ CLOSED }
-    ensures other { handle.old.is_open ≡ true → (¬ HoldsLexer handle.old.seal.held)
-        → result ≡ OTHER_KIND }
+    ensures answer { IsAnswer HoldsLexer handle.old result (DONE ∷ NOT_TEXT ∷ []) }
 {
     if !handle.is_open {
         return CLOSED;

@@ -1,9 +1,10 @@
 //! The calls that make a map of two, or of a map and a set.
-ghost use Rattle.std.specs.Prelude.{◌≡◌, ◌≢◌, ◌⊎◌, true, false};
+ghost use Rattle.std.specs.Prelude.{◌≡◌, ◌≢◌, true, false, ◌∷◌, []};
 ghost use Rattle.range_handles.specs.MapKinds.{AreMapAndKeys, AreMapsOfOneKind, IsOverlayOf, IsPartOf};
 ghost use Rattle.range_handles.specs.declared.kept_map.together.Part.TheVariants.{Shared, Rest};
+ghost use Rattle.btree_range_map_c.specs.Statuses.{IsAnswerOfTwo};
 
-use range_ffi::status::{CLOSED, DONE, NO_MEMORY, OPEN, OTHER_KIND};
+use range_ffi::status::{CLOSED, DONE, NO_MEMORY, OPEN};
 use range_handles::handle::Handle;
 use range_handles::kept_map::together::{self, Part};
 use std::alloc::Global;
@@ -25,14 +26,8 @@ pub extern "C" fn brm_raw_overlay(
         → IsOverlayOf handle.old.seal.held other.old.seal.held made.new.seal.held }
     ensures refused { result ≢ DONE → made.new.seal.held ≡ made.old.seal.held }
     ensures open { made.old.is_open ≡ true → result ≡ OPEN }
-    ensures closed { made.old.is_open ≡ false
-        → (handle.old.is_open ≡ false) ⊎ (other.old.is_open ≡ false) → result ≡ CLOSED }
     ensures answer { made.old.is_open ≡ false
-        → AreMapsOfOneKind handle.old.seal.held other.old.seal.held
-        → (result ≡ DONE) ⊎ (result ≡ NO_MEMORY) }
-    ensures other { made.old.is_open ≡ false
-        → handle.old.is_open ≡ true → other.old.is_open ≡ true
-        → (¬ AreMapsOfOneKind handle.old.seal.held other.old.seal.held) → result ≡ OTHER_KIND }
+        → IsAnswerOfTwo AreMapsOfOneKind handle.old other.old result (DONE ∷ NO_MEMORY ∷ []) }
 {
     if made.is_open {
         return OPEN;
@@ -60,14 +55,8 @@ pub extern "C" fn brm_raw_restrict(
         → IsPartOf Shared handle.old.seal.held other.old.seal.held made.new.seal.held }
     ensures refused { result ≢ DONE → made.new.seal.held ≡ made.old.seal.held }
     ensures open { made.old.is_open ≡ true → result ≡ OPEN }
-    ensures closed { made.old.is_open ≡ false
-        → (handle.old.is_open ≡ false) ⊎ (other.old.is_open ≡ false) → result ≡ CLOSED }
     ensures answer { made.old.is_open ≡ false
-        → AreMapAndKeys handle.old.seal.held other.old.seal.held
-        → (result ≡ DONE) ⊎ (result ≡ NO_MEMORY) }
-    ensures other { made.old.is_open ≡ false
-        → handle.old.is_open ≡ true → other.old.is_open ≡ true
-        → (¬ AreMapAndKeys handle.old.seal.held other.old.seal.held) → result ≡ OTHER_KIND }
+        → IsAnswerOfTwo AreMapAndKeys handle.old other.old result (DONE ∷ NO_MEMORY ∷ []) }
 {
     if made.is_open {
         return OPEN;
@@ -96,14 +85,8 @@ pub extern "C" fn brm_raw_without(
         → IsPartOf Rest handle.old.seal.held other.old.seal.held made.new.seal.held }
     ensures refused { result ≢ DONE → made.new.seal.held ≡ made.old.seal.held }
     ensures open { made.old.is_open ≡ true → result ≡ OPEN }
-    ensures closed { made.old.is_open ≡ false
-        → (handle.old.is_open ≡ false) ⊎ (other.old.is_open ≡ false) → result ≡ CLOSED }
     ensures answer { made.old.is_open ≡ false
-        → AreMapAndKeys handle.old.seal.held other.old.seal.held
-        → (result ≡ DONE) ⊎ (result ≡ NO_MEMORY) }
-    ensures other { made.old.is_open ≡ false
-        → handle.old.is_open ≡ true → other.old.is_open ≡ true
-        → (¬ AreMapAndKeys handle.old.seal.held other.old.seal.held) → result ≡ OTHER_KIND }
+        → IsAnswerOfTwo AreMapAndKeys handle.old other.old result (DONE ∷ NO_MEMORY ∷ []) }
 {
     if made.is_open {
         return OPEN;

@@ -1,9 +1,10 @@
 //! The calls on two sets of one kind of keys, and the complement of one.
-ghost use Rattle.std.specs.Prelude.{◌≡◌, ◌≢◌, ◌⊎◌, true, false};
+ghost use Rattle.std.specs.Prelude.{◌≡◌, ◌≢◌, true, false, ◌∷◌, []};
 ghost use Rattle.range_handles.specs.SetKinds.{AreDisjoint, AreSetsOfOneKind, HoldsAnySet, IsComplementOf, IsJoinOf, IsSubsetOf};
 ghost use Rattle.range_handles.specs.declared.kept_set.algebra.Join.TheVariants.{Union, Intersection, Difference, SymmetricDifference};
+ghost use Rattle.btree_range_map_c.specs.Statuses.{IsAnswer, IsAnswerOfTwo};
 
-use range_ffi::status::{CLOSED, DONE, NO_MEMORY, NONE, OPEN, OTHER_KIND};
+use range_ffi::status::{CLOSED, DONE, NO_MEMORY, NONE, OPEN};
 use range_handles::handle::Handle;
 use range_handles::kept_set::algebra::{self, Join};
 use std::alloc::Global;
@@ -22,14 +23,8 @@ fn joined(
         → IsJoinOf join handle.old.seal.held other.old.seal.held made.new.seal.held }
     ensures refused { result ≢ DONE → made.new.seal.held ≡ made.old.seal.held }
     ensures open { made.old.is_open ≡ true → result ≡ OPEN }
-    ensures closed { made.old.is_open ≡ false
-        → (handle.old.is_open ≡ false) ⊎ (other.old.is_open ≡ false) → result ≡ CLOSED }
     ensures answer { made.old.is_open ≡ false
-        → AreSetsOfOneKind handle.old.seal.held other.old.seal.held
-        → (result ≡ DONE) ⊎ (result ≡ NO_MEMORY) }
-    ensures other { made.old.is_open ≡ false
-        → handle.old.is_open ≡ true → other.old.is_open ≡ true
-        → (¬ AreSetsOfOneKind handle.old.seal.held other.old.seal.held) → result ≡ OTHER_KIND }
+        → IsAnswerOfTwo AreSetsOfOneKind handle.old other.old result (DONE ∷ NO_MEMORY ∷ []) }
 {
     if made.is_open {
         return OPEN;
@@ -57,14 +52,8 @@ pub extern "C" fn brm_raw_set_union(
         → IsJoinOf Union handle.old.seal.held other.old.seal.held made.new.seal.held }
     ensures refused { result ≢ DONE → made.new.seal.held ≡ made.old.seal.held }
     ensures open { made.old.is_open ≡ true → result ≡ OPEN }
-    ensures closed { made.old.is_open ≡ false
-        → (handle.old.is_open ≡ false) ⊎ (other.old.is_open ≡ false) → result ≡ CLOSED }
     ensures answer { made.old.is_open ≡ false
-        → AreSetsOfOneKind handle.old.seal.held other.old.seal.held
-        → (result ≡ DONE) ⊎ (result ≡ NO_MEMORY) }
-    ensures other { made.old.is_open ≡ false
-        → handle.old.is_open ≡ true → other.old.is_open ≡ true
-        → (¬ AreSetsOfOneKind handle.old.seal.held other.old.seal.held) → result ≡ OTHER_KIND }
+        → IsAnswerOfTwo AreSetsOfOneKind handle.old other.old result (DONE ∷ NO_MEMORY ∷ []) }
 {
     joined(alloc, handle, other, Join::Union, made)
 }
@@ -85,14 +74,8 @@ pub extern "C" fn brm_raw_set_intersection(
         → IsJoinOf Intersection handle.old.seal.held other.old.seal.held made.new.seal.held }
     ensures refused { result ≢ DONE → made.new.seal.held ≡ made.old.seal.held }
     ensures open { made.old.is_open ≡ true → result ≡ OPEN }
-    ensures closed { made.old.is_open ≡ false
-        → (handle.old.is_open ≡ false) ⊎ (other.old.is_open ≡ false) → result ≡ CLOSED }
     ensures answer { made.old.is_open ≡ false
-        → AreSetsOfOneKind handle.old.seal.held other.old.seal.held
-        → (result ≡ DONE) ⊎ (result ≡ NO_MEMORY) }
-    ensures other { made.old.is_open ≡ false
-        → handle.old.is_open ≡ true → other.old.is_open ≡ true
-        → (¬ AreSetsOfOneKind handle.old.seal.held other.old.seal.held) → result ≡ OTHER_KIND }
+        → IsAnswerOfTwo AreSetsOfOneKind handle.old other.old result (DONE ∷ NO_MEMORY ∷ []) }
 {
     joined(alloc, handle, other, Join::Intersection, made)
 }
@@ -114,14 +97,8 @@ pub extern "C" fn brm_raw_set_difference(
         → IsJoinOf Difference handle.old.seal.held other.old.seal.held made.new.seal.held }
     ensures refused { result ≢ DONE → made.new.seal.held ≡ made.old.seal.held }
     ensures open { made.old.is_open ≡ true → result ≡ OPEN }
-    ensures closed { made.old.is_open ≡ false
-        → (handle.old.is_open ≡ false) ⊎ (other.old.is_open ≡ false) → result ≡ CLOSED }
     ensures answer { made.old.is_open ≡ false
-        → AreSetsOfOneKind handle.old.seal.held other.old.seal.held
-        → (result ≡ DONE) ⊎ (result ≡ NO_MEMORY) }
-    ensures other { made.old.is_open ≡ false
-        → handle.old.is_open ≡ true → other.old.is_open ≡ true
-        → (¬ AreSetsOfOneKind handle.old.seal.held other.old.seal.held) → result ≡ OTHER_KIND }
+        → IsAnswerOfTwo AreSetsOfOneKind handle.old other.old result (DONE ∷ NO_MEMORY ∷ []) }
 {
     joined(alloc, handle, other, Join::Difference, made)
 }
@@ -144,14 +121,8 @@ pub extern "C" fn brm_raw_set_symmetric_difference(
         made.new.seal.held }
     ensures refused { result ≢ DONE → made.new.seal.held ≡ made.old.seal.held }
     ensures open { made.old.is_open ≡ true → result ≡ OPEN }
-    ensures closed { made.old.is_open ≡ false
-        → (handle.old.is_open ≡ false) ⊎ (other.old.is_open ≡ false) → result ≡ CLOSED }
     ensures answer { made.old.is_open ≡ false
-        → AreSetsOfOneKind handle.old.seal.held other.old.seal.held
-        → (result ≡ DONE) ⊎ (result ≡ NO_MEMORY) }
-    ensures other { made.old.is_open ≡ false
-        → handle.old.is_open ≡ true → other.old.is_open ≡ true
-        → (¬ AreSetsOfOneKind handle.old.seal.held other.old.seal.held) → result ≡ OTHER_KIND }
+        → IsAnswerOfTwo AreSetsOfOneKind handle.old other.old result (DONE ∷ NO_MEMORY ∷ []) }
 {
     joined(alloc, handle, other, Join::SymmetricDifference, made)
 }
@@ -169,11 +140,8 @@ pub extern "C" fn brm_raw_set_complement(
     ensures made { result ≡ DONE → IsComplementOf handle.old.seal.held made.new.seal.held }
     ensures refused { result ≢ DONE → made.new.seal.held ≡ made.old.seal.held }
     ensures open { made.old.is_open ≡ true → result ≡ OPEN }
-    ensures closed { made.old.is_open ≡ false → handle.old.is_open ≡ false → result ≡ CLOSED }
-    ensures answer { made.old.is_open ≡ false → HoldsAnySet handle.old.seal.held
-        → (result ≡ DONE) ⊎ (result ≡ NO_MEMORY) }
-    ensures other { made.old.is_open ≡ false
-        → handle.old.is_open ≡ true → (¬ HoldsAnySet handle.old.seal.held) → result ≡ OTHER_KIND }
+    ensures answer { made.old.is_open ≡ false
+        → IsAnswer HoldsAnySet handle.old result (DONE ∷ NO_MEMORY ∷ []) }
 {
     if made.is_open {
         return OPEN;
@@ -193,12 +161,8 @@ pub extern "C" fn brm_raw_set_is_subset(handle: &mut Handle, other: &mut Handle)
         × (other.new.seal.held ≡ other.old.seal.held) }
     ensures yes { result ≡ DONE → IsSubsetOf handle.old.seal.held other.old.seal.held }
     ensures no { result ≡ NONE → ¬ IsSubsetOf handle.old.seal.held other.old.seal.held }
-    ensures closed { (handle.old.is_open ≡ false) ⊎ (other.old.is_open ≡ false)
-        → result ≡ CLOSED }
-    ensures answer { AreSetsOfOneKind handle.old.seal.held other.old.seal.held
-        → (result ≡ DONE) ⊎ (result ≡ NONE) }
-    ensures other { handle.old.is_open ≡ true → other.old.is_open ≡ true
-        → (¬ AreSetsOfOneKind handle.old.seal.held other.old.seal.held) → result ≡ OTHER_KIND }
+    ensures answer { IsAnswerOfTwo AreSetsOfOneKind handle.old other.old result
+        (DONE ∷ NONE ∷ []) }
 {
     if !handle.is_open || !other.is_open {
         return CLOSED;
@@ -215,12 +179,8 @@ pub extern "C" fn brm_raw_set_is_disjoint(handle: &mut Handle, other: &mut Handl
         × (other.new.seal.held ≡ other.old.seal.held) }
     ensures yes { result ≡ DONE → AreDisjoint handle.old.seal.held other.old.seal.held }
     ensures no { result ≡ NONE → ¬ AreDisjoint handle.old.seal.held other.old.seal.held }
-    ensures closed { (handle.old.is_open ≡ false) ⊎ (other.old.is_open ≡ false)
-        → result ≡ CLOSED }
-    ensures answer { AreSetsOfOneKind handle.old.seal.held other.old.seal.held
-        → (result ≡ DONE) ⊎ (result ≡ NONE) }
-    ensures other { handle.old.is_open ≡ true → other.old.is_open ≡ true
-        → (¬ AreSetsOfOneKind handle.old.seal.held other.old.seal.held) → result ≡ OTHER_KIND }
+    ensures answer { IsAnswerOfTwo AreSetsOfOneKind handle.old other.old result
+        (DONE ∷ NONE ∷ []) }
 {
     if !handle.is_open || !other.is_open {
         return CLOSED;

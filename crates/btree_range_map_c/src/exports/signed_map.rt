@@ -9,6 +9,7 @@ ghost use Rattle.btree_range_map.specs.Overlapping.{AreOverlapping};
 ghost use Rattle.range_ffi.specs.Flags.{signed_range_of, signed_entry_item, number_of, from_key, upto_key};
 ghost use Rattle.range_handles.specs.Held.{HoldsSignedMap, signed_items};
 ghost use Rattle.range_handles.specs.Lists.{SignedRanges};
+ghost use Rattle.btree_range_map_c.specs.Statuses.{IsAnswer};
 
 mod many;
 mod together;
@@ -48,10 +49,7 @@ pub extern "C" fn brm_map_i64_insert(handle: &mut Handle, range: &SignedBounds, 
         → handle.new.seal.held ≡ handle.old.seal.held }
     ensures kind { HoldsSignedMap handle.old.seal.held → HoldsSignedMap handle.new.seal.held }
     ensures refused { result ≢ DONE → handle.new.seal.held ≡ handle.old.seal.held }
-    ensures answer { HoldsSignedMap handle.old.seal.held → (result ≡ DONE) ⊎ (result ≡ NO_MEMORY) }
-    ensures closed { handle.old.is_open ≡ false → result ≡ CLOSED }
-    ensures other { handle.old.is_open ≡ true → (¬ HoldsSignedMap handle.old.seal.held)
-        → result ≡ OTHER_KIND }
+    ensures answer { IsAnswer HoldsSignedMap handle.old result (DONE ∷ NO_MEMORY ∷ []) }
 {
     if !handle.is_open {
         return CLOSED;
@@ -82,11 +80,7 @@ pub extern "C" fn brm_map_i64_insert_disconnected(
         → handle.new.seal.held ≡ handle.old.seal.held }
     ensures kind { HoldsSignedMap handle.old.seal.held → HoldsSignedMap handle.new.seal.held }
     ensures refused { result ≢ DONE → handle.new.seal.held ≡ handle.old.seal.held }
-    ensures answer { HoldsSignedMap handle.old.seal.held
-        → (result ≡ DONE) ⊎ ((result ≡ NO_MEMORY) ⊎ (result ≡ CONNECTED)) }
-    ensures closed { handle.old.is_open ≡ false → result ≡ CLOSED }
-    ensures other { handle.old.is_open ≡ true → (¬ HoldsSignedMap handle.old.seal.held)
-        → result ≡ OTHER_KIND }
+    ensures answer { IsAnswer HoldsSignedMap handle.old result (DONE ∷ NO_MEMORY ∷ CONNECTED ∷ []) }
 {
     if !handle.is_open {
         return CLOSED;
@@ -116,11 +110,7 @@ pub extern "C" fn brm_map_i64_try_insert(
         → handle.new.seal.held ≡ handle.old.seal.held }
     ensures kind { HoldsSignedMap handle.old.seal.held → HoldsSignedMap handle.new.seal.held }
     ensures refused { result ≢ DONE → handle.new.seal.held ≡ handle.old.seal.held }
-    ensures answer { HoldsSignedMap handle.old.seal.held
-        → (result ≡ DONE) ⊎ ((result ≡ NO_MEMORY) ⊎ (result ≡ OCCUPIED)) }
-    ensures closed { handle.old.is_open ≡ false → result ≡ CLOSED }
-    ensures other { handle.old.is_open ≡ true → (¬ HoldsSignedMap handle.old.seal.held)
-        → result ≡ OTHER_KIND }
+    ensures answer { IsAnswer HoldsSignedMap handle.old result (DONE ∷ NO_MEMORY ∷ OCCUPIED ∷ []) }
 {
     if !handle.is_open {
         return CLOSED;
@@ -143,10 +133,7 @@ pub extern "C" fn brm_map_i64_remove(handle: &mut Handle, range: &SignedBounds) 
         → handle.new.seal.held ≡ handle.old.seal.held }
     ensures kind { HoldsSignedMap handle.old.seal.held → HoldsSignedMap handle.new.seal.held }
     ensures refused { result ≢ DONE → handle.new.seal.held ≡ handle.old.seal.held }
-    ensures answer { HoldsSignedMap handle.old.seal.held → (result ≡ DONE) ⊎ (result ≡ NO_MEMORY) }
-    ensures closed { handle.old.is_open ≡ false → result ≡ CLOSED }
-    ensures other { handle.old.is_open ≡ true → (¬ HoldsSignedMap handle.old.seal.held)
-        → result ≡ OTHER_KIND }
+    ensures answer { IsAnswer HoldsSignedMap handle.old result (DONE ∷ NO_MEMORY ∷ []) }
 {
     if !handle.is_open {
         return CLOSED;
@@ -169,10 +156,7 @@ pub extern "C" fn brm_map_i64_get(handle: &mut Handle, key: i64, entry: &mut Sig
     ensures free { result ≢ DONE
         → Binds i64_order nat_eq (signed_items handle.old.seal.held) key None }
     ensures unwritten { result ≢ DONE → entry.new ≡ entry.old }
-    ensures answer { HoldsSignedMap handle.old.seal.held → (result ≡ DONE) ⊎ (result ≡ NONE) }
-    ensures closed { handle.old.is_open ≡ false → result ≡ CLOSED }
-    ensures other { handle.old.is_open ≡ true → (¬ HoldsSignedMap handle.old.seal.held)
-        → result ≡ OTHER_KIND }
+    ensures answer { IsAnswer HoldsSignedMap handle.old result (DONE ∷ NONE ∷ []) }
 {
     if !handle.is_open {
         return CLOSED;
@@ -189,10 +173,7 @@ pub extern "C" fn brm_map_i64_contains(handle: &mut Handle, key: i64) -> u32
     ensures unchanged { handle.new.seal.held ≡ handle.old.seal.held }
     ensures yes { result ≡ DONE → IsBound i64_order (signed_items handle.old.seal.held) key }
     ensures no { result ≡ NONE → ¬ IsBound i64_order (signed_items handle.old.seal.held) key }
-    ensures answer { HoldsSignedMap handle.old.seal.held → (result ≡ DONE) ⊎ (result ≡ NONE) }
-    ensures closed { handle.old.is_open ≡ false → result ≡ CLOSED }
-    ensures other { handle.old.is_open ≡ true → (¬ HoldsSignedMap handle.old.seal.held)
-        → result ≡ OTHER_KIND }
+    ensures answer { IsAnswer HoldsSignedMap handle.old result (DONE ∷ NONE ∷ []) }
 {
     if !handle.is_open {
         return CLOSED;
@@ -211,10 +192,7 @@ pub extern "C" fn brm_map_i64_intersects(handle: &mut Handle, range: &SignedBoun
         → BindsKeyOf i64_order (signed_items handle.old.seal.held) (signed_range_of range.now) }
     ensures no { result ≡ NONE
         → ¬ BindsKeyOf i64_order (signed_items handle.old.seal.held) (signed_range_of range.now) }
-    ensures answer { HoldsSignedMap handle.old.seal.held → (result ≡ DONE) ⊎ (result ≡ NONE) }
-    ensures closed { handle.old.is_open ≡ false → result ≡ CLOSED }
-    ensures other { handle.old.is_open ≡ true → (¬ HoldsSignedMap handle.old.seal.held)
-        → result ≡ OTHER_KIND }
+    ensures answer { IsAnswer HoldsSignedMap handle.old result (DONE ∷ NONE ∷ []) }
 {
     if !handle.is_open {
         return CLOSED;
@@ -232,10 +210,7 @@ pub extern "C" fn brm_map_i64_len(handle: &mut Handle, length: &mut Length) -> u
     ensures counted { result ≡ DONE → IsNumberOfKeys i64_order
         (IsBound i64_order (signed_items handle.old.seal.held)) (number_of length.new) }
     ensures unwritten { result ≢ DONE → length.new ≡ length.old }
-    ensures answer { HoldsSignedMap handle.old.seal.held → result ≡ DONE }
-    ensures closed { handle.old.is_open ≡ false → result ≡ CLOSED }
-    ensures other { handle.old.is_open ≡ true → (¬ HoldsSignedMap handle.old.seal.held)
-        → result ≡ OTHER_KIND }
+    ensures answer { IsAnswer HoldsSignedMap handle.old result (DONE ∷ []) }
 {
     if !handle.is_open {
         return CLOSED;
@@ -254,10 +229,7 @@ pub extern "C" fn brm_map_i64_first(handle: &mut Handle, entry: &mut SignedEntry
         × (signed_items handle.old.seal.held ≡ signed_entry_item entry.new ∷ rest) }
     ensures none { result ≢ DONE → signed_items handle.old.seal.held ≡ [] }
     ensures unwritten { result ≢ DONE → entry.new ≡ entry.old }
-    ensures answer { HoldsSignedMap handle.old.seal.held → (result ≡ DONE) ⊎ (result ≡ NONE) }
-    ensures closed { handle.old.is_open ≡ false → result ≡ CLOSED }
-    ensures other { handle.old.is_open ≡ true → (¬ HoldsSignedMap handle.old.seal.held)
-        → result ≡ OTHER_KIND }
+    ensures answer { IsAnswer HoldsSignedMap handle.old result (DONE ∷ NONE ∷ []) }
 {
     if !handle.is_open {
         return CLOSED;
@@ -276,10 +248,7 @@ pub extern "C" fn brm_map_i64_last(handle: &mut Handle, entry: &mut SignedEntry)
         × (signed_items handle.old.seal.held ≡ front ++ signed_entry_item entry.new ∷ []) }
     ensures none { result ≢ DONE → signed_items handle.old.seal.held ≡ [] }
     ensures unwritten { result ≢ DONE → entry.new ≡ entry.old }
-    ensures answer { HoldsSignedMap handle.old.seal.held → (result ≡ DONE) ⊎ (result ≡ NONE) }
-    ensures closed { handle.old.is_open ≡ false → result ≡ CLOSED }
-    ensures other { handle.old.is_open ≡ true → (¬ HoldsSignedMap handle.old.seal.held)
-        → result ≡ OTHER_KIND }
+    ensures answer { IsAnswer HoldsSignedMap handle.old result (DONE ∷ NONE ∷ []) }
 {
     if !handle.is_open {
         return CLOSED;
@@ -303,10 +272,7 @@ pub extern "C" fn brm_map_i64_next(handle: &mut Handle, key: i64, entry: &mut Si
     ensures none { result ≡ NONE
         → AreOverlapping i64_order (signed_items handle.old.seal.held) (from_key key) [] }
     ensures unwritten { result ≢ DONE → entry.new ≡ entry.old }
-    ensures answer { HoldsSignedMap handle.old.seal.held → (result ≡ DONE) ⊎ (result ≡ NONE) }
-    ensures closed { handle.old.is_open ≡ false → result ≡ CLOSED }
-    ensures other { handle.old.is_open ≡ true → (¬ HoldsSignedMap handle.old.seal.held)
-        → result ≡ OTHER_KIND }
+    ensures answer { IsAnswer HoldsSignedMap handle.old result (DONE ∷ NONE ∷ []) }
 {
     if !handle.is_open {
         return CLOSED;
@@ -334,10 +300,7 @@ pub extern "C" fn brm_map_i64_previous(
     ensures none { result ≡ NONE
         → AreOverlapping i64_order (signed_items handle.old.seal.held) (upto_key key) [] }
     ensures unwritten { result ≢ DONE → entry.new ≡ entry.old }
-    ensures answer { HoldsSignedMap handle.old.seal.held → (result ≡ DONE) ⊎ (result ≡ NONE) }
-    ensures closed { handle.old.is_open ≡ false → result ≡ CLOSED }
-    ensures other { handle.old.is_open ≡ true → (¬ HoldsSignedMap handle.old.seal.held)
-        → result ≡ OTHER_KIND }
+    ensures answer { IsAnswer HoldsSignedMap handle.old result (DONE ∷ NONE ∷ []) }
 {
     if !handle.is_open {
         return CLOSED;
@@ -357,10 +320,7 @@ pub extern "C" fn brm_map_i64_pop_first(handle: &mut Handle, entry: &mut SignedE
     ensures kind { HoldsSignedMap handle.old.seal.held → HoldsSignedMap handle.new.seal.held }
     ensures unchanged { result ≢ DONE → handle.new.seal.held ≡ handle.old.seal.held }
     ensures unwritten { result ≢ DONE → entry.new ≡ entry.old }
-    ensures answer { HoldsSignedMap handle.old.seal.held → (result ≡ DONE) ⊎ (result ≡ NONE) }
-    ensures closed { handle.old.is_open ≡ false → result ≡ CLOSED }
-    ensures other { handle.old.is_open ≡ true → (¬ HoldsSignedMap handle.old.seal.held)
-        → result ≡ OTHER_KIND }
+    ensures answer { IsAnswer HoldsSignedMap handle.old result (DONE ∷ NONE ∷ []) }
 {
     if !handle.is_open {
         return CLOSED;
@@ -380,10 +340,7 @@ pub extern "C" fn brm_map_i64_pop_last(handle: &mut Handle, entry: &mut SignedEn
     ensures kind { HoldsSignedMap handle.old.seal.held → HoldsSignedMap handle.new.seal.held }
     ensures unchanged { result ≢ DONE → handle.new.seal.held ≡ handle.old.seal.held }
     ensures unwritten { result ≢ DONE → entry.new ≡ entry.old }
-    ensures answer { HoldsSignedMap handle.old.seal.held → (result ≡ DONE) ⊎ (result ≡ NONE) }
-    ensures closed { handle.old.is_open ≡ false → result ≡ CLOSED }
-    ensures other { handle.old.is_open ≡ true → (¬ HoldsSignedMap handle.old.seal.held)
-        → result ≡ OTHER_KIND }
+    ensures answer { IsAnswer HoldsSignedMap handle.old result (DONE ∷ NONE ∷ []) }
 {
     if !handle.is_open {
         return CLOSED;

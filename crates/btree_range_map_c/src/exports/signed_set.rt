@@ -11,6 +11,7 @@ ghost use Rattle.btree_range_map.specs.Range.{IsEmptyRange};
 ghost use Rattle.range_ffi.specs.Flags.{signed_range_of, signed_bounds_item, number_of, from_key, upto_key};
 ghost use Rattle.range_handles.specs.Held.{HoldsSignedSet, signed_set_items};
 ghost use Rattle.range_handles.specs.Lists.{SignedKeyRanges};
+ghost use Rattle.btree_range_map_c.specs.Statuses.{IsAnswer};
 
 mod many;
 
@@ -49,10 +50,7 @@ pub extern "C" fn brm_set_i64_insert(handle: &mut Handle, range: &SignedBounds) 
         → handle.new.seal.held ≡ handle.old.seal.held }
     ensures kind { HoldsSignedSet handle.old.seal.held → HoldsSignedSet handle.new.seal.held }
     ensures refused { result ≢ DONE → handle.new.seal.held ≡ handle.old.seal.held }
-    ensures answer { HoldsSignedSet handle.old.seal.held → (result ≡ DONE) ⊎ (result ≡ NO_MEMORY) }
-    ensures closed { handle.old.is_open ≡ false → result ≡ CLOSED }
-    ensures other { handle.old.is_open ≡ true → (¬ HoldsSignedSet handle.old.seal.held)
-        → result ≡ OTHER_KIND }
+    ensures answer { IsAnswer HoldsSignedSet handle.old result (DONE ∷ NO_MEMORY ∷ []) }
 {
     if !handle.is_open {
         return CLOSED;
@@ -78,11 +76,7 @@ pub extern "C" fn brm_set_i64_try_insert(handle: &mut Handle, range: &SignedBoun
         → handle.new.seal.held ≡ handle.old.seal.held }
     ensures kind { HoldsSignedSet handle.old.seal.held → HoldsSignedSet handle.new.seal.held }
     ensures refused { result ≢ DONE → handle.new.seal.held ≡ handle.old.seal.held }
-    ensures answer { HoldsSignedSet handle.old.seal.held
-        → (result ≡ DONE) ⊎ ((result ≡ NO_MEMORY) ⊎ (result ≡ OCCUPIED)) }
-    ensures closed { handle.old.is_open ≡ false → result ≡ CLOSED }
-    ensures other { handle.old.is_open ≡ true → (¬ HoldsSignedSet handle.old.seal.held)
-        → result ≡ OTHER_KIND }
+    ensures answer { IsAnswer HoldsSignedSet handle.old result (DONE ∷ NO_MEMORY ∷ OCCUPIED ∷ []) }
 {
     if !handle.is_open {
         return CLOSED;
@@ -105,10 +99,7 @@ pub extern "C" fn brm_set_i64_remove(handle: &mut Handle, range: &SignedBounds) 
         → handle.new.seal.held ≡ handle.old.seal.held }
     ensures kind { HoldsSignedSet handle.old.seal.held → HoldsSignedSet handle.new.seal.held }
     ensures refused { result ≢ DONE → handle.new.seal.held ≡ handle.old.seal.held }
-    ensures answer { HoldsSignedSet handle.old.seal.held → (result ≡ DONE) ⊎ (result ≡ NO_MEMORY) }
-    ensures closed { handle.old.is_open ≡ false → result ≡ CLOSED }
-    ensures other { handle.old.is_open ≡ true → (¬ HoldsSignedSet handle.old.seal.held)
-        → result ≡ OTHER_KIND }
+    ensures answer { IsAnswer HoldsSignedSet handle.old result (DONE ∷ NO_MEMORY ∷ []) }
 {
     if !handle.is_open {
         return CLOSED;
@@ -129,10 +120,7 @@ pub extern "C" fn brm_set_i64_get(handle: &mut Handle, key: i64, entry: &mut Sig
     ensures free { result ≢ DONE
         → ¬ HoldsKey i64_order (signed_set_items handle.old.seal.held) key }
     ensures unwritten { result ≢ DONE → entry.new ≡ entry.old }
-    ensures answer { HoldsSignedSet handle.old.seal.held → (result ≡ DONE) ⊎ (result ≡ NONE) }
-    ensures closed { handle.old.is_open ≡ false → result ≡ CLOSED }
-    ensures other { handle.old.is_open ≡ true → (¬ HoldsSignedSet handle.old.seal.held)
-        → result ≡ OTHER_KIND }
+    ensures answer { IsAnswer HoldsSignedSet handle.old result (DONE ∷ NONE ∷ []) }
 {
     if !handle.is_open {
         return CLOSED;
@@ -150,10 +138,7 @@ pub extern "C" fn brm_set_i64_contains(handle: &mut Handle, key: i64) -> u32
     ensures yes { result ≡ DONE → HoldsKey i64_order (signed_set_items handle.old.seal.held) key }
     ensures no { result ≡ NONE
         → ¬ HoldsKey i64_order (signed_set_items handle.old.seal.held) key }
-    ensures answer { HoldsSignedSet handle.old.seal.held → (result ≡ DONE) ⊎ (result ≡ NONE) }
-    ensures closed { handle.old.is_open ≡ false → result ≡ CLOSED }
-    ensures other { handle.old.is_open ≡ true → (¬ HoldsSignedSet handle.old.seal.held)
-        → result ≡ OTHER_KIND }
+    ensures answer { IsAnswer HoldsSignedSet handle.old result (DONE ∷ NONE ∷ []) }
 {
     if !handle.is_open {
         return CLOSED;
@@ -174,10 +159,7 @@ pub extern "C" fn brm_set_i64_intersects(handle: &mut Handle, range: &SignedBoun
     ensures no { result ≡ NONE
         → ¬ BindsKeyOf i64_order (signed_set_items handle.old.seal.held)
         (signed_range_of range.now) }
-    ensures answer { HoldsSignedSet handle.old.seal.held → (result ≡ DONE) ⊎ (result ≡ NONE) }
-    ensures closed { handle.old.is_open ≡ false → result ≡ CLOSED }
-    ensures other { handle.old.is_open ≡ true → (¬ HoldsSignedSet handle.old.seal.held)
-        → result ≡ OTHER_KIND }
+    ensures answer { IsAnswer HoldsSignedSet handle.old result (DONE ∷ NONE ∷ []) }
 {
     if !handle.is_open {
         return CLOSED;
@@ -195,10 +177,7 @@ pub extern "C" fn brm_set_i64_len(handle: &mut Handle, length: &mut Length) -> u
     ensures counted { result ≡ DONE → IsNumberOfKeys i64_order
         (HoldsKey i64_order (signed_set_items handle.old.seal.held)) (number_of length.new) }
     ensures unwritten { result ≢ DONE → length.new ≡ length.old }
-    ensures answer { HoldsSignedSet handle.old.seal.held → result ≡ DONE }
-    ensures closed { handle.old.is_open ≡ false → result ≡ CLOSED }
-    ensures other { handle.old.is_open ≡ true → (¬ HoldsSignedSet handle.old.seal.held)
-        → result ≡ OTHER_KIND }
+    ensures answer { IsAnswer HoldsSignedSet handle.old result (DONE ∷ []) }
 {
     if !handle.is_open {
         return CLOSED;
@@ -217,10 +196,7 @@ pub extern "C" fn brm_set_i64_first(handle: &mut Handle, entry: &mut SignedBound
         × (signed_set_items handle.old.seal.held ≡ signed_bounds_item entry.new ∷ rest) }
     ensures none { result ≢ DONE → signed_set_items handle.old.seal.held ≡ [] }
     ensures unwritten { result ≢ DONE → entry.new ≡ entry.old }
-    ensures answer { HoldsSignedSet handle.old.seal.held → (result ≡ DONE) ⊎ (result ≡ NONE) }
-    ensures closed { handle.old.is_open ≡ false → result ≡ CLOSED }
-    ensures other { handle.old.is_open ≡ true → (¬ HoldsSignedSet handle.old.seal.held)
-        → result ≡ OTHER_KIND }
+    ensures answer { IsAnswer HoldsSignedSet handle.old result (DONE ∷ NONE ∷ []) }
 {
     if !handle.is_open {
         return CLOSED;
@@ -239,10 +215,7 @@ pub extern "C" fn brm_set_i64_last(handle: &mut Handle, entry: &mut SignedBounds
         × (signed_set_items handle.old.seal.held ≡ front ++ signed_bounds_item entry.new ∷ []) }
     ensures none { result ≢ DONE → signed_set_items handle.old.seal.held ≡ [] }
     ensures unwritten { result ≢ DONE → entry.new ≡ entry.old }
-    ensures answer { HoldsSignedSet handle.old.seal.held → (result ≡ DONE) ⊎ (result ≡ NONE) }
-    ensures closed { handle.old.is_open ≡ false → result ≡ CLOSED }
-    ensures other { handle.old.is_open ≡ true → (¬ HoldsSignedSet handle.old.seal.held)
-        → result ≡ OTHER_KIND }
+    ensures answer { IsAnswer HoldsSignedSet handle.old result (DONE ∷ NONE ∷ []) }
 {
     if !handle.is_open {
         return CLOSED;
@@ -266,10 +239,7 @@ pub extern "C" fn brm_set_i64_next(handle: &mut Handle, key: i64, entry: &mut Si
     ensures none { result ≡ NONE
         → AreOverlapping i64_order (signed_set_items handle.old.seal.held) (from_key key) [] }
     ensures unwritten { result ≢ DONE → entry.new ≡ entry.old }
-    ensures answer { HoldsSignedSet handle.old.seal.held → (result ≡ DONE) ⊎ (result ≡ NONE) }
-    ensures closed { handle.old.is_open ≡ false → result ≡ CLOSED }
-    ensures other { handle.old.is_open ≡ true → (¬ HoldsSignedSet handle.old.seal.held)
-        → result ≡ OTHER_KIND }
+    ensures answer { IsAnswer HoldsSignedSet handle.old result (DONE ∷ NONE ∷ []) }
 {
     if !handle.is_open {
         return CLOSED;
@@ -297,10 +267,7 @@ pub extern "C" fn brm_set_i64_previous(
     ensures none { result ≡ NONE
         → AreOverlapping i64_order (signed_set_items handle.old.seal.held) (upto_key key) [] }
     ensures unwritten { result ≢ DONE → entry.new ≡ entry.old }
-    ensures answer { HoldsSignedSet handle.old.seal.held → (result ≡ DONE) ⊎ (result ≡ NONE) }
-    ensures closed { handle.old.is_open ≡ false → result ≡ CLOSED }
-    ensures other { handle.old.is_open ≡ true → (¬ HoldsSignedSet handle.old.seal.held)
-        → result ≡ OTHER_KIND }
+    ensures answer { IsAnswer HoldsSignedSet handle.old result (DONE ∷ NONE ∷ []) }
 {
     if !handle.is_open {
         return CLOSED;
@@ -320,10 +287,7 @@ pub extern "C" fn brm_set_i64_pop_first(handle: &mut Handle, entry: &mut SignedB
     ensures kind { HoldsSignedSet handle.old.seal.held → HoldsSignedSet handle.new.seal.held }
     ensures unchanged { result ≢ DONE → handle.new.seal.held ≡ handle.old.seal.held }
     ensures unwritten { result ≢ DONE → entry.new ≡ entry.old }
-    ensures answer { HoldsSignedSet handle.old.seal.held → (result ≡ DONE) ⊎ (result ≡ NONE) }
-    ensures closed { handle.old.is_open ≡ false → result ≡ CLOSED }
-    ensures other { handle.old.is_open ≡ true → (¬ HoldsSignedSet handle.old.seal.held)
-        → result ≡ OTHER_KIND }
+    ensures answer { IsAnswer HoldsSignedSet handle.old result (DONE ∷ NONE ∷ []) }
 {
     if !handle.is_open {
         return CLOSED;
@@ -343,10 +307,7 @@ pub extern "C" fn brm_set_i64_pop_last(handle: &mut Handle, entry: &mut SignedBo
     ensures kind { HoldsSignedSet handle.old.seal.held → HoldsSignedSet handle.new.seal.held }
     ensures unchanged { result ≢ DONE → handle.new.seal.held ≡ handle.old.seal.held }
     ensures unwritten { result ≢ DONE → entry.new ≡ entry.old }
-    ensures answer { HoldsSignedSet handle.old.seal.held → (result ≡ DONE) ⊎ (result ≡ NONE) }
-    ensures closed { handle.old.is_open ≡ false → result ≡ CLOSED }
-    ensures other { handle.old.is_open ≡ true → (¬ HoldsSignedSet handle.old.seal.held)
-        → result ≡ OTHER_KIND }
+    ensures answer { IsAnswer HoldsSignedSet handle.old result (DONE ∷ NONE ∷ []) }
 {
     if !handle.is_open {
         return CLOSED;

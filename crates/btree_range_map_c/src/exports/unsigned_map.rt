@@ -9,6 +9,7 @@ ghost use Rattle.btree_range_map.specs.Overlapping.{AreOverlapping};
 ghost use Rattle.range_ffi.specs.Flags.{range_of, entry_item, number_of, from_key, upto_key};
 ghost use Rattle.range_handles.specs.Held.{HoldsMap, map_items};
 ghost use Rattle.range_handles.specs.Lists.{Ranges};
+ghost use Rattle.btree_range_map_c.specs.Statuses.{IsAnswer};
 
 mod many;
 mod together;
@@ -48,10 +49,7 @@ pub extern "C" fn brm_map_u64_insert(handle: &mut Handle, range: &Bounds, value:
         → handle.new.seal.held ≡ handle.old.seal.held }
     ensures kind { HoldsMap handle.old.seal.held → HoldsMap handle.new.seal.held }
     ensures refused { result ≢ DONE → handle.new.seal.held ≡ handle.old.seal.held }
-    ensures answer { HoldsMap handle.old.seal.held → (result ≡ DONE) ⊎ (result ≡ NO_MEMORY) }
-    ensures closed { handle.old.is_open ≡ false → result ≡ CLOSED }
-    ensures other { handle.old.is_open ≡ true → (¬ HoldsMap handle.old.seal.held)
-        → result ≡ OTHER_KIND }
+    ensures answer { IsAnswer HoldsMap handle.old result (DONE ∷ NO_MEMORY ∷ []) }
 {
     if !handle.is_open {
         return CLOSED;
@@ -81,11 +79,7 @@ pub extern "C" fn brm_map_u64_insert_disconnected(
         → handle.new.seal.held ≡ handle.old.seal.held }
     ensures kind { HoldsMap handle.old.seal.held → HoldsMap handle.new.seal.held }
     ensures refused { result ≢ DONE → handle.new.seal.held ≡ handle.old.seal.held }
-    ensures answer { HoldsMap handle.old.seal.held
-        → (result ≡ DONE) ⊎ ((result ≡ NO_MEMORY) ⊎ (result ≡ CONNECTED)) }
-    ensures closed { handle.old.is_open ≡ false → result ≡ CLOSED }
-    ensures other { handle.old.is_open ≡ true → (¬ HoldsMap handle.old.seal.held)
-        → result ≡ OTHER_KIND }
+    ensures answer { IsAnswer HoldsMap handle.old result (DONE ∷ NO_MEMORY ∷ CONNECTED ∷ []) }
 {
     if !handle.is_open {
         return CLOSED;
@@ -111,11 +105,7 @@ pub extern "C" fn brm_map_u64_try_insert(handle: &mut Handle, range: &Bounds, va
         → handle.new.seal.held ≡ handle.old.seal.held }
     ensures kind { HoldsMap handle.old.seal.held → HoldsMap handle.new.seal.held }
     ensures refused { result ≢ DONE → handle.new.seal.held ≡ handle.old.seal.held }
-    ensures answer { HoldsMap handle.old.seal.held
-        → (result ≡ DONE) ⊎ ((result ≡ NO_MEMORY) ⊎ (result ≡ OCCUPIED)) }
-    ensures closed { handle.old.is_open ≡ false → result ≡ CLOSED }
-    ensures other { handle.old.is_open ≡ true → (¬ HoldsMap handle.old.seal.held)
-        → result ≡ OTHER_KIND }
+    ensures answer { IsAnswer HoldsMap handle.old result (DONE ∷ NO_MEMORY ∷ OCCUPIED ∷ []) }
 {
     if !handle.is_open {
         return CLOSED;
@@ -138,10 +128,7 @@ pub extern "C" fn brm_map_u64_remove(handle: &mut Handle, range: &Bounds) -> u32
         → handle.new.seal.held ≡ handle.old.seal.held }
     ensures kind { HoldsMap handle.old.seal.held → HoldsMap handle.new.seal.held }
     ensures refused { result ≢ DONE → handle.new.seal.held ≡ handle.old.seal.held }
-    ensures answer { HoldsMap handle.old.seal.held → (result ≡ DONE) ⊎ (result ≡ NO_MEMORY) }
-    ensures closed { handle.old.is_open ≡ false → result ≡ CLOSED }
-    ensures other { handle.old.is_open ≡ true → (¬ HoldsMap handle.old.seal.held)
-        → result ≡ OTHER_KIND }
+    ensures answer { IsAnswer HoldsMap handle.old result (DONE ∷ NO_MEMORY ∷ []) }
 {
     if !handle.is_open {
         return CLOSED;
@@ -163,10 +150,7 @@ pub extern "C" fn brm_map_u64_get(handle: &mut Handle, key: u64, entry: &mut Ent
     ensures free { result ≢ DONE
         → Binds u64_order nat_eq (map_items handle.old.seal.held) key None }
     ensures unwritten { result ≢ DONE → entry.new ≡ entry.old }
-    ensures answer { HoldsMap handle.old.seal.held → (result ≡ DONE) ⊎ (result ≡ NONE) }
-    ensures closed { handle.old.is_open ≡ false → result ≡ CLOSED }
-    ensures other { handle.old.is_open ≡ true → (¬ HoldsMap handle.old.seal.held)
-        → result ≡ OTHER_KIND }
+    ensures answer { IsAnswer HoldsMap handle.old result (DONE ∷ NONE ∷ []) }
 {
     if !handle.is_open {
         return CLOSED;
@@ -183,10 +167,7 @@ pub extern "C" fn brm_map_u64_contains(handle: &mut Handle, key: u64) -> u32
     ensures unchanged { handle.new.seal.held ≡ handle.old.seal.held }
     ensures yes { result ≡ DONE → IsBound u64_order (map_items handle.old.seal.held) key }
     ensures no { result ≡ NONE → ¬ IsBound u64_order (map_items handle.old.seal.held) key }
-    ensures answer { HoldsMap handle.old.seal.held → (result ≡ DONE) ⊎ (result ≡ NONE) }
-    ensures closed { handle.old.is_open ≡ false → result ≡ CLOSED }
-    ensures other { handle.old.is_open ≡ true → (¬ HoldsMap handle.old.seal.held)
-        → result ≡ OTHER_KIND }
+    ensures answer { IsAnswer HoldsMap handle.old result (DONE ∷ NONE ∷ []) }
 {
     if !handle.is_open {
         return CLOSED;
@@ -205,10 +186,7 @@ pub extern "C" fn brm_map_u64_intersects(handle: &mut Handle, range: &Bounds) ->
         → BindsKeyOf u64_order (map_items handle.old.seal.held) (range_of range.now) }
     ensures no { result ≡ NONE
         → ¬ BindsKeyOf u64_order (map_items handle.old.seal.held) (range_of range.now) }
-    ensures answer { HoldsMap handle.old.seal.held → (result ≡ DONE) ⊎ (result ≡ NONE) }
-    ensures closed { handle.old.is_open ≡ false → result ≡ CLOSED }
-    ensures other { handle.old.is_open ≡ true → (¬ HoldsMap handle.old.seal.held)
-        → result ≡ OTHER_KIND }
+    ensures answer { IsAnswer HoldsMap handle.old result (DONE ∷ NONE ∷ []) }
 {
     if !handle.is_open {
         return CLOSED;
@@ -226,10 +204,7 @@ pub extern "C" fn brm_map_u64_len(handle: &mut Handle, length: &mut Length) -> u
     ensures counted { result ≡ DONE → IsNumberOfKeys u64_order
         (IsBound u64_order (map_items handle.old.seal.held)) (number_of length.new) }
     ensures unwritten { result ≢ DONE → length.new ≡ length.old }
-    ensures answer { HoldsMap handle.old.seal.held → result ≡ DONE }
-    ensures closed { handle.old.is_open ≡ false → result ≡ CLOSED }
-    ensures other { handle.old.is_open ≡ true → (¬ HoldsMap handle.old.seal.held)
-        → result ≡ OTHER_KIND }
+    ensures answer { IsAnswer HoldsMap handle.old result (DONE ∷ []) }
 {
     if !handle.is_open {
         return CLOSED;
@@ -248,10 +223,7 @@ pub extern "C" fn brm_map_u64_first(handle: &mut Handle, entry: &mut Entry) -> u
         × (map_items handle.old.seal.held ≡ entry_item entry.new ∷ rest) }
     ensures none { result ≢ DONE → map_items handle.old.seal.held ≡ [] }
     ensures unwritten { result ≢ DONE → entry.new ≡ entry.old }
-    ensures answer { HoldsMap handle.old.seal.held → (result ≡ DONE) ⊎ (result ≡ NONE) }
-    ensures closed { handle.old.is_open ≡ false → result ≡ CLOSED }
-    ensures other { handle.old.is_open ≡ true → (¬ HoldsMap handle.old.seal.held)
-        → result ≡ OTHER_KIND }
+    ensures answer { IsAnswer HoldsMap handle.old result (DONE ∷ NONE ∷ []) }
 {
     if !handle.is_open {
         return CLOSED;
@@ -270,10 +242,7 @@ pub extern "C" fn brm_map_u64_last(handle: &mut Handle, entry: &mut Entry) -> u3
         × (map_items handle.old.seal.held ≡ front ++ entry_item entry.new ∷ []) }
     ensures none { result ≢ DONE → map_items handle.old.seal.held ≡ [] }
     ensures unwritten { result ≢ DONE → entry.new ≡ entry.old }
-    ensures answer { HoldsMap handle.old.seal.held → (result ≡ DONE) ⊎ (result ≡ NONE) }
-    ensures closed { handle.old.is_open ≡ false → result ≡ CLOSED }
-    ensures other { handle.old.is_open ≡ true → (¬ HoldsMap handle.old.seal.held)
-        → result ≡ OTHER_KIND }
+    ensures answer { IsAnswer HoldsMap handle.old result (DONE ∷ NONE ∷ []) }
 {
     if !handle.is_open {
         return CLOSED;
@@ -297,10 +266,7 @@ pub extern "C" fn brm_map_u64_next(handle: &mut Handle, key: u64, entry: &mut En
     ensures none { result ≡ NONE
         → AreOverlapping u64_order (map_items handle.old.seal.held) (from_key key) [] }
     ensures unwritten { result ≢ DONE → entry.new ≡ entry.old }
-    ensures answer { HoldsMap handle.old.seal.held → (result ≡ DONE) ⊎ (result ≡ NONE) }
-    ensures closed { handle.old.is_open ≡ false → result ≡ CLOSED }
-    ensures other { handle.old.is_open ≡ true → (¬ HoldsMap handle.old.seal.held)
-        → result ≡ OTHER_KIND }
+    ensures answer { IsAnswer HoldsMap handle.old result (DONE ∷ NONE ∷ []) }
 {
     if !handle.is_open {
         return CLOSED;
@@ -324,10 +290,7 @@ pub extern "C" fn brm_map_u64_previous(handle: &mut Handle, key: u64, entry: &mu
     ensures none { result ≡ NONE
         → AreOverlapping u64_order (map_items handle.old.seal.held) (upto_key key) [] }
     ensures unwritten { result ≢ DONE → entry.new ≡ entry.old }
-    ensures answer { HoldsMap handle.old.seal.held → (result ≡ DONE) ⊎ (result ≡ NONE) }
-    ensures closed { handle.old.is_open ≡ false → result ≡ CLOSED }
-    ensures other { handle.old.is_open ≡ true → (¬ HoldsMap handle.old.seal.held)
-        → result ≡ OTHER_KIND }
+    ensures answer { IsAnswer HoldsMap handle.old result (DONE ∷ NONE ∷ []) }
 {
     if !handle.is_open {
         return CLOSED;
@@ -347,10 +310,7 @@ pub extern "C" fn brm_map_u64_pop_first(handle: &mut Handle, entry: &mut Entry) 
     ensures kind { HoldsMap handle.old.seal.held → HoldsMap handle.new.seal.held }
     ensures unchanged { result ≢ DONE → handle.new.seal.held ≡ handle.old.seal.held }
     ensures unwritten { result ≢ DONE → entry.new ≡ entry.old }
-    ensures answer { HoldsMap handle.old.seal.held → (result ≡ DONE) ⊎ (result ≡ NONE) }
-    ensures closed { handle.old.is_open ≡ false → result ≡ CLOSED }
-    ensures other { handle.old.is_open ≡ true → (¬ HoldsMap handle.old.seal.held)
-        → result ≡ OTHER_KIND }
+    ensures answer { IsAnswer HoldsMap handle.old result (DONE ∷ NONE ∷ []) }
 {
     if !handle.is_open {
         return CLOSED;
@@ -370,10 +330,7 @@ pub extern "C" fn brm_map_u64_pop_last(handle: &mut Handle, entry: &mut Entry) -
     ensures kind { HoldsMap handle.old.seal.held → HoldsMap handle.new.seal.held }
     ensures unchanged { result ≢ DONE → handle.new.seal.held ≡ handle.old.seal.held }
     ensures unwritten { result ≢ DONE → entry.new ≡ entry.old }
-    ensures answer { HoldsMap handle.old.seal.held → (result ≡ DONE) ⊎ (result ≡ NONE) }
-    ensures closed { handle.old.is_open ≡ false → result ≡ CLOSED }
-    ensures other { handle.old.is_open ≡ true → (¬ HoldsMap handle.old.seal.held)
-        → result ≡ OTHER_KIND }
+    ensures answer { IsAnswer HoldsMap handle.old result (DONE ∷ NONE ∷ []) }
 {
     if !handle.is_open {
         return CLOSED;

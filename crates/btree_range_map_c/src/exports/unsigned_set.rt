@@ -11,6 +11,7 @@ ghost use Rattle.btree_range_map.specs.Range.{IsEmptyRange};
 ghost use Rattle.range_ffi.specs.Flags.{range_of, bounds_item, number_of, from_key, upto_key};
 ghost use Rattle.range_handles.specs.Held.{HoldsSet, set_items};
 ghost use Rattle.range_handles.specs.Lists.{KeyRanges};
+ghost use Rattle.btree_range_map_c.specs.Statuses.{IsAnswer};
 
 mod many;
 
@@ -49,10 +50,7 @@ pub extern "C" fn brm_set_u64_insert(handle: &mut Handle, range: &Bounds) -> u32
         → handle.new.seal.held ≡ handle.old.seal.held }
     ensures kind { HoldsSet handle.old.seal.held → HoldsSet handle.new.seal.held }
     ensures refused { result ≢ DONE → handle.new.seal.held ≡ handle.old.seal.held }
-    ensures answer { HoldsSet handle.old.seal.held → (result ≡ DONE) ⊎ (result ≡ NO_MEMORY) }
-    ensures closed { handle.old.is_open ≡ false → result ≡ CLOSED }
-    ensures other { handle.old.is_open ≡ true → (¬ HoldsSet handle.old.seal.held)
-        → result ≡ OTHER_KIND }
+    ensures answer { IsAnswer HoldsSet handle.old result (DONE ∷ NO_MEMORY ∷ []) }
 {
     if !handle.is_open {
         return CLOSED;
@@ -78,11 +76,7 @@ pub extern "C" fn brm_set_u64_try_insert(handle: &mut Handle, range: &Bounds) ->
         → handle.new.seal.held ≡ handle.old.seal.held }
     ensures kind { HoldsSet handle.old.seal.held → HoldsSet handle.new.seal.held }
     ensures refused { result ≢ DONE → handle.new.seal.held ≡ handle.old.seal.held }
-    ensures answer { HoldsSet handle.old.seal.held
-        → (result ≡ DONE) ⊎ ((result ≡ NO_MEMORY) ⊎ (result ≡ OCCUPIED)) }
-    ensures closed { handle.old.is_open ≡ false → result ≡ CLOSED }
-    ensures other { handle.old.is_open ≡ true → (¬ HoldsSet handle.old.seal.held)
-        → result ≡ OTHER_KIND }
+    ensures answer { IsAnswer HoldsSet handle.old result (DONE ∷ NO_MEMORY ∷ OCCUPIED ∷ []) }
 {
     if !handle.is_open {
         return CLOSED;
@@ -105,10 +99,7 @@ pub extern "C" fn brm_set_u64_remove(handle: &mut Handle, range: &Bounds) -> u32
         → handle.new.seal.held ≡ handle.old.seal.held }
     ensures kind { HoldsSet handle.old.seal.held → HoldsSet handle.new.seal.held }
     ensures refused { result ≢ DONE → handle.new.seal.held ≡ handle.old.seal.held }
-    ensures answer { HoldsSet handle.old.seal.held → (result ≡ DONE) ⊎ (result ≡ NO_MEMORY) }
-    ensures closed { handle.old.is_open ≡ false → result ≡ CLOSED }
-    ensures other { handle.old.is_open ≡ true → (¬ HoldsSet handle.old.seal.held)
-        → result ≡ OTHER_KIND }
+    ensures answer { IsAnswer HoldsSet handle.old result (DONE ∷ NO_MEMORY ∷ []) }
 {
     if !handle.is_open {
         return CLOSED;
@@ -127,10 +118,7 @@ pub extern "C" fn brm_set_u64_get(handle: &mut Handle, key: u64, entry: &mut Bou
         → IsItemFor u64_order (set_items handle.old.seal.held) key (bounds_item entry.new) }
     ensures free { result ≢ DONE → ¬ HoldsKey u64_order (set_items handle.old.seal.held) key }
     ensures unwritten { result ≢ DONE → entry.new ≡ entry.old }
-    ensures answer { HoldsSet handle.old.seal.held → (result ≡ DONE) ⊎ (result ≡ NONE) }
-    ensures closed { handle.old.is_open ≡ false → result ≡ CLOSED }
-    ensures other { handle.old.is_open ≡ true → (¬ HoldsSet handle.old.seal.held)
-        → result ≡ OTHER_KIND }
+    ensures answer { IsAnswer HoldsSet handle.old result (DONE ∷ NONE ∷ []) }
 {
     if !handle.is_open {
         return CLOSED;
@@ -147,10 +135,7 @@ pub extern "C" fn brm_set_u64_contains(handle: &mut Handle, key: u64) -> u32
     ensures unchanged { handle.new.seal.held ≡ handle.old.seal.held }
     ensures yes { result ≡ DONE → HoldsKey u64_order (set_items handle.old.seal.held) key }
     ensures no { result ≡ NONE → ¬ HoldsKey u64_order (set_items handle.old.seal.held) key }
-    ensures answer { HoldsSet handle.old.seal.held → (result ≡ DONE) ⊎ (result ≡ NONE) }
-    ensures closed { handle.old.is_open ≡ false → result ≡ CLOSED }
-    ensures other { handle.old.is_open ≡ true → (¬ HoldsSet handle.old.seal.held)
-        → result ≡ OTHER_KIND }
+    ensures answer { IsAnswer HoldsSet handle.old result (DONE ∷ NONE ∷ []) }
 {
     if !handle.is_open {
         return CLOSED;
@@ -169,10 +154,7 @@ pub extern "C" fn brm_set_u64_intersects(handle: &mut Handle, range: &Bounds) ->
         → BindsKeyOf u64_order (set_items handle.old.seal.held) (range_of range.now) }
     ensures no { result ≡ NONE
         → ¬ BindsKeyOf u64_order (set_items handle.old.seal.held) (range_of range.now) }
-    ensures answer { HoldsSet handle.old.seal.held → (result ≡ DONE) ⊎ (result ≡ NONE) }
-    ensures closed { handle.old.is_open ≡ false → result ≡ CLOSED }
-    ensures other { handle.old.is_open ≡ true → (¬ HoldsSet handle.old.seal.held)
-        → result ≡ OTHER_KIND }
+    ensures answer { IsAnswer HoldsSet handle.old result (DONE ∷ NONE ∷ []) }
 {
     if !handle.is_open {
         return CLOSED;
@@ -190,10 +172,7 @@ pub extern "C" fn brm_set_u64_len(handle: &mut Handle, length: &mut Length) -> u
     ensures counted { result ≡ DONE → IsNumberOfKeys u64_order
         (HoldsKey u64_order (set_items handle.old.seal.held)) (number_of length.new) }
     ensures unwritten { result ≢ DONE → length.new ≡ length.old }
-    ensures answer { HoldsSet handle.old.seal.held → result ≡ DONE }
-    ensures closed { handle.old.is_open ≡ false → result ≡ CLOSED }
-    ensures other { handle.old.is_open ≡ true → (¬ HoldsSet handle.old.seal.held)
-        → result ≡ OTHER_KIND }
+    ensures answer { IsAnswer HoldsSet handle.old result (DONE ∷ []) }
 {
     if !handle.is_open {
         return CLOSED;
@@ -212,10 +191,7 @@ pub extern "C" fn brm_set_u64_first(handle: &mut Handle, entry: &mut Bounds) -> 
         × (set_items handle.old.seal.held ≡ bounds_item entry.new ∷ rest) }
     ensures none { result ≢ DONE → set_items handle.old.seal.held ≡ [] }
     ensures unwritten { result ≢ DONE → entry.new ≡ entry.old }
-    ensures answer { HoldsSet handle.old.seal.held → (result ≡ DONE) ⊎ (result ≡ NONE) }
-    ensures closed { handle.old.is_open ≡ false → result ≡ CLOSED }
-    ensures other { handle.old.is_open ≡ true → (¬ HoldsSet handle.old.seal.held)
-        → result ≡ OTHER_KIND }
+    ensures answer { IsAnswer HoldsSet handle.old result (DONE ∷ NONE ∷ []) }
 {
     if !handle.is_open {
         return CLOSED;
@@ -234,10 +210,7 @@ pub extern "C" fn brm_set_u64_last(handle: &mut Handle, entry: &mut Bounds) -> u
         × (set_items handle.old.seal.held ≡ front ++ bounds_item entry.new ∷ []) }
     ensures none { result ≢ DONE → set_items handle.old.seal.held ≡ [] }
     ensures unwritten { result ≢ DONE → entry.new ≡ entry.old }
-    ensures answer { HoldsSet handle.old.seal.held → (result ≡ DONE) ⊎ (result ≡ NONE) }
-    ensures closed { handle.old.is_open ≡ false → result ≡ CLOSED }
-    ensures other { handle.old.is_open ≡ true → (¬ HoldsSet handle.old.seal.held)
-        → result ≡ OTHER_KIND }
+    ensures answer { IsAnswer HoldsSet handle.old result (DONE ∷ NONE ∷ []) }
 {
     if !handle.is_open {
         return CLOSED;
@@ -261,10 +234,7 @@ pub extern "C" fn brm_set_u64_next(handle: &mut Handle, key: u64, entry: &mut Bo
     ensures none { result ≡ NONE
         → AreOverlapping u64_order (set_items handle.old.seal.held) (from_key key) [] }
     ensures unwritten { result ≢ DONE → entry.new ≡ entry.old }
-    ensures answer { HoldsSet handle.old.seal.held → (result ≡ DONE) ⊎ (result ≡ NONE) }
-    ensures closed { handle.old.is_open ≡ false → result ≡ CLOSED }
-    ensures other { handle.old.is_open ≡ true → (¬ HoldsSet handle.old.seal.held)
-        → result ≡ OTHER_KIND }
+    ensures answer { IsAnswer HoldsSet handle.old result (DONE ∷ NONE ∷ []) }
 {
     if !handle.is_open {
         return CLOSED;
@@ -288,10 +258,7 @@ pub extern "C" fn brm_set_u64_previous(handle: &mut Handle, key: u64, entry: &mu
     ensures none { result ≡ NONE
         → AreOverlapping u64_order (set_items handle.old.seal.held) (upto_key key) [] }
     ensures unwritten { result ≢ DONE → entry.new ≡ entry.old }
-    ensures answer { HoldsSet handle.old.seal.held → (result ≡ DONE) ⊎ (result ≡ NONE) }
-    ensures closed { handle.old.is_open ≡ false → result ≡ CLOSED }
-    ensures other { handle.old.is_open ≡ true → (¬ HoldsSet handle.old.seal.held)
-        → result ≡ OTHER_KIND }
+    ensures answer { IsAnswer HoldsSet handle.old result (DONE ∷ NONE ∷ []) }
 {
     if !handle.is_open {
         return CLOSED;
@@ -311,10 +278,7 @@ pub extern "C" fn brm_set_u64_pop_first(handle: &mut Handle, entry: &mut Bounds)
     ensures kind { HoldsSet handle.old.seal.held → HoldsSet handle.new.seal.held }
     ensures unchanged { result ≢ DONE → handle.new.seal.held ≡ handle.old.seal.held }
     ensures unwritten { result ≢ DONE → entry.new ≡ entry.old }
-    ensures answer { HoldsSet handle.old.seal.held → (result ≡ DONE) ⊎ (result ≡ NONE) }
-    ensures closed { handle.old.is_open ≡ false → result ≡ CLOSED }
-    ensures other { handle.old.is_open ≡ true → (¬ HoldsSet handle.old.seal.held)
-        → result ≡ OTHER_KIND }
+    ensures answer { IsAnswer HoldsSet handle.old result (DONE ∷ NONE ∷ []) }
 {
     if !handle.is_open {
         return CLOSED;
@@ -334,10 +298,7 @@ pub extern "C" fn brm_set_u64_pop_last(handle: &mut Handle, entry: &mut Bounds) 
     ensures kind { HoldsSet handle.old.seal.held → HoldsSet handle.new.seal.held }
     ensures unchanged { result ≢ DONE → handle.new.seal.held ≡ handle.old.seal.held }
     ensures unwritten { result ≢ DONE → entry.new ≡ entry.old }
-    ensures answer { HoldsSet handle.old.seal.held → (result ≡ DONE) ⊎ (result ≡ NONE) }
-    ensures closed { handle.old.is_open ≡ false → result ≡ CLOSED }
-    ensures other { handle.old.is_open ≡ true → (¬ HoldsSet handle.old.seal.held)
-        → result ≡ OTHER_KIND }
+    ensures answer { IsAnswer HoldsSet handle.old result (DONE ∷ NONE ∷ []) }
 {
     if !handle.is_open {
         return CLOSED;

@@ -9,6 +9,7 @@ ghost use Rattle.range_ffi.specs.Flags.{from_key, upto_key};
 ghost use Rattle.range_ffi.specs.Wide.{wide_entry_item, wide_key, wide_range_of};
 ghost use Rattle.range_handles.specs.Held.{HoldsWideMap, wide_items};
 ghost use Rattle.range_handles.specs.Lists.{WideRanges};
+ghost use Rattle.btree_range_map_c.specs.Statuses.{IsAnswer};
 
 mod many;
 mod tables;
@@ -49,10 +50,7 @@ pub extern "C" fn brm_map_u128_insert(handle: &mut Handle, range: &WideBounds, v
         → handle.new.seal.held ≡ handle.old.seal.held }
     ensures kind { HoldsWideMap handle.old.seal.held → HoldsWideMap handle.new.seal.held }
     ensures refused { result ≢ DONE → handle.new.seal.held ≡ handle.old.seal.held }
-    ensures answer { HoldsWideMap handle.old.seal.held → (result ≡ DONE) ⊎ (result ≡ NO_MEMORY) }
-    ensures closed { handle.old.is_open ≡ false → result ≡ CLOSED }
-    ensures other { handle.old.is_open ≡ true → (¬ HoldsWideMap handle.old.seal.held)
-        → result ≡ OTHER_KIND }
+    ensures answer { IsAnswer HoldsWideMap handle.old result (DONE ∷ NO_MEMORY ∷ []) }
 {
     if !handle.is_open {
         return CLOSED;
@@ -83,11 +81,7 @@ pub extern "C" fn brm_map_u128_insert_disconnected(
         → handle.new.seal.held ≡ handle.old.seal.held }
     ensures kind { HoldsWideMap handle.old.seal.held → HoldsWideMap handle.new.seal.held }
     ensures refused { result ≢ DONE → handle.new.seal.held ≡ handle.old.seal.held }
-    ensures answer { HoldsWideMap handle.old.seal.held
-        → (result ≡ DONE) ⊎ ((result ≡ NO_MEMORY) ⊎ (result ≡ CONNECTED)) }
-    ensures closed { handle.old.is_open ≡ false → result ≡ CLOSED }
-    ensures other { handle.old.is_open ≡ true → (¬ HoldsWideMap handle.old.seal.held)
-        → result ≡ OTHER_KIND }
+    ensures answer { IsAnswer HoldsWideMap handle.old result (DONE ∷ NO_MEMORY ∷ CONNECTED ∷ []) }
 {
     if !handle.is_open {
         return CLOSED;
@@ -117,11 +111,7 @@ pub extern "C" fn brm_map_u128_try_insert(
         → handle.new.seal.held ≡ handle.old.seal.held }
     ensures kind { HoldsWideMap handle.old.seal.held → HoldsWideMap handle.new.seal.held }
     ensures refused { result ≢ DONE → handle.new.seal.held ≡ handle.old.seal.held }
-    ensures answer { HoldsWideMap handle.old.seal.held
-        → (result ≡ DONE) ⊎ ((result ≡ NO_MEMORY) ⊎ (result ≡ OCCUPIED)) }
-    ensures closed { handle.old.is_open ≡ false → result ≡ CLOSED }
-    ensures other { handle.old.is_open ≡ true → (¬ HoldsWideMap handle.old.seal.held)
-        → result ≡ OTHER_KIND }
+    ensures answer { IsAnswer HoldsWideMap handle.old result (DONE ∷ NO_MEMORY ∷ OCCUPIED ∷ []) }
 {
     if !handle.is_open {
         return CLOSED;
@@ -144,10 +134,7 @@ pub extern "C" fn brm_map_u128_remove(handle: &mut Handle, range: &WideBounds) -
         → handle.new.seal.held ≡ handle.old.seal.held }
     ensures kind { HoldsWideMap handle.old.seal.held → HoldsWideMap handle.new.seal.held }
     ensures refused { result ≢ DONE → handle.new.seal.held ≡ handle.old.seal.held }
-    ensures answer { HoldsWideMap handle.old.seal.held → (result ≡ DONE) ⊎ (result ≡ NO_MEMORY) }
-    ensures closed { handle.old.is_open ≡ false → result ≡ CLOSED }
-    ensures other { handle.old.is_open ≡ true → (¬ HoldsWideMap handle.old.seal.held)
-        → result ≡ OTHER_KIND }
+    ensures answer { IsAnswer HoldsWideMap handle.old result (DONE ∷ NO_MEMORY ∷ []) }
 {
     if !handle.is_open {
         return CLOSED;
@@ -171,10 +158,7 @@ pub extern "C" fn brm_map_u128_get(handle: &mut Handle, key: &WideKey, entry: &m
     ensures free { result ≢ DONE
         → Binds ipv6_order nat_eq (wide_items handle.old.seal.held) (wide_key key.now) None }
     ensures unwritten { result ≢ DONE → entry.new ≡ entry.old }
-    ensures answer { HoldsWideMap handle.old.seal.held → (result ≡ DONE) ⊎ (result ≡ NONE) }
-    ensures closed { handle.old.is_open ≡ false → result ≡ CLOSED }
-    ensures other { handle.old.is_open ≡ true → (¬ HoldsWideMap handle.old.seal.held)
-        → result ≡ OTHER_KIND }
+    ensures answer { IsAnswer HoldsWideMap handle.old result (DONE ∷ NONE ∷ []) }
 {
     if !handle.is_open {
         return CLOSED;
@@ -193,10 +177,7 @@ pub extern "C" fn brm_map_u128_contains(handle: &mut Handle, key: &WideKey) -> u
         → IsBound ipv6_order (wide_items handle.old.seal.held) (wide_key key.now) }
     ensures no { result ≡ NONE
         → ¬ IsBound ipv6_order (wide_items handle.old.seal.held) (wide_key key.now) }
-    ensures answer { HoldsWideMap handle.old.seal.held → (result ≡ DONE) ⊎ (result ≡ NONE) }
-    ensures closed { handle.old.is_open ≡ false → result ≡ CLOSED }
-    ensures other { handle.old.is_open ≡ true → (¬ HoldsWideMap handle.old.seal.held)
-        → result ≡ OTHER_KIND }
+    ensures answer { IsAnswer HoldsWideMap handle.old result (DONE ∷ NONE ∷ []) }
 {
     if !handle.is_open {
         return CLOSED;
@@ -215,10 +196,7 @@ pub extern "C" fn brm_map_u128_intersects(handle: &mut Handle, range: &WideBound
         → BindsKeyOf ipv6_order (wide_items handle.old.seal.held) (wide_range_of range.now) }
     ensures no { result ≡ NONE
         → ¬ BindsKeyOf ipv6_order (wide_items handle.old.seal.held) (wide_range_of range.now) }
-    ensures answer { HoldsWideMap handle.old.seal.held → (result ≡ DONE) ⊎ (result ≡ NONE) }
-    ensures closed { handle.old.is_open ≡ false → result ≡ CLOSED }
-    ensures other { handle.old.is_open ≡ true → (¬ HoldsWideMap handle.old.seal.held)
-        → result ≡ OTHER_KIND }
+    ensures answer { IsAnswer HoldsWideMap handle.old result (DONE ∷ NONE ∷ []) }
 {
     if !handle.is_open {
         return CLOSED;
@@ -237,10 +215,7 @@ pub extern "C" fn brm_map_u128_first(handle: &mut Handle, entry: &mut WideEntry)
         × (wide_items handle.old.seal.held ≡ wide_entry_item entry.new ∷ rest) }
     ensures none { result ≢ DONE → wide_items handle.old.seal.held ≡ [] }
     ensures unwritten { result ≢ DONE → entry.new ≡ entry.old }
-    ensures answer { HoldsWideMap handle.old.seal.held → (result ≡ DONE) ⊎ (result ≡ NONE) }
-    ensures closed { handle.old.is_open ≡ false → result ≡ CLOSED }
-    ensures other { handle.old.is_open ≡ true → (¬ HoldsWideMap handle.old.seal.held)
-        → result ≡ OTHER_KIND }
+    ensures answer { IsAnswer HoldsWideMap handle.old result (DONE ∷ NONE ∷ []) }
 {
     if !handle.is_open {
         return CLOSED;
@@ -259,10 +234,7 @@ pub extern "C" fn brm_map_u128_last(handle: &mut Handle, entry: &mut WideEntry) 
         × (wide_items handle.old.seal.held ≡ front ++ wide_entry_item entry.new ∷ []) }
     ensures none { result ≢ DONE → wide_items handle.old.seal.held ≡ [] }
     ensures unwritten { result ≢ DONE → entry.new ≡ entry.old }
-    ensures answer { HoldsWideMap handle.old.seal.held → (result ≡ DONE) ⊎ (result ≡ NONE) }
-    ensures closed { handle.old.is_open ≡ false → result ≡ CLOSED }
-    ensures other { handle.old.is_open ≡ true → (¬ HoldsWideMap handle.old.seal.held)
-        → result ≡ OTHER_KIND }
+    ensures answer { IsAnswer HoldsWideMap handle.old result (DONE ∷ NONE ∷ []) }
 {
     if !handle.is_open {
         return CLOSED;
@@ -291,10 +263,7 @@ pub extern "C" fn brm_map_u128_next(
         → AreOverlapping ipv6_order (wide_items handle.old.seal.held) (from_key
         (wide_key key.now)) [] }
     ensures unwritten { result ≢ DONE → entry.new ≡ entry.old }
-    ensures answer { HoldsWideMap handle.old.seal.held → (result ≡ DONE) ⊎ (result ≡ NONE) }
-    ensures closed { handle.old.is_open ≡ false → result ≡ CLOSED }
-    ensures other { handle.old.is_open ≡ true → (¬ HoldsWideMap handle.old.seal.held)
-        → result ≡ OTHER_KIND }
+    ensures answer { IsAnswer HoldsWideMap handle.old result (DONE ∷ NONE ∷ []) }
 {
     if !handle.is_open {
         return CLOSED;
@@ -323,10 +292,7 @@ pub extern "C" fn brm_map_u128_previous(
         → AreOverlapping ipv6_order (wide_items handle.old.seal.held) (upto_key
         (wide_key key.now)) [] }
     ensures unwritten { result ≢ DONE → entry.new ≡ entry.old }
-    ensures answer { HoldsWideMap handle.old.seal.held → (result ≡ DONE) ⊎ (result ≡ NONE) }
-    ensures closed { handle.old.is_open ≡ false → result ≡ CLOSED }
-    ensures other { handle.old.is_open ≡ true → (¬ HoldsWideMap handle.old.seal.held)
-        → result ≡ OTHER_KIND }
+    ensures answer { IsAnswer HoldsWideMap handle.old result (DONE ∷ NONE ∷ []) }
 {
     if !handle.is_open {
         return CLOSED;
@@ -346,10 +312,7 @@ pub extern "C" fn brm_map_u128_pop_first(handle: &mut Handle, entry: &mut WideEn
     ensures kind { HoldsWideMap handle.old.seal.held → HoldsWideMap handle.new.seal.held }
     ensures unchanged { result ≢ DONE → handle.new.seal.held ≡ handle.old.seal.held }
     ensures unwritten { result ≢ DONE → entry.new ≡ entry.old }
-    ensures answer { HoldsWideMap handle.old.seal.held → (result ≡ DONE) ⊎ (result ≡ NONE) }
-    ensures closed { handle.old.is_open ≡ false → result ≡ CLOSED }
-    ensures other { handle.old.is_open ≡ true → (¬ HoldsWideMap handle.old.seal.held)
-        → result ≡ OTHER_KIND }
+    ensures answer { IsAnswer HoldsWideMap handle.old result (DONE ∷ NONE ∷ []) }
 {
     if !handle.is_open {
         return CLOSED;
@@ -369,10 +332,7 @@ pub extern "C" fn brm_map_u128_pop_last(handle: &mut Handle, entry: &mut WideEnt
     ensures kind { HoldsWideMap handle.old.seal.held → HoldsWideMap handle.new.seal.held }
     ensures unchanged { result ≢ DONE → handle.new.seal.held ≡ handle.old.seal.held }
     ensures unwritten { result ≢ DONE → entry.new ≡ entry.old }
-    ensures answer { HoldsWideMap handle.old.seal.held → (result ≡ DONE) ⊎ (result ≡ NONE) }
-    ensures closed { handle.old.is_open ≡ false → result ≡ CLOSED }
-    ensures other { handle.old.is_open ≡ true → (¬ HoldsWideMap handle.old.seal.held)
-        → result ≡ OTHER_KIND }
+    ensures answer { IsAnswer HoldsWideMap handle.old result (DONE ∷ NONE ∷ []) }
 {
     if !handle.is_open {
         return CLOSED;

@@ -11,6 +11,7 @@ ghost use Rattle.range_ffi.specs.Flags.{from_key, upto_key};
 ghost use Rattle.range_ffi.specs.Wide.{wide_bounds_item, wide_key, wide_range_of};
 ghost use Rattle.range_handles.specs.Held.{HoldsWideSet, wide_set_items};
 ghost use Rattle.range_handles.specs.Lists.{WideKeyRanges};
+ghost use Rattle.btree_range_map_c.specs.Statuses.{IsAnswer};
 
 mod many;
 
@@ -49,10 +50,7 @@ pub extern "C" fn brm_set_u128_insert(handle: &mut Handle, range: &WideBounds) -
         → handle.new.seal.held ≡ handle.old.seal.held }
     ensures kind { HoldsWideSet handle.old.seal.held → HoldsWideSet handle.new.seal.held }
     ensures refused { result ≢ DONE → handle.new.seal.held ≡ handle.old.seal.held }
-    ensures answer { HoldsWideSet handle.old.seal.held → (result ≡ DONE) ⊎ (result ≡ NO_MEMORY) }
-    ensures closed { handle.old.is_open ≡ false → result ≡ CLOSED }
-    ensures other { handle.old.is_open ≡ true → (¬ HoldsWideSet handle.old.seal.held)
-        → result ≡ OTHER_KIND }
+    ensures answer { IsAnswer HoldsWideSet handle.old result (DONE ∷ NO_MEMORY ∷ []) }
 {
     if !handle.is_open {
         return CLOSED;
@@ -78,11 +76,7 @@ pub extern "C" fn brm_set_u128_try_insert(handle: &mut Handle, range: &WideBound
         → handle.new.seal.held ≡ handle.old.seal.held }
     ensures kind { HoldsWideSet handle.old.seal.held → HoldsWideSet handle.new.seal.held }
     ensures refused { result ≢ DONE → handle.new.seal.held ≡ handle.old.seal.held }
-    ensures answer { HoldsWideSet handle.old.seal.held
-        → (result ≡ DONE) ⊎ ((result ≡ NO_MEMORY) ⊎ (result ≡ OCCUPIED)) }
-    ensures closed { handle.old.is_open ≡ false → result ≡ CLOSED }
-    ensures other { handle.old.is_open ≡ true → (¬ HoldsWideSet handle.old.seal.held)
-        → result ≡ OTHER_KIND }
+    ensures answer { IsAnswer HoldsWideSet handle.old result (DONE ∷ NO_MEMORY ∷ OCCUPIED ∷ []) }
 {
     if !handle.is_open {
         return CLOSED;
@@ -105,10 +99,7 @@ pub extern "C" fn brm_set_u128_remove(handle: &mut Handle, range: &WideBounds) -
         → handle.new.seal.held ≡ handle.old.seal.held }
     ensures kind { HoldsWideSet handle.old.seal.held → HoldsWideSet handle.new.seal.held }
     ensures refused { result ≢ DONE → handle.new.seal.held ≡ handle.old.seal.held }
-    ensures answer { HoldsWideSet handle.old.seal.held → (result ≡ DONE) ⊎ (result ≡ NO_MEMORY) }
-    ensures closed { handle.old.is_open ≡ false → result ≡ CLOSED }
-    ensures other { handle.old.is_open ≡ true → (¬ HoldsWideSet handle.old.seal.held)
-        → result ≡ OTHER_KIND }
+    ensures answer { IsAnswer HoldsWideSet handle.old result (DONE ∷ NO_MEMORY ∷ []) }
 {
     if !handle.is_open {
         return CLOSED;
@@ -133,10 +124,7 @@ pub extern "C" fn brm_set_u128_get(
     ensures free { result ≢ DONE
         → ¬ HoldsKey ipv6_order (wide_set_items handle.old.seal.held) (wide_key key.now) }
     ensures unwritten { result ≢ DONE → entry.new ≡ entry.old }
-    ensures answer { HoldsWideSet handle.old.seal.held → (result ≡ DONE) ⊎ (result ≡ NONE) }
-    ensures closed { handle.old.is_open ≡ false → result ≡ CLOSED }
-    ensures other { handle.old.is_open ≡ true → (¬ HoldsWideSet handle.old.seal.held)
-        → result ≡ OTHER_KIND }
+    ensures answer { IsAnswer HoldsWideSet handle.old result (DONE ∷ NONE ∷ []) }
 {
     if !handle.is_open {
         return CLOSED;
@@ -155,10 +143,7 @@ pub extern "C" fn brm_set_u128_contains(handle: &mut Handle, key: &WideKey) -> u
         → HoldsKey ipv6_order (wide_set_items handle.old.seal.held) (wide_key key.now) }
     ensures no { result ≡ NONE
         → ¬ HoldsKey ipv6_order (wide_set_items handle.old.seal.held) (wide_key key.now) }
-    ensures answer { HoldsWideSet handle.old.seal.held → (result ≡ DONE) ⊎ (result ≡ NONE) }
-    ensures closed { handle.old.is_open ≡ false → result ≡ CLOSED }
-    ensures other { handle.old.is_open ≡ true → (¬ HoldsWideSet handle.old.seal.held)
-        → result ≡ OTHER_KIND }
+    ensures answer { IsAnswer HoldsWideSet handle.old result (DONE ∷ NONE ∷ []) }
 {
     if !handle.is_open {
         return CLOSED;
@@ -177,10 +162,7 @@ pub extern "C" fn brm_set_u128_intersects(handle: &mut Handle, range: &WideBound
         → BindsKeyOf ipv6_order (wide_set_items handle.old.seal.held) (wide_range_of range.now) }
     ensures no { result ≡ NONE
         → ¬ BindsKeyOf ipv6_order (wide_set_items handle.old.seal.held) (wide_range_of range.now) }
-    ensures answer { HoldsWideSet handle.old.seal.held → (result ≡ DONE) ⊎ (result ≡ NONE) }
-    ensures closed { handle.old.is_open ≡ false → result ≡ CLOSED }
-    ensures other { handle.old.is_open ≡ true → (¬ HoldsWideSet handle.old.seal.held)
-        → result ≡ OTHER_KIND }
+    ensures answer { IsAnswer HoldsWideSet handle.old result (DONE ∷ NONE ∷ []) }
 {
     if !handle.is_open {
         return CLOSED;
@@ -199,10 +181,7 @@ pub extern "C" fn brm_set_u128_first(handle: &mut Handle, entry: &mut WideBounds
         × (wide_set_items handle.old.seal.held ≡ wide_bounds_item entry.new ∷ rest) }
     ensures none { result ≢ DONE → wide_set_items handle.old.seal.held ≡ [] }
     ensures unwritten { result ≢ DONE → entry.new ≡ entry.old }
-    ensures answer { HoldsWideSet handle.old.seal.held → (result ≡ DONE) ⊎ (result ≡ NONE) }
-    ensures closed { handle.old.is_open ≡ false → result ≡ CLOSED }
-    ensures other { handle.old.is_open ≡ true → (¬ HoldsWideSet handle.old.seal.held)
-        → result ≡ OTHER_KIND }
+    ensures answer { IsAnswer HoldsWideSet handle.old result (DONE ∷ NONE ∷ []) }
 {
     if !handle.is_open {
         return CLOSED;
@@ -221,10 +200,7 @@ pub extern "C" fn brm_set_u128_last(handle: &mut Handle, entry: &mut WideBounds)
         × (wide_set_items handle.old.seal.held ≡ front ++ wide_bounds_item entry.new ∷ []) }
     ensures none { result ≢ DONE → wide_set_items handle.old.seal.held ≡ [] }
     ensures unwritten { result ≢ DONE → entry.new ≡ entry.old }
-    ensures answer { HoldsWideSet handle.old.seal.held → (result ≡ DONE) ⊎ (result ≡ NONE) }
-    ensures closed { handle.old.is_open ≡ false → result ≡ CLOSED }
-    ensures other { handle.old.is_open ≡ true → (¬ HoldsWideSet handle.old.seal.held)
-        → result ≡ OTHER_KIND }
+    ensures answer { IsAnswer HoldsWideSet handle.old result (DONE ∷ NONE ∷ []) }
 {
     if !handle.is_open {
         return CLOSED;
@@ -254,10 +230,7 @@ pub extern "C" fn brm_set_u128_next(
         → AreOverlapping ipv6_order (wide_set_items handle.old.seal.held) (from_key
         (wide_key key.now)) [] }
     ensures unwritten { result ≢ DONE → entry.new ≡ entry.old }
-    ensures answer { HoldsWideSet handle.old.seal.held → (result ≡ DONE) ⊎ (result ≡ NONE) }
-    ensures closed { handle.old.is_open ≡ false → result ≡ CLOSED }
-    ensures other { handle.old.is_open ≡ true → (¬ HoldsWideSet handle.old.seal.held)
-        → result ≡ OTHER_KIND }
+    ensures answer { IsAnswer HoldsWideSet handle.old result (DONE ∷ NONE ∷ []) }
 {
     if !handle.is_open {
         return CLOSED;
@@ -287,10 +260,7 @@ pub extern "C" fn brm_set_u128_previous(
         → AreOverlapping ipv6_order (wide_set_items handle.old.seal.held) (upto_key
         (wide_key key.now)) [] }
     ensures unwritten { result ≢ DONE → entry.new ≡ entry.old }
-    ensures answer { HoldsWideSet handle.old.seal.held → (result ≡ DONE) ⊎ (result ≡ NONE) }
-    ensures closed { handle.old.is_open ≡ false → result ≡ CLOSED }
-    ensures other { handle.old.is_open ≡ true → (¬ HoldsWideSet handle.old.seal.held)
-        → result ≡ OTHER_KIND }
+    ensures answer { IsAnswer HoldsWideSet handle.old result (DONE ∷ NONE ∷ []) }
 {
     if !handle.is_open {
         return CLOSED;
@@ -310,10 +280,7 @@ pub extern "C" fn brm_set_u128_pop_first(handle: &mut Handle, entry: &mut WideBo
     ensures kind { HoldsWideSet handle.old.seal.held → HoldsWideSet handle.new.seal.held }
     ensures unchanged { result ≢ DONE → handle.new.seal.held ≡ handle.old.seal.held }
     ensures unwritten { result ≢ DONE → entry.new ≡ entry.old }
-    ensures answer { HoldsWideSet handle.old.seal.held → (result ≡ DONE) ⊎ (result ≡ NONE) }
-    ensures closed { handle.old.is_open ≡ false → result ≡ CLOSED }
-    ensures other { handle.old.is_open ≡ true → (¬ HoldsWideSet handle.old.seal.held)
-        → result ≡ OTHER_KIND }
+    ensures answer { IsAnswer HoldsWideSet handle.old result (DONE ∷ NONE ∷ []) }
 {
     if !handle.is_open {
         return CLOSED;
@@ -333,10 +300,7 @@ pub extern "C" fn brm_set_u128_pop_last(handle: &mut Handle, entry: &mut WideBou
     ensures kind { HoldsWideSet handle.old.seal.held → HoldsWideSet handle.new.seal.held }
     ensures unchanged { result ≢ DONE → handle.new.seal.held ≡ handle.old.seal.held }
     ensures unwritten { result ≢ DONE → entry.new ≡ entry.old }
-    ensures answer { HoldsWideSet handle.old.seal.held → (result ≡ DONE) ⊎ (result ≡ NONE) }
-    ensures closed { handle.old.is_open ≡ false → result ≡ CLOSED }
-    ensures other { handle.old.is_open ≡ true → (¬ HoldsWideSet handle.old.seal.held)
-        → result ≡ OTHER_KIND }
+    ensures answer { IsAnswer HoldsWideSet handle.old result (DONE ∷ NONE ∷ []) }
 {
     if !handle.is_open {
         return CLOSED;

@@ -1,10 +1,11 @@
 //! The calls on two maps of `i64` keys to `u64` values.
-ghost use Rattle.std.specs.Prelude.{map, ◌≡◌, ◌≢◌, ◌⊎◌, ◌↔◌, [], ◌++◌, true, false, nat_eq};
+ghost use Rattle.std.specs.Prelude.{map, ◌≡◌, ◌≢◌, ◌↔◌, [], ◌++◌, nat_eq, ◌∷◌};
 ghost use Rattle.btree_range_map.specs.Appending.{LieBefore};
 ghost use Rattle.btree_range_map.specs.Bindings.{BindAlike};
 ghost use Rattle.btree_range_map.specs.Names.{i64_order};
 ghost use Rattle.btree_range_map.specs.Splitting.{IsSplitAt};
 ghost use Rattle.range_handles.specs.Held.{HoldsSignedMap, signed_items};
+ghost use Rattle.btree_range_map_c.specs.Statuses.{Both, IsAnswerOfTwo};
 
 use range_ffi::status::{CLOSED, DONE, NO_MEMORY, OTHER_KIND, OUT_OF_ORDER};
 use range_handles::collection::Collection;
@@ -27,13 +28,8 @@ pub extern "C" fn brm_raw_map_i64_split_off(
         → HoldsSignedMap handle.new.seal.held × HoldsSignedMap other.new.seal.held }
     ensures refused { result ≢ DONE → (handle.new.seal.held ≡ handle.old.seal.held)
         × (other.new.seal.held ≡ other.old.seal.held) }
-    ensures answer { HoldsSignedMap handle.old.seal.held → HoldsSignedMap other.old.seal.held
-        → (result ≡ DONE) ⊎ (result ≡ NO_MEMORY) }
-    ensures closed { (handle.old.is_open ≡ false) ⊎ (other.old.is_open ≡ false)
-        → result ≡ CLOSED }
-    ensures other { handle.old.is_open ≡ true → other.old.is_open ≡ true
-        → (¬ HoldsSignedMap handle.old.seal.held) ⊎ (¬ HoldsSignedMap other.old.seal.held)
-        → result ≡ OTHER_KIND }
+    ensures answer { IsAnswerOfTwo (Both HoldsSignedMap) handle.old other.old result
+        (DONE ∷ NO_MEMORY ∷ []) }
 {
     if !handle.is_open || !other.is_open {
         return CLOSED;
@@ -61,13 +57,8 @@ pub extern "C" fn brm_raw_map_i64_append(handle: &mut Handle, other: &mut Handle
         (signed_items other.old.seal.held)) }
     ensures refused { result ≢ DONE → (handle.new.seal.held ≡ handle.old.seal.held)
         × (other.new.seal.held ≡ other.old.seal.held) }
-    ensures answer { HoldsSignedMap handle.old.seal.held → HoldsSignedMap other.old.seal.held
-        → (result ≡ DONE) ⊎ ((result ≡ NO_MEMORY) ⊎ (result ≡ OUT_OF_ORDER)) }
-    ensures closed { (handle.old.is_open ≡ false) ⊎ (other.old.is_open ≡ false)
-        → result ≡ CLOSED }
-    ensures other { handle.old.is_open ≡ true → other.old.is_open ≡ true
-        → (¬ HoldsSignedMap handle.old.seal.held) ⊎ (¬ HoldsSignedMap other.old.seal.held)
-        → result ≡ OTHER_KIND }
+    ensures answer { IsAnswerOfTwo (Both HoldsSignedMap) handle.old other.old result
+        (DONE ∷ NO_MEMORY ∷ OUT_OF_ORDER ∷ []) }
 {
     if !handle.is_open || !other.is_open {
         return CLOSED;

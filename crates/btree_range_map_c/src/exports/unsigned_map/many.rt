@@ -1,5 +1,5 @@
 //! The calls on maps of `u64` keys to `u64` values that write to arrays, or read from them.
-ghost use Rattle.std.specs.Prelude.{◌<◌, ◌≤◌, map, take, drop, reverse, length, ◌≡◌, ◌≢◌, ◌⊎◌, [], ◌++◌, true, false, nat_eq, List, ℕ};
+ghost use Rattle.std.specs.Prelude.{◌<◌, ◌≤◌, map, take, drop, reverse, length, ◌≡◌, ◌≢◌, [], ◌++◌, nat_eq, List, ℕ, ◌∷◌};
 ghost use Rattle.std.specs.List.{AllZip};
 ghost use Rattle.btree_range_map.specs.AnyRange.{AnyRange};
 ghost use Rattle.btree_range_map.specs.Bindings.{Binds};
@@ -13,6 +13,7 @@ ghost use Rattle.range_ffi.specs.Bindings.{binding_value, piece_item};
 ghost use Rattle.range_ffi.specs.Flags.{range_of, entry_item, from_key, upto_key};
 ghost use Rattle.range_handles.specs.Held.{HoldsMap, map_items};
 ghost use Rattle.range_handles.specs.Lists.{Ranges, Pieces};
+ghost use Rattle.btree_range_map_c.specs.Statuses.{IsAnswer};
 
 use range_ffi::bounds::{Binding, Bounds, Entry, Piece};
 use range_ffi::status::{CLOSED, DONE, NO_MEMORY, NO_ROOM, OTHER_KIND};
@@ -42,10 +43,7 @@ pub extern "C" fn brm_map_u64_read(
     ensures behind { result ≡ DONE → drop count.new entries.new ≡ drop count.new entries.old }
     ensures unwritten { result ≢ DONE
         → (entries.new ≡ entries.old) × (count.new ≡ count.old) }
-    ensures answer { HoldsMap handle.old.seal.held → result ≡ DONE }
-    ensures closed { handle.old.is_open ≡ false → result ≡ CLOSED }
-    ensures other { handle.old.is_open ≡ true → (¬ HoldsMap handle.old.seal.held)
-        → result ≡ OTHER_KIND }
+    ensures answer { IsAnswer HoldsMap handle.old result (DONE ∷ []) }
 {
     if !handle.is_open {
         return CLOSED;
@@ -77,10 +75,7 @@ pub extern "C" fn brm_map_u64_read_back(
     ensures behind { result ≡ DONE → drop count.new entries.new ≡ drop count.new entries.old }
     ensures unwritten { result ≢ DONE
         → (entries.new ≡ entries.old) × (count.new ≡ count.old) }
-    ensures answer { HoldsMap handle.old.seal.held → result ≡ DONE }
-    ensures closed { handle.old.is_open ≡ false → result ≡ CLOSED }
-    ensures other { handle.old.is_open ≡ true → (¬ HoldsMap handle.old.seal.held)
-        → result ≡ OTHER_KIND }
+    ensures answer { IsAnswer HoldsMap handle.old result (DONE ∷ []) }
 {
     if !handle.is_open {
         return CLOSED;
@@ -115,10 +110,7 @@ pub extern "C" fn brm_map_u64_overlapping(
     ensures behind { result ≡ DONE → drop count.new entries.new ≡ drop count.new entries.old }
     ensures unwritten { result ≢ DONE
         → (entries.new ≡ entries.old) × (count.new ≡ count.old) }
-    ensures answer { HoldsMap handle.old.seal.held → result ≡ DONE }
-    ensures closed { handle.old.is_open ≡ false → result ≡ CLOSED }
-    ensures other { handle.old.is_open ≡ true → (¬ HoldsMap handle.old.seal.held)
-        → result ≡ OTHER_KIND }
+    ensures answer { IsAnswer HoldsMap handle.old result (DONE ∷ []) }
 {
     if !handle.is_open {
         return CLOSED;
@@ -156,10 +148,7 @@ pub extern "C" fn brm_map_u64_gaps(
     ensures behind { result ≡ DONE → drop count.new ranges.new ≡ drop count.new ranges.old }
     ensures unwritten { result ≢ DONE
         → (ranges.new ≡ ranges.old) × (count.new ≡ count.old) }
-    ensures answer { HoldsMap handle.old.seal.held → result ≡ DONE }
-    ensures closed { handle.old.is_open ≡ false → result ≡ CLOSED }
-    ensures other { handle.old.is_open ≡ true → (¬ HoldsMap handle.old.seal.held)
-        → result ≡ OTHER_KIND }
+    ensures answer { IsAnswer HoldsMap handle.old result (DONE ∷ []) }
 {
     if !handle.is_open {
         return CLOSED;
@@ -192,10 +181,7 @@ pub extern "C" fn brm_map_u64_pieces(
     ensures behind { result ≡ DONE → drop count.new pieces.new ≡ drop count.new pieces.old }
     ensures unwritten { result ≢ DONE
         → (pieces.new ≡ pieces.old) × (count.new ≡ count.old) }
-    ensures answer { HoldsMap handle.old.seal.held → result ≡ DONE }
-    ensures closed { handle.old.is_open ≡ false → result ≡ CLOSED }
-    ensures other { handle.old.is_open ≡ true → (¬ HoldsMap handle.old.seal.held)
-        → result ≡ OTHER_KIND }
+    ensures answer { IsAnswer HoldsMap handle.old result (DONE ∷ []) }
 {
     if !handle.is_open {
         return CLOSED;
@@ -223,10 +209,7 @@ pub extern "C" fn brm_raw_map_u64_get_many(
     ensures room { result ≡ NO_ROOM → length bindings.old < length keys.now }
     ensures behind { drop (length keys.now) bindings.new ≡ drop (length keys.now) bindings.old }
     ensures unwritten { result ≢ DONE → bindings.new ≡ bindings.old }
-    ensures answer { HoldsMap handle.old.seal.held → (result ≡ DONE) ⊎ (result ≡ NO_ROOM) }
-    ensures closed { handle.old.is_open ≡ false → result ≡ CLOSED }
-    ensures other { handle.old.is_open ≡ true → (¬ HoldsMap handle.old.seal.held)
-        → result ≡ OTHER_KIND }
+    ensures answer { IsAnswer HoldsMap handle.old result (DONE ∷ NO_ROOM ∷ []) }
 {
     if !handle.is_open {
         return CLOSED;
@@ -257,10 +240,7 @@ pub extern "C" fn brm_map_u64_insert_many(
     ensures some { result ≡ NO_MEMORY → count.new < length entries.now }
     ensures refused { (¬ HoldsMap handle.old.seal.held)
         → (handle.new.seal.held ≡ handle.old.seal.held) × (count.new ≡ count.old) }
-    ensures answer { HoldsMap handle.old.seal.held → (result ≡ DONE) ⊎ (result ≡ NO_MEMORY) }
-    ensures closed { handle.old.is_open ≡ false → result ≡ CLOSED }
-    ensures other { handle.old.is_open ≡ true → (¬ HoldsMap handle.old.seal.held)
-        → result ≡ OTHER_KIND }
+    ensures answer { IsAnswer HoldsMap handle.old result (DONE ∷ NO_MEMORY ∷ []) }
 {
     if !handle.is_open {
         return CLOSED;

@@ -1,5 +1,5 @@
 //! The calls on sets of `u64` keys that write to arrays, or read from them.
-ghost use Rattle.std.specs.Prelude.{◌<◌, ◌≤◌, map, take, drop, reverse, length, ◌≡◌, ◌≢◌, ◌⊎◌, [], ◌++◌, true, false, List, ℕ};
+ghost use Rattle.std.specs.Prelude.{◌<◌, ◌≤◌, map, take, drop, reverse, length, ◌≡◌, ◌≢◌, [], ◌++◌, List, ℕ, ◌∷◌};
 ghost use Rattle.btree_range_map.specs.AnyRange.{AnyRange};
 ghost use Rattle.btree_range_map.specs.KeySets.{HoldsAllAlso};
 ghost use Rattle.btree_range_map.specs.Names.{u64_order};
@@ -9,6 +9,7 @@ ghost use Rattle.btree_range_map.specs.Range.{IsEmptyRange};
 ghost use Rattle.range_ffi.specs.Flags.{range_of, bounds_item, from_key, upto_key};
 ghost use Rattle.range_handles.specs.Held.{HoldsSet, set_items};
 ghost use Rattle.range_handles.specs.Lists.{KeyRanges};
+ghost use Rattle.btree_range_map_c.specs.Statuses.{IsAnswer};
 
 use range_ffi::bounds::Bounds;
 use range_ffi::status::{CLOSED, DONE, NO_MEMORY, OTHER_KIND};
@@ -37,10 +38,7 @@ pub extern "C" fn brm_set_u64_read(
     ensures behind { result ≡ DONE → drop count.new entries.new ≡ drop count.new entries.old }
     ensures unwritten { result ≢ DONE
         → (entries.new ≡ entries.old) × (count.new ≡ count.old) }
-    ensures answer { HoldsSet handle.old.seal.held → result ≡ DONE }
-    ensures closed { handle.old.is_open ≡ false → result ≡ CLOSED }
-    ensures other { handle.old.is_open ≡ true → (¬ HoldsSet handle.old.seal.held)
-        → result ≡ OTHER_KIND }
+    ensures answer { IsAnswer HoldsSet handle.old result (DONE ∷ []) }
 {
     if !handle.is_open {
         return CLOSED;
@@ -72,10 +70,7 @@ pub extern "C" fn brm_set_u64_read_back(
     ensures behind { result ≡ DONE → drop count.new entries.new ≡ drop count.new entries.old }
     ensures unwritten { result ≢ DONE
         → (entries.new ≡ entries.old) × (count.new ≡ count.old) }
-    ensures answer { HoldsSet handle.old.seal.held → result ≡ DONE }
-    ensures closed { handle.old.is_open ≡ false → result ≡ CLOSED }
-    ensures other { handle.old.is_open ≡ true → (¬ HoldsSet handle.old.seal.held)
-        → result ≡ OTHER_KIND }
+    ensures answer { IsAnswer HoldsSet handle.old result (DONE ∷ []) }
 {
     if !handle.is_open {
         return CLOSED;
@@ -110,10 +105,7 @@ pub extern "C" fn brm_set_u64_overlapping(
     ensures behind { result ≡ DONE → drop count.new entries.new ≡ drop count.new entries.old }
     ensures unwritten { result ≢ DONE
         → (entries.new ≡ entries.old) × (count.new ≡ count.old) }
-    ensures answer { HoldsSet handle.old.seal.held → result ≡ DONE }
-    ensures closed { handle.old.is_open ≡ false → result ≡ CLOSED }
-    ensures other { handle.old.is_open ≡ true → (¬ HoldsSet handle.old.seal.held)
-        → result ≡ OTHER_KIND }
+    ensures answer { IsAnswer HoldsSet handle.old result (DONE ∷ []) }
 {
     if !handle.is_open {
         return CLOSED;
@@ -146,10 +138,7 @@ pub extern "C" fn brm_set_u64_gaps(
     ensures behind { result ≡ DONE → drop count.new ranges.new ≡ drop count.new ranges.old }
     ensures unwritten { result ≢ DONE
         → (ranges.new ≡ ranges.old) × (count.new ≡ count.old) }
-    ensures answer { HoldsSet handle.old.seal.held → result ≡ DONE }
-    ensures closed { handle.old.is_open ≡ false → result ≡ CLOSED }
-    ensures other { handle.old.is_open ≡ true → (¬ HoldsSet handle.old.seal.held)
-        → result ≡ OTHER_KIND }
+    ensures answer { IsAnswer HoldsSet handle.old result (DONE ∷ []) }
 {
     if !handle.is_open {
         return CLOSED;
@@ -178,10 +167,7 @@ pub extern "C" fn brm_set_u64_insert_many(
     ensures some { result ≡ NO_MEMORY → count.new < length ranges.now }
     ensures refused { (¬ HoldsSet handle.old.seal.held)
         → (handle.new.seal.held ≡ handle.old.seal.held) × (count.new ≡ count.old) }
-    ensures answer { HoldsSet handle.old.seal.held → (result ≡ DONE) ⊎ (result ≡ NO_MEMORY) }
-    ensures closed { handle.old.is_open ≡ false → result ≡ CLOSED }
-    ensures other { handle.old.is_open ≡ true → (¬ HoldsSet handle.old.seal.held)
-        → result ≡ OTHER_KIND }
+    ensures answer { IsAnswer HoldsSet handle.old result (DONE ∷ NO_MEMORY ∷ []) }
 {
     if !handle.is_open {
         return CLOSED;

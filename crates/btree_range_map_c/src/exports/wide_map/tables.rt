@@ -1,10 +1,11 @@
 //! The calls on maps of keys of 128 bits as tables of addresses.
-ghost use Rattle.std.specs.Prelude.{◌≡◌, ◌≢◌, ◌<◌, ◌⊎◌, List, ℕ, length, drop, map, take, true, false};
+ghost use Rattle.std.specs.Prelude.{◌≡◌, ◌≢◌, ◌<◌, ◌⊎◌, List, ℕ, length, drop, map, take, true, false, ◌∷◌, []};
 ghost use Rattle.address_keys.specs.declared.ipv6.Ipv6.{Ipv6};
 ghost use Rattle.address_tables.specs.declared.entries.Entry.{Entry};
 ghost use Rattle.range_handles.specs.Held.{HoldsWideMap, wide_items};
 ghost use Rattle.table_handles.specs.Prefixes.{parts, told};
 ghost use Rattle.table_handles.specs.Tables.{HasLongPrefix, IsMapOf, IsShortestTable};
+ghost use Rattle.btree_range_map_c.specs.Statuses.{IsAnswer};
 
 use range_ffi::status::{CLOSED, DONE, NO_MEMORY, NO_ROOM, OPEN, OTHER_KIND};
 use range_handles::collection::Collection;
@@ -36,11 +37,7 @@ pub extern "C" fn brm_map_u128_shortest(
     ensures behind { drop count.new prefixes.new ≡ drop count.new prefixes.old }
     ensures unwritten { result ≢ DONE → prefixes.new ≡ prefixes.old }
     ensures untold { result ≢ DONE → result ≢ NO_ROOM → count.new ≡ count.old }
-    ensures answer { HoldsWideMap handle.old.seal.held
-        → (result ≡ DONE) ⊎ ((result ≡ NO_ROOM) ⊎ (result ≡ NO_MEMORY)) }
-    ensures closed { handle.old.is_open ≡ false → result ≡ CLOSED }
-    ensures other { handle.old.is_open ≡ true → (¬ HoldsWideMap handle.old.seal.held)
-        → result ≡ OTHER_KIND }
+    ensures answer { IsAnswer HoldsWideMap handle.old result (DONE ∷ NO_ROOM ∷ NO_MEMORY ∷ []) }
 {
     if !handle.is_open {
         return CLOSED;

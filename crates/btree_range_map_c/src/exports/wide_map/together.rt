@@ -1,11 +1,12 @@
 //! The calls on two maps of keys of 128 bits to `u64` values.
-ghost use Rattle.std.specs.Prelude.{map, ◌≡◌, ◌≢◌, ◌⊎◌, ◌↔◌, [], ◌++◌, true, false, nat_eq};
+ghost use Rattle.std.specs.Prelude.{map, ◌≡◌, ◌≢◌, ◌↔◌, [], ◌++◌, nat_eq, ◌∷◌};
 ghost use Rattle.btree_range_map.specs.Appending.{LieBefore};
 ghost use Rattle.btree_range_map.specs.Bindings.{BindAlike};
 ghost use Rattle.address_keys.specs.Addresses.{ipv6_order};
 ghost use Rattle.btree_range_map.specs.Splitting.{IsSplitAt};
 ghost use Rattle.range_ffi.specs.Wide.{wide_key};
 ghost use Rattle.range_handles.specs.Held.{HoldsWideMap, wide_items};
+ghost use Rattle.btree_range_map_c.specs.Statuses.{Both, IsAnswerOfTwo};
 
 use range_ffi::status::{CLOSED, DONE, NO_MEMORY, OTHER_KIND, OUT_OF_ORDER};
 use range_ffi::wide::WideKey;
@@ -29,13 +30,8 @@ pub extern "C" fn brm_raw_map_u128_split_off(
         → HoldsWideMap handle.new.seal.held × HoldsWideMap other.new.seal.held }
     ensures refused { result ≢ DONE → (handle.new.seal.held ≡ handle.old.seal.held)
         × (other.new.seal.held ≡ other.old.seal.held) }
-    ensures answer { HoldsWideMap handle.old.seal.held → HoldsWideMap other.old.seal.held
-        → (result ≡ DONE) ⊎ (result ≡ NO_MEMORY) }
-    ensures closed { (handle.old.is_open ≡ false) ⊎ (other.old.is_open ≡ false)
-        → result ≡ CLOSED }
-    ensures other { handle.old.is_open ≡ true → other.old.is_open ≡ true
-        → (¬ HoldsWideMap handle.old.seal.held) ⊎ (¬ HoldsWideMap other.old.seal.held)
-        → result ≡ OTHER_KIND }
+    ensures answer { IsAnswerOfTwo (Both HoldsWideMap) handle.old other.old result
+        (DONE ∷ NO_MEMORY ∷ []) }
 {
     if !handle.is_open || !other.is_open {
         return CLOSED;
@@ -63,13 +59,8 @@ pub extern "C" fn brm_raw_map_u128_append(handle: &mut Handle, other: &mut Handl
         (wide_items other.old.seal.held)) }
     ensures refused { result ≢ DONE → (handle.new.seal.held ≡ handle.old.seal.held)
         × (other.new.seal.held ≡ other.old.seal.held) }
-    ensures answer { HoldsWideMap handle.old.seal.held → HoldsWideMap other.old.seal.held
-        → (result ≡ DONE) ⊎ ((result ≡ NO_MEMORY) ⊎ (result ≡ OUT_OF_ORDER)) }
-    ensures closed { (handle.old.is_open ≡ false) ⊎ (other.old.is_open ≡ false)
-        → result ≡ CLOSED }
-    ensures other { handle.old.is_open ≡ true → other.old.is_open ≡ true
-        → (¬ HoldsWideMap handle.old.seal.held) ⊎ (¬ HoldsWideMap other.old.seal.held)
-        → result ≡ OTHER_KIND }
+    ensures answer { IsAnswerOfTwo (Both HoldsWideMap) handle.old other.old result
+        (DONE ∷ NO_MEMORY ∷ OUT_OF_ORDER ∷ []) }
 {
     if !handle.is_open || !other.is_open {
         return CLOSED;

@@ -1,5 +1,5 @@
 //! The calls on sets of keys of 128 bits that write to arrays, or read from them.
-ghost use Rattle.std.specs.Prelude.{◌<◌, ◌≤◌, map, take, drop, reverse, length, ◌≡◌, ◌≢◌, ◌⊎◌, [], ◌++◌, true, false, List, ℕ};
+ghost use Rattle.std.specs.Prelude.{◌<◌, ◌≤◌, map, take, drop, reverse, length, ◌≡◌, ◌≢◌, [], ◌++◌, List, ℕ, ◌∷◌};
 ghost use Rattle.btree_range_map.specs.AnyRange.{AnyRange};
 ghost use Rattle.btree_range_map.specs.KeySets.{HoldsAllAlso};
 ghost use Rattle.address_keys.specs.Addresses.{ipv6_order};
@@ -11,6 +11,7 @@ ghost use Rattle.range_ffi.specs.Flags.{from_key, upto_key};
 ghost use Rattle.range_ffi.specs.Wide.{wide_bounds_item, wide_key, wide_range_of};
 ghost use Rattle.range_handles.specs.Held.{HoldsWideSet, wide_set_items};
 ghost use Rattle.range_handles.specs.Lists.{WideKeyRanges};
+ghost use Rattle.btree_range_map_c.specs.Statuses.{IsAnswer};
 
 use range_ffi::status::{CLOSED, DONE, NO_MEMORY, OTHER_KIND};
 use range_ffi::wide::{WideBounds, WideKey};
@@ -40,10 +41,7 @@ pub extern "C" fn brm_set_u128_read(
     ensures behind { result ≡ DONE → drop count.new entries.new ≡ drop count.new entries.old }
     ensures unwritten { result ≢ DONE
         → (entries.new ≡ entries.old) × (count.new ≡ count.old) }
-    ensures answer { HoldsWideSet handle.old.seal.held → result ≡ DONE }
-    ensures closed { handle.old.is_open ≡ false → result ≡ CLOSED }
-    ensures other { handle.old.is_open ≡ true → (¬ HoldsWideSet handle.old.seal.held)
-        → result ≡ OTHER_KIND }
+    ensures answer { IsAnswer HoldsWideSet handle.old result (DONE ∷ []) }
 {
     if !handle.is_open {
         return CLOSED;
@@ -76,10 +74,7 @@ pub extern "C" fn brm_set_u128_read_back(
     ensures behind { result ≡ DONE → drop count.new entries.new ≡ drop count.new entries.old }
     ensures unwritten { result ≢ DONE
         → (entries.new ≡ entries.old) × (count.new ≡ count.old) }
-    ensures answer { HoldsWideSet handle.old.seal.held → result ≡ DONE }
-    ensures closed { handle.old.is_open ≡ false → result ≡ CLOSED }
-    ensures other { handle.old.is_open ≡ true → (¬ HoldsWideSet handle.old.seal.held)
-        → result ≡ OTHER_KIND }
+    ensures answer { IsAnswer HoldsWideSet handle.old result (DONE ∷ []) }
 {
     if !handle.is_open {
         return CLOSED;
@@ -114,10 +109,7 @@ pub extern "C" fn brm_set_u128_overlapping(
     ensures behind { result ≡ DONE → drop count.new entries.new ≡ drop count.new entries.old }
     ensures unwritten { result ≢ DONE
         → (entries.new ≡ entries.old) × (count.new ≡ count.old) }
-    ensures answer { HoldsWideSet handle.old.seal.held → result ≡ DONE }
-    ensures closed { handle.old.is_open ≡ false → result ≡ CLOSED }
-    ensures other { handle.old.is_open ≡ true → (¬ HoldsWideSet handle.old.seal.held)
-        → result ≡ OTHER_KIND }
+    ensures answer { IsAnswer HoldsWideSet handle.old result (DONE ∷ []) }
 {
     if !handle.is_open {
         return CLOSED;
@@ -155,10 +147,7 @@ pub extern "C" fn brm_set_u128_gaps(
     ensures behind { result ≡ DONE → drop count.new ranges.new ≡ drop count.new ranges.old }
     ensures unwritten { result ≢ DONE
         → (ranges.new ≡ ranges.old) × (count.new ≡ count.old) }
-    ensures answer { HoldsWideSet handle.old.seal.held → result ≡ DONE }
-    ensures closed { handle.old.is_open ≡ false → result ≡ CLOSED }
-    ensures other { handle.old.is_open ≡ true → (¬ HoldsWideSet handle.old.seal.held)
-        → result ≡ OTHER_KIND }
+    ensures answer { IsAnswer HoldsWideSet handle.old result (DONE ∷ []) }
 {
     if !handle.is_open {
         return CLOSED;
@@ -187,10 +176,7 @@ pub extern "C" fn brm_set_u128_insert_many(
     ensures some { result ≡ NO_MEMORY → count.new < length ranges.now }
     ensures refused { (¬ HoldsWideSet handle.old.seal.held)
         → (handle.new.seal.held ≡ handle.old.seal.held) × (count.new ≡ count.old) }
-    ensures answer { HoldsWideSet handle.old.seal.held → (result ≡ DONE) ⊎ (result ≡ NO_MEMORY) }
-    ensures closed { handle.old.is_open ≡ false → result ≡ CLOSED }
-    ensures other { handle.old.is_open ≡ true → (¬ HoldsWideSet handle.old.seal.held)
-        → result ≡ OTHER_KIND }
+    ensures answer { IsAnswer HoldsWideSet handle.old result (DONE ∷ NO_MEMORY ∷ []) }
 {
     if !handle.is_open {
         return CLOSED;
