@@ -241,8 +241,8 @@ pub fn gather_addresses<R: LineRead>(
 /// The addresses of a list, which is read to its end, and how many lines are left out.
 ///
 /// A list whose first byte that is no white space is `{` is JSON, as
-/// [`list_to_text`](crate::list_to_text) writes it, and is held in memory. So are blank lines at
-/// the start of any list. Of any other the lines are read as by [`read_list`](crate::read_list).
+/// [`list_to_text`](crate::list_to_text) writes it, and is held in memory. Blank lines at the start
+/// of any list are held too. Of any other the lines are read as by [`read_list`](crate::read_list).
 pub fn read_addresses<R: LineRead>(
     alloc: Global,
     input: &mut R,

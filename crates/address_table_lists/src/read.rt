@@ -235,8 +235,7 @@ fn read_row<R: LineRead>(
 /// Adds what the lines of a table say, which is read to its end. Returns how many bad lines were
 /// left out.
 ///
-/// A line that is blank or a comment is left alone, and so is one whose first field is the name of
-/// a column. Another bad line says nothing that is known: it is left out, or ends the reading.
+/// A line is left alone that is blank, a comment, or one whose first field is the name of a column. Another bad line says nothing that is known: it is left out, or ends the reading.
 /// After an error some rows are added. `Unread` is answered where a read of the input failed, and
 /// nowhere else. One buffer holds a line, and each value that is new is copied.
 pub fn read_rows<R: LineRead>(
