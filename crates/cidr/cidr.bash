@@ -6,8 +6,8 @@ _cidr() {
     return
   fi
   case ${COMP_WORDS[1]} in
-    merge | common | invert | diff) options="$options --v4 --v6 --ranges --single --json --prefix --suffix --ipset --nft" ;;
-    except) options="$options --v4 --v6 --ranges --single --json --prefix --suffix --ipset --nft --without" ;;
+    merge | common | invert | diff) options="$options --v4 --v6 --ranges --single --json --prefix --suffix --ipset --nft --max-prefixes" ;;
+    except) options="$options --v4 --v6 --ranges --single --json --prefix --suffix --ipset --nft --max-prefixes --without" ;;
     split) options="$options --v4 --v6 --at --prefix --suffix" ;;
     count) options="$options --v4 --v6" ;;
     has) options="$options --quiet" ;;

@@ -367,24 +367,6 @@ other_answer reading task inputs before now list other asked files known =
     let (lists, said, counted, all) = asked files known in
     (lists, said, counted, same_answer task list lists other all)
 
--- what is printed is what is kept of the answer
-pub answer_printed : {X : Type 0} (reading : Reading)
-    (Answer : List (Addresses × ℕ) → Family → ℕ → Type 0) (form : Form)
-    (only : Option Family) (inputs all : List (Option (List ℕ))) (numbers later : List ℕ) (list : Addresses)
-    (before after : Option (List ℕ)) (result : Result X Stop) → inputs ≡ all
-    → AreMade reading inputs numbers later (λ lists. HasJust list (Answer lists))
-    → OnOk result (Writes before after (IsShown form only list))
-    → OnOk result ((files : List (List ℕ)) → AreKnown all files → (lists : List (Addresses × ℕ))
-    × (list : Addresses) × AreLists reading files lists × (later ≡ numbers ++ left_out_of lists)
-    × HasJust list (Answer lists) × Writes before after (IsShown form only list))
-answer_printed reading Answer form only inputs all numbers later list before after (Ok done) same made
-    printed = λ files known.
-    let (lists, said, counted, answer) =
-    made files (subst (λ one. AreKnown one files) (sym same) known) in
-    (lists, list, said, counted, answer, printed)
-answer_printed reading Answer form only inputs all numbers later list before after (Err stop) same made
-    printed = tt
-
 -- printing fails where memory does not suffice or nothing can be written
 abbrev pub IsUnprinted : Stop → Type 0
 IsUnprinted stop = (stop ≡ Memory) ⊎ (stop ≡ Unwritable)

@@ -4,4 +4,5 @@ mod Compared
 mod Firewalls
 mod Halted
 mod Kept
+mod Limits
 mod LookedUp

@@ -8,7 +8,8 @@
 //!   `specs/{Commands,Shown}.antt`, `proofs/{Commands,Kept}.antt`; of `compare`,
 //!   `src/compare.rt`, `specs/Relations.antt`, `proofs/Compared.antt`; of `has`, `src/lookup.rt`,
 //!   `proofs/LookedUp.antt`; of `has` over lines and of `grep`, `src/lines.rt`, `specs/Lines.antt`
-//! - files of firewalls: `src/firewall.rt`, `specs/Firewalls.antt`
+//! - files of firewalls: `src/firewall.rt`, `specs/Firewalls.antt`; lists that have few prefixes:
+//!   `src/limit.rt`, `specs/Limits.antt`
 //! - the commands over tables, which the crate `address_table_commands` has: `src/table.rt`
 //! - what is written, and why that failed: `src/output.rt`
 #![tactic(auto)]
@@ -16,6 +17,7 @@
 mod compare;
 mod firewall;
 mod inputs;
+mod limit;
 mod lines;
 mod lookup;
 mod output;
@@ -25,6 +27,7 @@ mod table;
 
 use crate::compare::compare;
 use crate::inputs::{Input, ToldInput};
+use crate::limit::Added;
 use crate::lines::{look_up_lines, search_text};
 use crate::lookup::look_up;
 use crate::output::Noted;
@@ -74,6 +77,17 @@ fn reading_of(request: &Request<'_>) -> Reading {
     }
 }
 
+/// Says on standard error how many addresses of each family are printed in addition, where there
+/// are any.
+fn tell_added(rt: &HostRuntime, added: Added) -> io::Result<()> {
+    for (family, count) in [("IPv4", added.v4), ("IPv6", added.v6)] {
+        if count > 0 {
+            eprintln!(rt; "{family}: {count} added addresses")?;
+        }
+    }
+    Ok(())
+}
+
 /// Puts the lists of these names together, and prints what the command makes of them.
 fn combine_files<W: Write>(
     rt: &HostRuntime,
@@ -85,8 +99,13 @@ fn combine_files<W: Write>(
     out: &mut W,
 ) -> anyhow::Result<Result<bool, Stop>> {
     let sources = sources(rt, files)?;
-    let served = serve(rt.alloc(), command, sources, reading, output, left_out, out);
-    Ok(served.map(|()| true))
+    match serve(rt.alloc(), command, sources, reading, output, left_out, out) {
+        Ok(added) => {
+            tell_added(rt, added)?;
+            Ok(Ok(true))
+        }
+        Err(stop) => Ok(Err(stop)),
+    }
 }
 
 fn compare_files<W: Write>(

@@ -11,11 +11,13 @@ ghost use Rattle.address_text.specs.declared.family.Family.TheVariants.{V4, V6};
 ghost use Rattle.line_program.specs.Listing.{Writes};
 ghost use Rattle.cidr.specs.Commands.{AreKnown, AreLists, Asked, Combined, IsAnswer, IsList, IsStop, Put, left_out_of};
 ghost use Rattle.cidr.specs.Firewalls.{IsFirewallFile, IsSetText};
+ghost use Rattle.cidr.specs.Limits.{IsShownWithin};
 ghost use Rattle.cidr.specs.Shown.{AreShown, IsShown, Kept};
 ghost use Rattle.cidr.specs.declared.firewall.Firewall.{Firewall};
 ghost use Rattle.cidr.specs.declared.serve.Stop.TheVariants.{Bad, Memory, Unwritable};
 
 use crate::firewall::{Firewall, SetText, set_text, write_sets};
+use crate::limit::{Added, Limited, limit_list};
 use address_lists::{
     Addresses, BadLines, ListError, empty_set, list_to_text, read_addresses, write_counts,
     write_prefixes_around, write_ranges, write_singles, write_split_prefixes,
@@ -361,8 +363,31 @@ pub fn print<W: Write>(
     }
 }
 
+/// Prints a list in a form, or one in its place that has more addresses, where at most so many
+/// prefixes are printed. Returns how many more; `out` is flushed.
+fn print_within<W: Write>(
+    alloc: Global,
+    output: &Output<'_>,
+    list: Addresses,
+    out: &mut W,
+) -> Result<Added, Stop>
+    ensures printed { IfOk result (λ added. Writes (W.contents out.old) (W.contents out.new)
+        (IsShownWithin output.now list added)) }
+    ensures failed { IfErr result (λ stop. (stop ≡ Memory) ⊎ (stop ≡ Unwritable)) }
+    ensures silent { result ≢ Err Unwritable → OnErr result (out.new ≡ out.old) }
+{
+    match limit_list(alloc, list, output.most) {
+        Ok(Limited { list, added }) => {
+            print(alloc, output, &list, out)?;
+            Ok(added)
+        }
+        Err(_) => Err(Stop::Memory),
+    }
+}
+
 /// Reads the sources, and prints what the command says of their addresses, of one family or both.
 ///
+/// Where at most so many prefixes are printed, returns how many addresses were added for that.
 /// Prefixes are as few as can be, ascending, those of IPv4 first, each on a line; `out` is
 /// flushed. Nothing is printed where a source cannot be read or an allocation fails. One list is
 /// held beside the answer. Adds to `left_out` how many bad lines are left out of each source.
@@ -374,14 +399,14 @@ pub fn serve<R: LineRead + Drop, W: Write>(
     output: &Output<'_>,
     left_out: &mut Vec<u64>,
     out: &mut W,
-) -> Result<(), Stop>
-    ensures printed { OnOk result ((files : List (List ℕ))
+) -> Result<Added, Stop>
+    ensures printed { IfOk result (λ added. (files : List (List ℕ))
         → AreKnown (map (λ s. R.remaining s.reader) sources.items) files
         → (lists : List (Addresses × ℕ)) × (list : Addresses) × AreLists reading files lists
         × (left_out.new.items ≡ left_out.old.items ++ left_out_of lists)
         × HasJust list (Kept output.now.only (IsAnswer command lists))
         × Writes (W.contents out.old) (W.contents out.new)
-        (IsShown output.now.form output.now.only list)) }
+        (IsShownWithin output.now list added)) }
     ensures silent { result ≢ Err Unwritable → OnErr result (out.new ≡ out.old) }
     ensures bad { IfErr result (λ stop. (files : List (List ℕ))
         → AreKnown (map (λ s. R.remaining s.reader) sources.items) files
@@ -390,5 +415,5 @@ pub fn serve<R: LineRead + Drop, W: Write>(
         → stop ≡ Bad name Unread → R.fails) }
 {
     let list = answered(alloc, command, sources.into_iter(), reading, left_out)?;
-    print(alloc, output, &kept(alloc, list, output.only), out)
+    print_within(alloc, output, kept(alloc, list, output.only), out)
 }

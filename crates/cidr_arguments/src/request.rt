@@ -57,6 +57,8 @@ pub enum Form<'a> {
 pub struct Output<'a> {
     /// The family whose addresses alone are printed; `None` for both.
     pub only: Option<Family>,
+    /// How many prefixes of each family are printed at most, from 1 on; `None` for any number.
+    pub most: Option<u32>,
     pub form: Form<'a>,
 }
 
@@ -188,6 +190,12 @@ fn form_of<'a>(alloc: Global, name: &str, found: &ArgMatches<'a>) -> Result<Form
     }
 }
 
+/// How many prefixes of each family are printed at most.
+fn limit_of(found: &ArgMatches<'_>) -> Option<u32> {
+    // The word is a number, since others are refused.
+    found.get_str("max-prefixes")?.parse().ok()
+}
+
 /// What is printed of a list.
 pub(crate) fn output_of<'a>(
     alloc: Global,
@@ -196,6 +204,7 @@ pub(crate) fn output_of<'a>(
 ) -> Result<Output<'a>, AllocError> {
     Ok(Output {
         only: family_of(found),
+        most: limit_of(found),
         form: form_of(alloc, name, found)?,
     })
 }

@@ -22,6 +22,7 @@ Examples:
   cidr split --at 16,24,32 --v4 blocked.txt
   cidr merge blocked.txt --ipset blocked | ipset restore
   cidr merge blocked.txt --nft filter blocked | nft -f -
+  cidr merge blocked.txt --max-prefixes 1000
   cidr has blocked.txt 10.1.2.3 2001:db8::1
   cidr has blocked.txt - < addresses.txt
   cidr grep blocked.txt access.log";
@@ -49,6 +50,8 @@ pub(crate) enum Kind {
     NeededList,
     /// An option with a text, which the help calls so.
     Word(&'static str),
+    /// An option with a number from 1 on. Of the options of a group at most one may be given.
+    Number(&'static [&'static str]),
 }
 
 /// The name of what a command takes, its kind, and its help.
@@ -87,19 +90,19 @@ pub(crate) const V6: Taken = ("v6", Kind::Flag(&["family"]), "Print IPv6 alone")
 
 pub(crate) const RANGES: Taken = (
     "ranges",
-    Kind::Flag(&["form"]),
+    Kind::Flag(&["form", "limit"]),
     "Print ranges in place of prefixes",
 );
 
 pub(crate) const SINGLE: Taken = (
     "single",
-    Kind::Flag(&["form"]),
+    Kind::Flag(&["form", "limit"]),
     "Print each address on a line",
 );
 
 pub(crate) const JSON: Taken = (
     "json",
-    Kind::Flag(&["form", "before", "behind"]),
+    Kind::Flag(&["form", "before", "behind", "limit"]),
     "Print a JSON object: the set of each family, as an array of ranges",
 );
 
@@ -125,6 +128,12 @@ const NFT: Taken = (
     "nft",
     Kind::Names(&["TABLE", "NAME"], &["form", "before", "behind"]),
     "Print what nft -f reads: the sets NAME_v4 and NAME_v6 of a table",
+);
+
+const MAX_PREFIXES: Taken = (
+    "max-prefixes",
+    Kind::Number(&["limit"]),
+    "Print at most N prefixes of each family, with the fewest addresses more that this takes",
 );
 
 const WITHOUT: Taken = (
@@ -206,7 +215,20 @@ const EXCEPT: Usage = Usage {
     name: "except",
     about: "Print those of a list that are in none of the lists after --without",
     takes: &[
-        LISTS, STRICT, SKIP_BAD, V4, V6, RANGES, SINGLE, JSON, PREFIX, SUFFIX, IPSET, NFT, WITHOUT,
+        LISTS,
+        STRICT,
+        SKIP_BAD,
+        V4,
+        V6,
+        RANGES,
+        SINGLE,
+        JSON,
+        PREFIX,
+        SUFFIX,
+        IPSET,
+        NFT,
+        MAX_PREFIXES,
+        WITHOUT,
         FROM,
     ],
 };
@@ -216,21 +238,57 @@ static COMMANDS: [Usage; 10] = [
         name: "merge",
         about: "Print the addresses that are in any list",
         takes: &[
-            LISTS, STRICT, SKIP_BAD, V4, V6, RANGES, SINGLE, JSON, PREFIX, SUFFIX, IPSET, NFT,
+            LISTS,
+            STRICT,
+            SKIP_BAD,
+            V4,
+            V6,
+            RANGES,
+            SINGLE,
+            JSON,
+            PREFIX,
+            SUFFIX,
+            IPSET,
+            NFT,
+            MAX_PREFIXES,
         ],
     },
     Usage {
         name: "common",
         about: "Print those that are in all lists",
         takes: &[
-            LISTS, STRICT, SKIP_BAD, V4, V6, RANGES, SINGLE, JSON, PREFIX, SUFFIX, IPSET, NFT,
+            LISTS,
+            STRICT,
+            SKIP_BAD,
+            V4,
+            V6,
+            RANGES,
+            SINGLE,
+            JSON,
+            PREFIX,
+            SUFFIX,
+            IPSET,
+            NFT,
+            MAX_PREFIXES,
         ],
     },
     Usage {
         name: "invert",
         about: "Print those of both families that are in no list",
         takes: &[
-            LISTS, STRICT, SKIP_BAD, V4, V6, RANGES, SINGLE, JSON, PREFIX, SUFFIX, IPSET, NFT,
+            LISTS,
+            STRICT,
+            SKIP_BAD,
+            V4,
+            V6,
+            RANGES,
+            SINGLE,
+            JSON,
+            PREFIX,
+            SUFFIX,
+            IPSET,
+            NFT,
+            MAX_PREFIXES,
         ],
     },
     EXCEPT,
@@ -251,6 +309,7 @@ static COMMANDS: [Usage; 10] = [
             SUFFIX,
             IPSET,
             NFT,
+            MAX_PREFIXES,
         ],
     },
     Usage {
@@ -289,6 +348,12 @@ fn lengths<'a>(arg: Arg<'a>) -> Arg<'a> {
         .value_parser(value_parser!(u8).range(0..=128))
 }
 
+fn number<'a>(arg: Arg<'a>, groups: &'a [&'a str]) -> Result<Arg<'a>, AllocError> {
+    arg.value_name("N")
+        .value_parser(value_parser!(u32).range(1..=4294967295))
+        .groups(groups)
+}
+
 fn argument<'a>((name, kind, help): Taken, alloc: Global) -> Result<Arg<'a>, AllocError> {
     let arg = Arg::new(alloc, name).help(help);
     match kind {
@@ -305,6 +370,7 @@ fn argument<'a>((name, kind, help): Taken, alloc: Global) -> Result<Arg<'a>, All
         }
         Kind::NeededList => Ok(arg.long(name).required(true).value_name("FILE")),
         Kind::Word(called) => Ok(arg.long(name).value_name(called)),
+        Kind::Number(groups) => number(arg.long(name), groups),
     }
 }
 
