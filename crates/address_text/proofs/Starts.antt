@@ -1,9 +1,9 @@
 -- Lines that begin with more bytes than an address has.
 use Rattle.std.proofs.Common.{◌≡◌, ℕ, ◌+◌, ◌-◌, ◌*◌, ◌≤◌, ◌<◌, Bool, true, false, List, [], ◌∷◌, ◌++◌, length, take, get_or, reverse, cond, eqb, ap, inl, inr, refl, sym, subst, ◌∙◌, length-append, arith}
-use Rattle.std.proofs.Math.Seq.{take-append-add, take-length}
+use Rattle.std.proofs.Math.Seq.{take-append-add, take-length, take-nil}
 use Rattle.std.proofs.lemmas.Bool.{cases_lt, false≢true}
 use Rattle.std.proofs.lemmas.Fmt.{length-decimal-le}
-use Rattle.std.proofs.lemmas.List.{length-reverse, reverse-append, take-append-le}
+use Rattle.std.proofs.lemmas.List.{append-nil, length-reverse, reverse-append, take-append-le}
 use Rattle.std.proofs.lemmas.List.Folds.{prefix_len-append}
 use Rattle.std.proofs.lemmas.List.Sums.{AllPass-from_list_all, prefix_len-le-length, suffix_len-take_no}
 use Rattle.std.proofs.lemmas.Str.{is_utf8-from_IsUtf8, IsUtf8-from_is_utf8}
@@ -14,10 +14,11 @@ use Rattle.std.specs.Prelude.{codes, decimal}
 use Rattle.std.specs.Str.{is_utf8}
 use Rattle.address_text.specs.Faults.{IsAddress, IsExpected, IsWrong, IsWrongPrefix, blank_count}
 use Rattle.address_text.specs.Lines.{IsSpan, Says, content, from_word, is_dash, is_hash, is_slash, trimmed}
-use Rattle.address_text.specs.Starts.{IsBadStart, is_plain}
+use Rattle.address_text.specs.Starts.{HasOneFault, IsBadStart, is_plain}
 use Rattle.address_text.specs.Texts.{IsAddressText}
 use Rattle.address_text.specs.declared.family.Family.{Family}
 use Rattle.address_text.specs.declared.family.Family.TheVariants.{V4, V6}
+use Rattle.address_text.specs.declared.fault.Expected.{Expected}
 use Rattle.address_text.specs.declared.fault.Expected.TheVariants.{Address}
 use Rattle.address_text.specs.declared.line.Line.{Line}
 use Rattle.address_text.specs.declared.line.Line.TheVariants.{Nothing, Addresses}
@@ -259,3 +260,38 @@ module _ (start : List ℕ) (long : 80 ≤ length start) (plain : list_all is_pl
               (0, omega (arith, blanks), expected (content (start ++ rest)) others is);
           found = ap (take 40) is ∙ take-append-le 40 start others (omega (arith, long));
         }
+
+    content_same : content start ≡ start
+    content_same =
+        let none : before_first is_hash start ≡ start =
+        ap (before_first is_hash) (sym (append-nil start))
+        ∙ kept_before is_hash not_hash start [] plain ∙ append-nil start in
+        ap trimmed (none ∙ sym (append-nil start))
+        ∙ trimmed_behind start [] plain (omega (arith, long))
+        ∙ ap (λ others. start ++ others)
+        (take-nil (length {A = ℕ} [] - suffix_len is_ascii_whitespace (start ++ [])))
+        ∙ append-nil start
+
+    lacks_byte : (test : ℕ → Bool) → ((x : ℕ) → is_plain x ≡ true → test x ≡ false) → (xs : List ℕ)
+        → list_all is_plain xs ≡ true → position_or_len test xs ≡ length xs
+    lacks_byte test fails [] none = refl
+    lacks_byte test fails (x ∷ xs) all =
+        let first = fails x (plain_first x xs all) in
+        let later = lacks_byte test fails xs (plain_later x xs all) in grind arith
+
+    lone_fault : (place : ℕ) (expected : Expected) → IsExpected start expected place
+        → (place ≡ 0) × (expected ≡ Address)
+    lone_fault place expected (inl (utf8, inl (slash, wrong))) =
+        absurd (omega (arith, slash, lacks_byte is_slash not_slash start plain))
+    lone_fault place expected (inl (utf8, inr (inl (none, dash, wrong)))) =
+        absurd (omega (arith, dash, lacks_byte is_dash not_dash start plain))
+    lone_fault place expected (inl (utf8, inr (inr (none, other, is, at)))) = (at, is)
+    lone_fault place expected (inr (other, is, at)) = (at, is)
+
+    pub one_fault : HasOneFault start
+    one_fault column expected (place, at, is) =
+        let (first, address) =
+        lone_fault place expected (subst (λ text. IsExpected text expected place) content_same is) in
+        let blanks : blank_count start ≡ 0 =
+        ap blank_count (sym (append-nil start)) ∙ no_blanks start [] plain (omega (arith, long)) in
+        (omega (arith, at, first, blanks), address)

@@ -3,6 +3,7 @@ use Rattle.std.specs.Prelude.{◌≡◌, ℕ, ◌||◌, ◌==◌, Bool, not, Lis
 use Rattle.std.specs.Char.{is_ascii_whitespace}
 use Rattle.address_text.specs.Faults.{IsFault}
 use Rattle.address_text.specs.Lines.{Says, content, is_dash, is_hash, is_slash}
+use Rattle.address_text.specs.declared.fault.Expected.{Expected}
 use Rattle.address_text.specs.declared.fault.Expected.TheVariants.{Address}
 use Rattle.address_text.specs.declared.line.Line.{Line}
 
@@ -17,6 +18,11 @@ pub record IsBad (start rest : List ℕ) : Type 0 where
   pub nothing : (strict : Bool) (said : Line) → ¬ Says strict (start ++ rest) said
   pub fault : IsFault (start ++ rest) 1 Address
   pub found : take 40 (content (start ++ rest)) ≡ take 40 start
+
+-- nothing else was expected of the start, and nowhere else
+abbrev pub HasOneFault : List ℕ → Type 0
+HasOneFault start = (column : ℕ) (expected : Expected) → IsFault start column expected
+    → (column ≡ 1) × (expected ≡ Address)
 
 abbrev pub IsBadStart : List ℕ → Type 0
 IsBadStart start = (rest : List ℕ) → IsBad start rest

@@ -2,7 +2,7 @@
 
 ghost use Rattle.std.specs.Prelude.{◌≡◌, ◌≢◌, [], IsTrue, true};
 ghost use Rattle.std.specs.List.{list_all};
-ghost use Rattle.address_text.specs.Starts.{IsBadStart, is_plain};
+ghost use Rattle.address_text.specs.Starts.{HasOneFault, IsBadStart, is_plain};
 
 /// No address has so many bytes.
 pub const START_BYTES: usize = 80;
@@ -26,6 +26,7 @@ fn are_plain(bytes: &[u8]) -> bool
 pub fn is_bad_start(start: &[u8]) -> bool
     ensures some { IsTrue result → start.now ≢ [] }
     ensures plain { IsTrue result → list_all is_plain start.now ≡ true }
+    ensures fault { IsTrue result → HasOneFault start.now }
     ensures bad { IsTrue result → IsBadStart start.now }
 {
     start.len() >= START_BYTES && are_plain(start)
