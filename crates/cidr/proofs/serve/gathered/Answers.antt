@@ -76,3 +76,8 @@ returns-in_err-add_source-clause-bad g c =
     numbers c.loop-source.list c.in_err-add_source.field-0.0
     (subst (IsPut files) steps (c.loop-source.invariant.1 files known))
     c.in_err-add_source.ensures.bad)
+
+pub returns-in_err-add_source-clause-unread : goal.returns-in_err-add_source-clause-unread
+returns-in_err-add_source-clause-unread g c =
+    let error = err_from_is_err_and c.from_residual.result c.from_residual.ensures.1 in
+    rw (error.1, error.2) c.in_err-add_source.ensures.unread
