@@ -12,7 +12,8 @@ use Rattle.address_lists.specs.Files.{AreBlank, IsStart, is_blank, mark}
 use Rattle.address_lists.specs.Files.AreBlank.{NoLine, OneMore}
 use Rattle.address_lists.specs.Lists.{AreGood, IsListed}
 use Rattle.address_lists.specs.Lists.AreGood.{Said}
-use Rattle.address_lists.specs.Reading.{HasFaultFrom, IsBad}
+use Rattle.address_lists.specs.Reading.{HasFaultFrom, IsBad, IsNextShown}
+use Rattle.address_lists.proofs.Shown.{shown_blank}
 use Rattle.address_lists.specs.declared.file.Start.{Start}
 use Rattle.address_lists.specs.declared.read.ListError.{ListError}
 
@@ -107,15 +108,15 @@ blank_none (Some bytes) blanks none =
 
 -- what a call that read a line gave
 abbrev pub IsLineRead : Option (List ℕ) → Option (List ℕ) → List ℕ → Type 0
-IsLineRead left later line = IfSome left (λ rest. (rest ≢ [])
-    × (later ≡ Some (drop_through 10 rest)) × (line ≡ take_through 10 rest))
+IsLineRead left later line = IfSome left (λ rest. IsNextShown rest later line)
 
 one_blank : (bytes rest blanks line next : List ℕ) (count number : ℕ)
     (later : Option (List ℕ)) → AreBlank bytes blanks count rest → number ≡ count + 1
     → IsLineRead (Some rest) later line → mark line ≡ None → next ≡ blanks ++ line
     → IsBlankTo bytes later next (number + 1)
-one_blank bytes rest blanks line next count number later before place (some, later_is, is) blank
+one_blank bytes rest blanks line next count number later before place (some, later_is, shown) blank
     more =
+    let is = shown_blank line (take_through 10 rest) shown blank in
     let kept : blanks ++ take_through 10 rest ≡ next = ap (λ l. blanks ++ l) (sym is) ∙ sym more in (
       drop_through 10 rest,
       count + 1,

@@ -4,17 +4,17 @@ use Rattle.std.specs.Io.BufRead.{drop_through, take_through}
 use Rattle.btree_range_map.specs.Holding.{box_items}
 use Rattle.btree_range_map.specs.KeySets.{HoldsKey}
 use Rattle.address_keys.specs.Addresses.{ipv4_at, ipv4_order, ipv6_at, ipv6_order}
-use Rattle.address_text.specs.Lines.{Says, SaysAddress}
+use Rattle.address_text.specs.Lines.{SaysAddress}
 use Rattle.address_text.specs.declared.family.Family.{Family}
 use Rattle.address_text.specs.declared.family.Family.TheVariants.{V4, V6}
 use Rattle.address_text.specs.declared.line.Line.{Line}
 use Rattle.address_lists.specs.Files.{AreBlank, Content, IsAdded, IsAddedAs, IsContentAs, IsFile, IsFileReason, IsFirstLine, IsReadAs, IsReasonAs, IsSaidIn, IsStart, is_json, mark, opens_object}
 use Rattle.address_lists.specs.Files.Content.{InJson, InLines}
 use Rattle.address_lists.specs.Json.{IsDocument, IsJsonReason}
-use Rattle.address_lists.specs.Lists.{AreAdded, AreGood, Has, HasJust, IsListed, SaysNothingKnown}
+use Rattle.address_lists.specs.Lists.{AreAdded, AreGood, Has, HasJust, IsListed}
 use Rattle.address_lists.specs.Lists.AreGood.{Ended, Other, Said}
 use Rattle.address_lists.specs.Waiting.{HasSoFar}
-use Rattle.address_lists.specs.Reading.{HasFaultFrom, IsBad, IsBadLine, IsTakenIn}
+use Rattle.address_lists.specs.Reading.{HasFaultFrom, IsBad, IsBadLine, IsShown, IsTakenIn}
 use Rattle.address_lists.specs.declared.addresses.Addresses.{Addresses}
 use Rattle.address_lists.specs.declared.file.Start.{Start}
 use Rattle.address_lists.specs.declared.read.BadLines.{BadLines}
@@ -24,6 +24,7 @@ use Rattle.address_lists.specs.declared.read.ListError.TheVariants.{Memory, Unre
 use Rattle.address_lists.specs.declared.spans.Waiting.{Waiting}
 use Rattle.address_lists.proofs.Blanks.{blanks_before, fault_after, fault_behind, good_behind, mark_of_first, mark_of_rest, through_line}
 use Rattle.address_lists.proofs.Reading.{bad_line, other_fault}
+use Rattle.address_lists.proofs.Shown.{shown_bad, shown_mark, shown_nothing, shown_object, shown_says}
 
 has_not : (list : Addresses) → box_items list.v4 ≡ [] → box_items list.v6 ≡ [] → (family : Family)
     (n : ℕ) → ¬ Has list family n
@@ -99,10 +100,11 @@ module _ (strict : Bool) where
       )
 
   told_as : (bytes blanks rest line : List ℕ) (count byte : ℕ) → AreBlank bytes blanks count rest
-      → line ≡ take_through 10 rest → mark line ≡ Some byte → is_json bytes ≡ (byte == 123)
+      → IsShown line (take_through 10 rest) → mark line ≡ Some byte
+      → is_json bytes ≡ (byte == 123)
   told_as bytes blanks rest line count byte before is marked =
       ap opens_object (mark_of_rest bytes blanks rest count before
-      ∙ mark_of_first rest byte (ap mark (sym is) ∙ marked))
+      ∙ mark_of_first rest byte (shown_mark line (take_through 10 rest) is ∙ marked))
 
   whole_text : (bytes blanks rest line text : List ℕ) (count : ℕ)
       → AreBlank bytes blanks count rest → line ≡ take_through 10 rest → text ≡ blanks ++ line
@@ -128,7 +130,8 @@ module _ (strict : Bool) where
       (told_as bytes start.blanks.items rest start.line.items count start.mark before line marked
       ∙ opens) (
         subst (λ t. IsDocument t list)
-            (whole_text bytes start.blanks.items rest start.line.items text count before line is)
+            (whole_text bytes start.blanks.items rest start.line.items text count before
+            (shown_object start.line.items (take_through 10 rest) start.mark line marked opens) is)
             (subst (λ o. IfSome o (λ more. IsDocument (text ++ more) list)) later_is read),
         refl,
       )
@@ -146,7 +149,8 @@ module _ (strict : Bool) where
       (told_as bytes start.blanks.items rest start.line.items count start.mark before line marked
       ∙ opens)
       (subst (λ t. IsJsonReason t error)
-      (whole_text bytes start.blanks.items rest start.line.items text count before line is)
+      (whole_text bytes start.blanks.items rest start.line.items text count before
+      (shown_object start.line.items (take_through 10 rest) start.mark line marked opens) is)
       (subst (λ o. IfSome o (λ more. IsJsonReason (text ++ more) error)) later_is why))
 
   -- what is read of lines, and why they are not
@@ -253,7 +257,8 @@ module _ (strict : Bool) where
         InJson other,
         (
           subst (λ t. IsDocument t other)
-              (whole_text bytes start.blanks.items rest start.line.items text count before line is)
+              (whole_text bytes start.blanks.items rest start.line.items text count before
+              (shown_object start.line.items (take_through 10 rest) start.mark line marked opens) is)
               document,
           refl,
         ),
@@ -319,7 +324,7 @@ module _ (strict : Bool) where
 
   first_taken : (bad_lines : BadLines) (bytes line more : List ℕ)
       (Before Now After : Family → ℕ → Type 0) (left_out others : ℕ) → bytes ≢ []
-      → line ≡ take_through 10 bytes → more ≡ drop_through 10 bytes
+      → IsShown line (take_through 10 bytes) → more ≡ drop_through 10 bytes
       → IsTakenIn strict line Before Now left_out
       → (lines : List Line) × AreGood strict more lines others []
       × AreAdded Now After (λ family n. IsListed family n lines)
@@ -331,7 +336,8 @@ module _ (strict : Bool) where
         InLines (said ∷ lines),
         (
           subst (λ n. AreGood strict bytes (said ∷ lines) n []) same
-              (Said bytes said lines others [] some (subst (λ t. Says strict t said) is says)
+              (Said bytes said lines others [] some
+              (shown_says strict line (take_through 10 bytes) said is says)
               (subst (λ r. AreGood strict r lines others []) rest good)),
           λ refused. omega (arith, zero, all refused),
         ),
@@ -343,7 +349,8 @@ module _ (strict : Bool) where
         InLines lines,
         (
           subst (λ n. AreGood strict bytes lines n []) next
-              (Other bytes lines others [] some (subst (SaysNothingKnown strict) is nothing)
+              (Other bytes lines others [] some
+              (shown_nothing strict line (take_through 10 bytes) is nothing)
               (subst (λ r. AreGood strict r lines others []) rest good)),
           λ refused. omega (arith, one refused, all refused),
         ),
@@ -400,7 +407,8 @@ module _ (strict : Bool) where
         bytes,
         Ended bytes,
         subst (λ k. IsBad strict bytes k error) place
-            (bad_line strict number bytes line number error some is bad),
+            (bad_line strict number bytes (take_through 10 bytes) number error some refl
+            (shown_bad strict line (take_through 10 bytes) number error is bad)),
       )
 
   pub other_from : (number : ℕ) (bytes : List ℕ) (error : ListError)
@@ -409,7 +417,8 @@ module _ (strict : Bool) where
 
   -- one of the others that is bad
   later_bad : (bad_lines : BadLines) (line bytes more : List ℕ) (number left_out : ℕ)
-      (Before Now : Family → ℕ → Type 0) (error : ListError) → bytes ≢ [] → line ≡ take_through 10 bytes
+      (Before Now : Family → ℕ → Type 0) (error : ListError) → bytes ≢ []
+      → IsShown line (take_through 10 bytes)
       → more ≡ drop_through 10 bytes → IsTakenIn strict line Before Now left_out
       → (bad_lines ≡ Refused → left_out ≡ 0)
       → (bad_lines ≡ Skipped → (error ≡ Unread) ⊎ (error ≡ Memory))
@@ -418,7 +427,8 @@ module _ (strict : Bool) where
       bad = other_from number bytes error (skipped refl)
   later_bad Refused line bytes more number left_out Before Now error some is rest
       (inl (said, says, added, zero)) one skipped bad =
-      fault_after strict number bytes said error some (subst (λ t. Says strict t said) is says)
+      fault_after strict number bytes said error some
+      (shown_says strict line (take_through 10 bytes) said is says)
       (subst (λ r. HasFaultFrom strict (number + 1) r error) rest bad)
   later_bad Refused line bytes more number left_out Before Now error some is rest
       (inr (nothing, same, out)) one skipped bad = absurd (omega (arith, one refl, out))

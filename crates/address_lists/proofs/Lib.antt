@@ -9,4 +9,5 @@ mod Reading
 mod Relations
 mod Series
 mod Serving
+mod Shown
 mod Undivided

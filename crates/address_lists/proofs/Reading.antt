@@ -1,14 +1,15 @@
 -- How far a list is read.
-use Rattle.std.proofs.Common.{◌≡◌, ◌≢◌, ℕ, suc, ◌+◌, ◌↔◌, ◌⊎◌, Bool, List, [], ◌∷◌, ◌++◌, length, Option, None, Some, IfSome, inl, inr, refl, sym, subst, ◌∙◌, append_assoc, length-append, arith}
+use Rattle.std.proofs.Common.{◌≡◌, ◌≢◌, ℕ, suc, ◌+◌, ◌↔◌, ◌⊎◌, Bool, List, [], ◌∷◌, ◌++◌, length, Option, None, Some, IfSome, inl, inr, refl, sym, subst, append_assoc, length-append, arith}
 use Rattle.std.proofs.lemmas.List.{append-nil}
 use Rattle.std.specs.Io.BufRead.{drop_through, take_through}
 use Rattle.address_text.specs.Lines.{Says, SaysAddress}
 use Rattle.address_text.specs.declared.family.Family.{Family}
 use Rattle.address_text.specs.declared.line.Line.{Line}
 use Rattle.address_lists.proofs.Lines.{any_append}
+use Rattle.address_lists.proofs.Shown.{shown_bad, shown_says}
 use Rattle.address_lists.specs.Lists.{AreAdded, AreGood, AreSaid, Has, HasJust, IsListed, SaysNothingKnown}
 use Rattle.address_lists.specs.Lists.AreGood.{Ended, Other, Said}
-use Rattle.address_lists.specs.Reading.{HasFaultFrom, IsBad, IsBadLine, IsNext}
+use Rattle.address_lists.specs.Reading.{HasFaultFrom, IsBad, IsBadLine, IsNext, IsNextShown}
 use Rattle.address_lists.specs.declared.addresses.Addresses.{Addresses}
 use Rattle.address_lists.specs.declared.read.BadLines.{BadLines}
 use Rattle.address_lists.specs.declared.read.BadLines.TheVariants.{Refused, Skipped}
@@ -210,12 +211,24 @@ module _ (strict : Bool) (first : ℕ) where
   -- the line that is read says nothing that is known
   pub bad_found : (left later : Option (List ℕ)) (text seen : List ℕ) (number : ℕ)
       (error : ListError) → seen ≡ text
-      → IfSome left (λ bytes. (bytes ≢ []) × (later ≡ Some (drop_through 10 bytes))
-      × (text ≡ take_through 10 bytes))
+      → IfSome left (λ bytes. IsNextShown bytes later text)
       → IsBadLine strict seen number error → IfSome left (λ bytes. IsBad strict bytes number error)
   bad_found None later text seen number error same read bad = tt
-  bad_found (Some bytes) later text seen number error same (some, later_is, is) bad =
-      bad_line bytes seen number error some (same ∙ is) bad
+  bad_found (Some bytes) later text seen number error same (some, later_is, shown) bad =
+      bad_line bytes (take_through 10 bytes) number error some refl
+      (shown_bad strict text (take_through 10 bytes) number error shown
+      (subst (λ t. IsBadLine strict t number error) same bad))
+
+  pub good_found : (left later : Option (List ℕ)) (text seen : List ℕ) (line : Line)
+      → seen ≡ text → IfSome left (λ bytes. IsNextShown bytes later text) → Says strict seen line
+      → IsNext strict left later (λ t. Says strict t line)
+  good_found None later text seen line same read says = tt
+  good_found (Some bytes) later text seen line same (some, later_is, shown) says = (
+    some,
+    later_is,
+    shown_says strict text (take_through 10 bytes) line shown
+        (subst (λ t. Says strict t line) same says),
+  )
 
   -- all lines before a bad one were good
   pub fault_read : (input left : Option (List ℕ)) (number others : ℕ) (Had : Family → ℕ → Type 0)

@@ -5,7 +5,7 @@ use Rattle.address_text.specs.declared.family.Family.{Family}
 use Rattle.address_text.specs.declared.line.Line.{Line}
 use Rattle.address_lists.specs.Json.{IsDocument, IsJsonReason}
 use Rattle.address_lists.specs.Lists.{AreAdded, AreGood, Has, HasJust, IsListed}
-use Rattle.address_lists.specs.Reading.{HasFault}
+use Rattle.address_lists.specs.Reading.{HasFault, IsShown}
 use Rattle.address_lists.specs.declared.addresses.Addresses.{Addresses}
 use Rattle.address_lists.specs.declared.file.Start.{Start}
 use Rattle.address_lists.specs.declared.read.BadLines.{BadLines}
@@ -36,10 +36,10 @@ pub data AreBlank : List ℕ → List ℕ → ℕ → List ℕ → Type 0 where
       → rest ≢ [] → mark (take_through 10 rest) ≡ None
       → AreBlank input (blanks ++ take_through 10 rest) (count + 1) (drop_through 10 rest)
 
--- the line is the first of the bytes, and these are left behind it
+-- the line shows the first of the bytes, and these are left behind it
 abbrev pub IsFirstLine : List ℕ → List ℕ → Option (List ℕ) → Type 0
 IsFirstLine bytes line later =
-    (bytes ≢ []) × (line ≡ take_through 10 bytes) × (later ≡ Some (drop_through 10 bytes))
+    (bytes ≢ []) × IsShown line (take_through 10 bytes) × (later ≡ Some (drop_through 10 bytes))
 
 -- the first line that is not blank, where there is one, and what is left behind it
 abbrev pub IsStart : List ℕ → Option Start → Option (List ℕ) → Type 0

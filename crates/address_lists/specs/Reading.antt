@@ -1,7 +1,9 @@
 -- What is read next, and why a list is not read.
-use Rattle.std.specs.Prelude.{◌≡◌, ◌≢◌, ℕ, ◌+◌, ◌-◌, ◌≤◌, ◌⊎◌, Bool, List, [], length, drop, take, Option, None, Some, IfSome}
+use Rattle.std.specs.Prelude.{◌≡◌, ◌≢◌, ℕ, ◌+◌, ◌-◌, ◌≤◌, ◌⊎◌, Bool, true, List, [], ◌++◌, length, drop, take, Option, None, Some, IfSome}
 use Rattle.std.specs.Io.BufRead.{drop_through, take_through}
 use Rattle.address_text.specs.Faults.{IsFault}
+use Rattle.std.specs.List.{list_all}
+use Rattle.address_text.specs.Starts.{HasOneFault, IsBadStart, is_plain}
 use Rattle.address_text.specs.Lines.{AreAddresses, Says, SaysAddress, content}
 use Rattle.address_text.specs.declared.family.Family.{Family}
 use Rattle.address_text.specs.declared.line.Line.{Line}
@@ -18,6 +20,16 @@ IsFoundAt line column found = found ≡ take 40 (content (drop (column - 1) line
 -- no contract tells when a disk fails, or when an allocation is refused
 abbrev pub MayFail : Type 0
 MayFail = Unit {0}
+
+-- the text is a line, or its start, which is bad whatever comes next
+abbrev pub IsShown : List ℕ → List ℕ → Type 0
+IsShown text line = (text ≡ line) ⊎ ((rest : List ℕ) × (line ≡ text ++ rest) × (text ≢ [])
+    × (list_all is_plain text ≡ true) × HasOneFault text × IsBadStart text)
+
+-- the text shows the first line of the bytes, and these are left behind it
+abbrev pub IsNextShown : List ℕ → Option (List ℕ) → List ℕ → Type 0
+IsNextShown bytes later text = (bytes ≢ []) × (later ≡ Some (drop_through 10 bytes))
+    × IsShown text (take_through 10 bytes)
 
 module _ (strict : Bool) where
   -- a line is read of the input, which goes on behind it

@@ -12,7 +12,7 @@ ghost use Rattle.address_lists.specs.declared.read.ListError.TheVariants.{Memory
 
 use crate::addresses::Addresses;
 use crate::json::read_json_after;
-use crate::read::{BadLines, ListError, read_all, said_by};
+use crate::read::{BadLines, ListError, keep, next_line, read_all, said_by};
 use crate::spans::Waiting;
 use line_program::read::LineRead;
 use std::alloc::Global;
@@ -39,17 +39,6 @@ fn mark_of(text: &[u8]) -> Option<u8>
         .find(|byte| !matches!(byte, b' ' | b'\t' | b'\n' | b'\r'))
 }
 
-/// Appends a text.
-fn keep(kept: &mut Vec<u8>, text: &[u8]) -> Result<(), ListError>
-    ensures kept { OnOk result (kept.new.items ≡ kept.old.items ++ text.now) }
-    ensures memory { IfErr result (λ error. error ≡ Memory) }
-{
-    match kept.extend_from_slice(text) {
-        Ok(()) => Ok(()),
-        Err(_) => Err(ListError::Memory),
-    }
-}
-
 /// Reads up to the first line that is not blank. `None` where there is none.
 fn start_of<R: LineRead>(alloc: Global, input: &mut R) -> Result<Option<Start>, ListError>
     ensures found { IfOk result (λ start. IfSome (R.remaining input.old)
@@ -61,10 +50,8 @@ fn start_of<R: LineRead>(alloc: Global, input: &mut R) -> Result<Option<Start>, 
     let mut blanks = Vec::new(alloc);
     let mut line = Vec::new(alloc);
     for number in 1..u64::MAX {
-        match input.next_line(&mut line) {
-            Ok(true) => {}
-            Ok(false) => return Ok(None),
-            Err(error) => return Err(ListError::from(error)),
+        if !next_line(&mut line, input)? {
+            return Ok(None);
         }
         if let Some(mark) = mark_of(line.as_slice()) {
             return Ok(Some(Start {

@@ -1,10 +1,10 @@
 //! Reading a list.
 
-ghost use Rattle.std.specs.Prelude.{◌⊎◌, ◌≡◌, ◌≢◌, ◌+◌, ◌≤◌, ◌<◌, ◌^◌, List, [], None, Err, Ok, IfErr, IfOk, IfSome, IsOk};
+ghost use Rattle.std.specs.Prelude.{◌⊎◌, ◌≡◌, ◌≢◌, ◌++◌, ◌+◌, ◌≤◌, ◌<◌, ◌^◌, List, [], None, Err, Ok, IfErr, IfOk, IfSome, IsOk, OnOk, Some, false, true};
 ghost use Rattle.address_text.specs.declared.line.Line.{Line};
 ghost use Rattle.address_lists.specs.Lists.{AreAdded, AreGood, Has, HasJust, IsListed};
 ghost use Rattle.address_lists.specs.Waiting.{HasSoFar};
-ghost use Rattle.address_lists.specs.Reading.{HasFault, HasFaultFrom, IsBad, IsBadLine, IsFound, IsSaid};
+ghost use Rattle.address_lists.specs.Reading.{HasFault, HasFaultFrom, IsBad, IsBadLine, IsFound, IsNextShown, IsSaid};
 ghost use Rattle.address_lists.specs.declared.read.BadLines.TheVariants.{Refused, Skipped};
 ghost use Rattle.address_lists.specs.declared.read.Found.TheVariants.{Other};
 ghost use Rattle.address_lists.specs.declared.read.ListError.TheVariants.{Memory, Unread};
@@ -13,7 +13,7 @@ use crate::addresses::Addresses;
 use crate::json::JsonFault;
 use crate::spans::Waiting;
 use address_text::fault::fault_of;
-use address_text::{Excerpt, Expected, Line, excerpt_at, line_of};
+use address_text::{Excerpt, Expected, Line, START_BYTES, excerpt_at, is_bad_start, line_of};
 use line_program::read::{LineRead, ReadError};
 use std::alloc::Global;
 use std::fmt;
@@ -116,6 +116,37 @@ pub(crate) fn said_by(
     }
 }
 
+/// Appends a text.
+pub(crate) fn keep(kept: &mut Vec<u8>, text: &[u8]) -> Result<(), ListError>
+    ensures kept { OnOk result (kept.new.items ≡ kept.old.items ++ text.now) }
+    ensures memory { IfErr result (λ error. error ≡ Memory) }
+{
+    match kept.extend_from_slice(text) {
+        Ok(()) => Ok(()),
+        Err(_) => Err(ListError::Memory),
+    }
+}
+
+/// Reads the next line, of one that is bad whatever comes next the start alone. Returns whether
+/// there was one.
+pub(crate) fn next_line<R: LineRead>(line: &mut Vec<u8>, input: &mut R) -> Result<bool, ListError>
+    ensures ended { result ≡ Ok false → IfSome (R.remaining input.old)
+        (λ bytes. (bytes ≡ []) × (R.remaining input.new ≡ Some [])) }
+    ensures read { result ≡ Ok true → IfSome (R.remaining input.old)
+        (λ bytes. IsNextShown bytes (R.remaining input.new) line.new.items) }
+    ensures reason { IfErr result (λ error. (error ≡ Unread) ⊎ (error ≡ Memory)) }
+    ensures unread { result ≡ Err Unread → R.fails }
+{
+    let mut start = [0; START_BYTES];
+    if input.next_bytes(&mut start)? && is_bad_start(&start) {
+        input.skip_line()?;
+        line.clear();
+        keep(line, &start)?;
+        return Ok(true);
+    }
+    Ok(input.next_line(line)?)
+}
+
 /// Reads the next line, of this number.
 fn read_line<R: LineRead>(
     buffer: &mut Vec<u8>,
@@ -132,10 +163,8 @@ fn read_line<R: LineRead>(
         → IfErr result (λ error. (error ≡ Unread) ⊎ (error ≡ Memory)) }
     ensures unread { result ≡ Err Unread → R.fails }
 {
-    match input.next_line(buffer) {
-        Ok(true) => {}
-        Ok(false) => return Ok(Found::End),
-        Err(error) => return Err(ListError::from(error)),
+    if !next_line(buffer, input)? {
+        return Ok(Found::End);
     }
     match said_by(buffer.as_slice(), number, strict, bad_lines)? {
         Some(line) => Ok(Found::Good(line)),
@@ -187,7 +216,8 @@ pub(crate) fn read_all<R: LineRead>(
 /// that is known: it is left out, or ends the reading. After an error some addresses are added.
 /// `Unread` is answered where a read of the input failed, and nowhere else.
 ///
-/// One buffer holds a line. Ranges that do not follow each other are sorted before they are added,
+/// One buffer holds a line, but of one that begins with more bytes than an address has the start
+/// alone. Ranges that do not follow each other are sorted before they are added,
 /// up to 8 MiB of either family at a time.
 ///
 /// ```

@@ -5,3 +5,4 @@ mod Faults
 mod Masks
 mod Places
 mod Spans
+mod Starts

@@ -2,4 +2,5 @@
 pub mod Faults
 pub mod Lines
 pub mod Places
+pub mod Starts
 pub mod Texts

@@ -6,7 +6,8 @@
 //! Where to find what:
 //!
 //! - what a line of a list says: `src/line.rt`, `specs/Lines.antt`; what is wrong with one that
-//!   says nothing: `src/fault.rt`, `specs/Faults.antt`; what stands there: `src/excerpt.rt`
+//!   says nothing: `src/fault.rt`, `specs/Faults.antt`; what stands there: `src/excerpt.rt`; starts
+//!   of lines that are bad whatever comes next: `src/start.rt`, `specs/Starts.antt`
 //! - a line and a column of a text: `src/place.rt`, `specs/Places.antt`
 //! - an address, prefix or range as it is printed: `src/write.rt`, `specs/Texts.antt`
 #![tactic(auto)]
@@ -16,6 +17,7 @@ pub mod family;
 pub mod fault;
 pub mod line;
 pub mod place;
+pub mod start;
 pub mod write;
 
 pub use excerpt::{Excerpt, excerpt_at};
@@ -23,3 +25,4 @@ pub use family::Family;
 pub use fault::{Expected, Fault};
 pub use line::{Line, content_of, line_of};
 pub use place::place_in;
+pub use start::{START_BYTES, is_bad_start};

@@ -1,6 +1,7 @@
 //! Readers of lines, and what is known where they fail.
 
-ghost use Rattle.std.specs.Prelude.{◌≡◌, ◌≢◌, ◌++◌, [], Ok, Some, false, true, IfErr, IfOk, IfSome, OnOk};
+ghost use Rattle.std.specs.Prelude.{◌≡◌, ◌≢◌, ◌++◌, [], Ok, Some, false, length, true, IfErr, IfOk, IfSome, IsTrue, OnOk};
+ghost use Rattle.std.specs.Io.{StartsWith};
 ghost use Rattle.std.specs.Io.BufRead.{drop_through, take_through};
 ghost use Rattle.std.specs.Io.KnownBytes.{Keeps};
 ghost use Rattle.line_program.specs.Lines.{first_byte};
@@ -32,6 +33,22 @@ pub trait LineRead: BufRead {
             (λ byte. IfSome (Self.remaining self.old) (λ bytes. byte ≡ first_byte bytes)) }
         ensures failed { IfErr result (λ error. fails) };
 
+    /// Shows the next bytes, as many as `start` has, where the reader has so many at hand, and
+    /// returns whether it has. They stay where they are, and so do all after them. A read that is
+    /// interrupted is tried again. Allocates nothing.
+    fn next_bytes(&mut self, start: &mut [u8]) -> Result<bool, ReadError>
+        ensures kept { Keeps (Self.remaining self.old) (Self.remaining self.new) }
+        ensures shown { result ≡ Ok true → IfSome (Self.remaining self.old)
+            (λ bytes. StartsWith bytes start.new) }
+        ensures len { length start.new ≡ length start.old }
+        ensures failed { IfErr result (λ error. fails) };
+
+    /// Passes over the next line with its end. Allocates nothing.
+    fn skip_line(&mut self) -> Result<(), ReadError>
+        ensures skipped { OnOk result (IfSome (Self.remaining self.old)
+            (λ bytes. Self.remaining self.new ≡ Some (drop_through 10 bytes))) }
+        ensures failed { IfErr result (λ error. fails) };
+
     /// Reads the next line with its end into the buffer, in place of what stands there, and returns
     /// whether there was one. Allocates where the line is longer than the buffer.
     fn next_line(&mut self, line: &mut Vec<u8>) -> Result<bool, ReadError>
@@ -56,6 +73,20 @@ fn reason_of(error: &io::Error) -> ReadError {
     }
 }
 
+/// Copies the first bytes, where there are as many as `start` has.
+fn copy_start(bytes: &[u8], start: &mut [u8]) -> bool
+    ensures copied { IsTrue result → StartsWith bytes.now start.new }
+    ensures len { length start.new ≡ length start.old }
+{
+    match bytes.get(..start.len()) {
+        Some(first) => {
+            start.copy_from_slice(first);
+            true
+        }
+        None => false,
+    }
+}
+
 impl<R: BufRead> LineRead for R {
     ghost fails = { Unit {0} };
 
@@ -68,6 +99,24 @@ impl<R: BufRead> LineRead for R {
             }
         }
         Err(ReadError::Unread)
+    }
+
+    fn next_bytes(&mut self, start: &mut [u8]) -> Result<bool, ReadError> {
+        for _ in 0..u64::MAX {
+            match self.fill_buf() {
+                Ok(bytes) => return Ok(copy_start(bytes, start)),
+                Err(error) if error.kind() == ErrorKind::Interrupted => {}
+                Err(error) => return Err(reason_of(&error)),
+            }
+        }
+        Err(ReadError::Unread)
+    }
+
+    fn skip_line(&mut self) -> Result<(), ReadError> {
+        match self.skip_until(b'\n') {
+            Ok(_) => Ok(()),
+            Err(error) => Err(reason_of(&error)),
+        }
     }
 
     fn next_line(&mut self, line: &mut Vec<u8>) -> Result<bool, ReadError> {
