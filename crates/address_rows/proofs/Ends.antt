@@ -1,20 +1,12 @@
 -- Texts of first and last addresses.
-use Rattle.std.proofs.Common.{◌≡◌, ℕ, ◌≤◌, ◌<◌, List, Option, None, Some, MatchOption, inl, inr, sym, ap, ◌∙◌, arith}
-use Rattle.std.specs.Net.Addr.{ipv4_bits, ipv6_bits}
-use Rattle.std.proofs.NetLemmas.Theorems.{IsIpv4Text_unique, IsIpv6Text_unique}
+use Rattle.std.proofs.Common.{◌≡◌, ℕ, ◌<◌, List, Option, None, Some, MatchOption, inl, inr, sym, ◌∙◌, arith}
 use Rattle.address_text.specs.Texts.{IsAddressText}
 use Rattle.address_text.specs.declared.family.Family.{Family}
 use Rattle.address_text.specs.declared.family.Family.TheVariants.{V4, V6}
 use Rattle.address_text.specs.declared.line.Line.{Line}
 use Rattle.address_text.specs.declared.line.Line.TheVariants.{Addresses, Nothing}
+use Rattle.address_text.proofs.Spans.{address_unique}
 use Rattle.address_rows.specs.Lines.{AreEnds, IsBits, IsEnd}
-
-address_unique : (family : Family) (text : List ℕ) (a b : ℕ) → IsAddressText family text a
-    → IsAddressText family text b → a ≡ b
-address_unique V4 text a b (x, tx, ex) (y, ty, ey) =
-    ex ∙ ap ipv4_bits (IsIpv4Text_unique text x y tx ty) ∙ sym ey
-address_unique V6 text a b (x, tx, ex) (y, ty, ey) =
-    ex ∙ ap ipv6_bits (IsIpv6Text_unique text x y tx ty) ∙ sym ey
 
 -- a text is one address at most
 pub end_unique : (family : Family) (text : List ℕ) (a b : ℕ) → IsEnd family text a

@@ -47,16 +47,12 @@ abbrev pub needs_quotes : List ℕ → Bool
 needs_quotes text =
     list_any (λ byte. (((byte == 44) || (byte == 34)) || (byte == 10)) || (byte == 13)) text
 
--- a string of JSON
-abbrev pub json_text : List ℕ → List ℕ
-json_text text = compact_text (string text)
-
 -- a value
 abbrev pub value_text : Form → List ℕ → List ℕ
 value_text Lines text = text
 value_text Csv text = if needs_quotes text then quoted Csv text else text
 value_text Decimal text = text
-value_text Json text = json_text text
+value_text Json text = compact_text (string text)
 value_text Nginx text = quoted Nginx text
 value_text Nft text = text
 

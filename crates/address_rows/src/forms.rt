@@ -1,7 +1,9 @@
 //! Tables in each form that is printed: their values.
 
 ghost use Rattle.std.specs.Prelude.{◌≡◌, ◌++◌, IfOk, OnOk, map};
-ghost use Rattle.address_rows.specs.Forms.{is_marked, json_text, mark_of, needs_quotes, one_marked, quoted, value_text};
+ghost use Rattle.serde_json.specs.Data.{string};
+ghost use Rattle.serde_json.specs.Written.{compact_text};
+ghost use Rattle.address_rows.specs.Forms.{is_marked, mark_of, needs_quotes, one_marked, quoted, value_text};
 
 use crate::texts::Texts;
 use serde_json::Value;
@@ -78,7 +80,7 @@ fn plain_text(alloc: Global, text: &[u8]) -> Result<Vec<u8>, AllocError>
 
 /// The text as a string of JSON.
 fn json_string(alloc: Global, text: &str) -> Result<Vec<u8>, AllocError>
-    ensures { IfOk result (λ bytes. bytes.items ≡ json_text text.now) }
+    ensures { IfOk result (λ bytes. bytes.items ≡ compact_text (string text.now)) }
 {
     let value = Value::String(String::from_str(alloc, text)?);
     let text = value.to_string(alloc)?;

@@ -11,11 +11,11 @@ use Rattle.address_text.specs.declared.family.Family.TheVariants.{V4, V6}
 drop_one_more : (x n : ℕ) (xs : List ℕ) → drop (1 + n) (x ∷ xs) ≡ drop n xs
 drop_one_more x n xs = let more : 1 + n ≡ suc n = omega arith in ap (λ k. drop k (x ∷ xs)) more
 
-blank_first : (x : ℕ) (xs : List ℕ) → is_ascii_whitespace x ≡ true
+pub blank_first : (x : ℕ) (xs : List ℕ) → is_ascii_whitespace x ≡ true
     → from_word (x ∷ xs) ≡ from_word xs
 blank_first x xs blank = grind (arith, drop_one_more)
 
-blank_kept : (x : ℕ) (xs : List ℕ) → is_hash x ≡ false
+pub blank_kept : (x : ℕ) (xs : List ℕ) → is_hash x ≡ false
     → before_first is_hash (x ∷ xs) ≡ x ∷ before_first is_hash xs
 blank_kept x xs none = grind arith
 

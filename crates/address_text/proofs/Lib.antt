@@ -1,8 +1,8 @@
 -- Lemmas.
 mod Blocks
 mod Excerpts
-mod Faults
+pub mod Faults
 mod Masks
 mod Places
-mod Spans
-mod Starts
+pub mod Spans
+pub mod Starts

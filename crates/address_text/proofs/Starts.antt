@@ -81,7 +81,7 @@ module _ (start : List ℕ) (long : 80 ≤ length start) (more : List ℕ) where
 plain_first : (x : ℕ) (xs : List ℕ) → list_all is_plain (x ∷ xs) ≡ true → is_plain x ≡ true
 plain_first x xs plain = grind arith
 
-plain_later : (x : ℕ) (xs : List ℕ) → list_all is_plain (x ∷ xs) ≡ true
+pub plain_later : (x : ℕ) (xs : List ℕ) → list_all is_plain (x ∷ xs) ≡ true
     → list_all is_plain xs ≡ true
 plain_later x xs plain = grind arith
 
