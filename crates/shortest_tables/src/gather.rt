@@ -31,7 +31,6 @@ fn leaf_labels(alloc: Global, label: Option<u32>) -> Result<Vec<u32>, AllocError
 }
 
 /// Notes a block and its parts, and returns its labels.
-#[tactic(none)]
 pub(crate) fn gather<'a>(
     alloc: Global,
     left: &'a [Span<u32>],

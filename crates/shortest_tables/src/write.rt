@@ -33,7 +33,6 @@ fn push_own(
 
 /// Takes a block and its parts out of what is noted, and adds their entries below a label from
 /// above, the last one first.
-#[tactic(none)]
 pub(crate) fn push_entries(
     marks: &mut Marks,
     network: u128,

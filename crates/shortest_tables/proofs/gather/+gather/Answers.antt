@@ -9,18 +9,6 @@ use Rattle.shortest_tables.proofs.gather.+gather.Goals as goal
 pub uniform-requires-clause-left : goal.uniform-requires-clause-left
 uniform-requires-clause-left t c = (length c.args.marks.now.seen.items, c.requires.left)
 
-pub uniform-requires-clause-small : goal.uniform-requires-clause-small
-uniform-requires-clause-small t c = c.requires.small
-
-pub uniform-requires-clause-fits : goal.uniform-requires-clause-fits
-uniform-requires-clause-fits t c = c.requires.fits
-
-pub returns-in_err-best : goal.returns-in_err-best
-returns-in_err-best t c = first_of (search rules, grind (arith, common_steps))
-
-pub returns-in_err-push : goal.returns-in_err-push
-returns-in_err-push t c = first_of (search rules, grind (arith, common_steps))
-
 pub returns-in-Some : goal.returns-in-Some
 returns-in-Some t c =
     gathered_whole c.args.otherwise c.args.left.now c.in-Some.all.left.now c.args.free c.args.network
@@ -28,12 +16,6 @@ returns-in-Some t c =
     c.in-Some.ensures.alike c.in_ok-best.ensures c.as_slice.ensures.value c.requires.clear
     (c.in-Some.ensures.left (length c.args.marks.now.seen.items) c.requires.left)
     c.in-Some.ensures.same c.in_ok-push.ensures.nodes c.in_ok-push.ensures.labels c.push.ensures.seen
-
-pub overflow_sub-free : goal.overflow_sub-free
-overflow_sub-free t c = c.in_default.ensures.wide
-
-pub greatest_of-requires : goal.greatest_of-requires
-greatest_of-requires t c = omega (arith, c.requires.small)
 
 pub overflow_add-middle : goal.overflow_add-middle
 overflow_add-middle t c =
@@ -51,9 +33,6 @@ overflow_add-middle-2 t c =
     let small : c.args.network + c.greatest_of.result + 1 < 340282366920938463463374607431768211456 = omega (arith, half, e, fits) in
     first_of (search rules, grind (arith, common_steps))
 
-pub overflow_sub-free-2 : goal.overflow_sub-free-2
-overflow_sub-free-2 t c = c.in_default.ensures.wide
-
 pub gather-requires : goal.gather-requires
 gather-requires t c =
     let wide = c.in_default.ensures.wide in
@@ -63,12 +42,6 @@ gather-requires t c =
       first_of (omega (arith, wide), search rules),
       (c.requires.left, (c.requires.otherwise, (c.requires.clear, (omega (arith, small), omega (arith, half, fits))))),
     )
-
-pub returns-in_err-low : goal.returns-in_err-low
-returns-in_err-low t c = first_of (search rules, grind (arith, common_steps))
-
-pub overflow_sub-free-3 : goal.overflow_sub-free-3
-overflow_sub-free-3 t c = c.in_default.ensures.wide
 
 pub gather-requires-2 : goal.gather-requires-2
 gather-requires-2 t c =
@@ -98,9 +71,6 @@ gather-requires-2 t c =
       ),
     )
 
-pub returns-in_err-high : goal.returns-in_err-high
-returns-in_err-high t c = first_of (search rules, grind (arith, common_steps))
-
 pub join_labels-requires-clause-first : goal.join_labels-requires-clause-first
 join_labels-requires-clause-first t c =
     let low = c.in_ok-low.ensures in
@@ -118,15 +88,6 @@ join_labels-requires-clause-second t c =
     c.args.otherwise c.in_ok-low.low.left.now (c.args.network + 2 ^ (c.args.free - 1)) (c.args.free - 1)
     (c.args.network + c.greatest_of.result + 1) c.in_ok-high.high.best.items c.as_slice-3.result.now
     (high.count ∙ low.count) c.as_slice-3.ensures.value c.requires.otherwise low.ahead high.labelled
-
-pub join_labels-requires-clause-clear : goal.join_labels-requires-clause-clear
-join_labels-requires-clause-clear t c = c.in_ok-high.ensures.clear
-
-pub returns-in_err-best-2 : goal.returns-in_err-best-2
-returns-in_err-best-2 t c = first_of (search rules, grind (arith, common_steps))
-
-pub returns-in_err-push-2 : goal.returns-in_err-push-2
-returns-in_err-push-2 t c = first_of (search rules, grind (arith, common_steps))
 
 pub returns : goal.returns
 returns t c =

@@ -11,12 +11,6 @@ on_ok : {E : Type 0} (r : Result (Unit {0}) E) (P Q : Type 0) → (P → Q) → 
 on_ok (Ok x) P Q f h = f h
 on_ok (Err x) P Q f h = h
 
-pub overflow_sub-free : goal.overflow_sub-free
-overflow_sub-free t c = c.if-free-gt0.true
-
-pub greatest_of-requires : goal.greatest_of-requires
-greatest_of-requires t c = omega (arith, c.requires.small, c.requires.inside)
-
 pub overflow_add-middle : goal.overflow_add-middle
 overflow_add-middle t c =
     let half = half_power c.args.free c.if-free-gt0.true in
@@ -33,9 +27,6 @@ overflow_add-middle-then-free-gt0 t c =
     let small : c.args.network + c.greatest_of.result + 1 < 340282366920938463463374607431768211456 = omega (arith, half, e, fits) in
     first_of (search rules, grind (arith, common_steps))
 
-pub overflow_sub-free-then-free-gt0 : goal.overflow_sub-free-then-free-gt0
-overflow_sub-free-then-free-gt0 t c = c.if-free-gt0.true
-
 pub push_entries-requires : goal.push_entries-requires
 push_entries-requires t c =
     let wide = c.if-free-gt0.true in
@@ -47,12 +38,6 @@ push_entries-requires t c =
       (omega (arith, inside), (c.requires.small, omega (arith, half, e, fits))),
     )
 
-pub returns-in_err-push_entries : goal.returns-in_err-push_entries
-returns-in_err-push_entries t c = first_of (search rules, grind (arith, common_steps))
-
-pub overflow_sub-free-then-free-gt0-2 : goal.overflow_sub-free-then-free-gt0-2
-overflow_sub-free-then-free-gt0-2 t c = c.if-free-gt0.true
-
 pub push_entries-requires-then-free-gt0 : goal.push_entries-requires-then-free-gt0
 push_entries-requires-then-free-gt0 t c =
     let wide = c.if-free-gt0.true in
@@ -62,12 +47,6 @@ push_entries-requires-then-free-gt0 t c =
       first_of (omega (arith, wide), search rules),
       (omega (arith, inside), (c.requires.small, omega (arith, half, fits))),
     )
-
-pub returns-in_err-push_entries-2 : goal.returns-in_err-push_entries-2
-returns-in_err-push_entries-2 t c = first_of (search rules, grind (arith, common_steps))
-
-pub push_own-requires : goal.push_own-requires
-push_own-requires t c = c.requires.inside
 
 pub returns : goal.returns
 returns t c =
