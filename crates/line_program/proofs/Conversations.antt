@@ -3,6 +3,7 @@ use Rattle.std.proofs.Common.{◌⊎◌, ℕ, List, Option, IfSome, arith}
 use Rattle.line_program.specs.Conversation.{Conversation}
 use Rattle.line_program.specs.Listing.{Writes}
 use Rattle.line_program.specs.Conversation.Conversation.{Ended, Answered}
+use Rattle.line_program.specs.Serving.{IsStopped}
 
 module _ {S T : Type 0} (Answers : S → List ℕ → List ℕ → S → Type 0)
     (Others : T → List ℕ → List ℕ → T → Type 0) (see : S → T)
@@ -19,14 +20,12 @@ module _ {S T : Type 0} (Answers : S → List ℕ → List ℕ → S → Type 0)
       (conversation_seen next _ more rest last held) is
 
 -- what stopped with one kind of answers stopped with another that follows
-pub stopped_as : (Silent : Type 0) (IsWrong : List ℕ → Type 0) (input before after : Option (List ℕ))
+pub stopped_as : (Silent Fails : Type 0) (input before after : Option (List ℕ))
     (Talks Answers : List ℕ → List ℕ → List ℕ → Type 0)
     → ((bytes text rest : List ℕ) → Talks bytes text rest → Answers bytes text rest)
-    → Silent ⊎ IfSome input (λ bytes. (rest : List ℕ) × IsWrong rest
-    × Writes before after (λ text. Talks bytes text rest))
-    → Silent ⊎ IfSome input (λ bytes. (rest : List ℕ) × IsWrong rest
-    × Writes before after (λ text. Answers bytes text rest))
-stopped_as Silent IsWrong input before after Talks Answers follows stopped = grind (arith, follows)
+    → Silent ⊎ IsStopped Talks Fails input before after
+    → Silent ⊎ IsStopped Answers Fails input before after
+stopped_as Silent Fails input before after Talks Answers follows stopped = grind (arith, follows)
 
 -- and what was answered
 pub answered_as : (input before after : Option (List ℕ)) (Talks Answers : List ℕ → List ℕ → Type 0)

@@ -3,9 +3,10 @@ use Rattle.std.proofs.Common.{◌≡◌, ◌≢◌, ℕ, List, [], ◌++◌, Opt
 use Rattle.std.specs.Io.KnownBytes.{Appends}
 use Rattle.std.specs.Io.BufRead.{first_line, drop_through}
 use Rattle.std.specs.Str.{IsUtf8}
-use Rattle.line_program.specs.Conversation.{Conversation}
+use Rattle.line_program.specs.Conversation.{Conversation, IsUnreadable}
 use Rattle.line_program.specs.Conversation.Conversation.{Ended, Answered}
 use Rattle.line_program.specs.Listing.{Writes}
+use Rattle.line_program.specs.Serving.{IsServed, IsStopped}
 use Rattle.line_program.proofs.Listing.{append_nil, appends_then}
 
 module _ {S : Type 0} (Answers : S → List ℕ → List ℕ → S → Type 0) (first : S) where
@@ -55,20 +56,20 @@ module _ {S : Type 0} (Answers : S → List ℕ → List ℕ → S → Type 0) (
       → IfSome input (λ bytes. HasAnswered bytes left before now state)
       → (last ≡ state) × (next ≡ now)
       × IfSome left (λ bytes. (bytes ≡ []) × (later ≡ Some []))
-      → IfSome input (λ bytes. Writes before next
-      (λ text. Conversation Answers first bytes text [] last)) × OnSome input (later ≡ Some [])
+      → IsServed (λ bytes text rest. Conversation Answers first bytes text rest last) input before
+      next × OnSome input (later ≡ Some [])
   answered_all None left later before now next state last answered ended = (tt, tt)
   answered_all (Some bytes) left later before now next state last answered (same, silent, ended) =
       let (empty, later_is) = rw answered.left_is at ended in
       (rw (same, silent, ← empty) (answered_so_far bytes left before now state answered), later_is)
 
-  pub stopped_at : (IsWrong : List ℕ → Type 0) (input left before now next : Option (List ℕ))
+  pub stopped_at : (Fails : Type 0) (input left before now next : Option (List ℕ))
       (state last : S) → IfSome input (λ bytes. HasAnswered bytes left before now state)
-      → (last ≡ state) × (next ≡ now) → IfSome left IsWrong
-      → IfSome input (λ bytes. (rest : List ℕ) × IsWrong rest
-      × Writes before next (λ text. Conversation Answers first bytes text rest last))
-  stopped_at IsWrong None left before now next state last answered unchanged wrong = tt
-  stopped_at IsWrong (Some bytes) left before now next state last answered (same, silent) wrong = (
+      → (last ≡ state) × (next ≡ now) → IfSome left (IsUnreadable Fails)
+      → IsStopped (λ bytes text rest. Conversation Answers first bytes text rest last) Fails input
+      before next
+  stopped_at Fails None left before now next state last answered unchanged wrong = tt
+  stopped_at Fails (Some bytes) left before now next state last answered (same, silent) wrong = (
     answered.remaining,
     rw answered.left_is at wrong,
     rw (same, silent) (answered_so_far bytes left before now state answered),

@@ -3,7 +3,7 @@
 //! Where to find what:
 //!
 //! - a program that answers lines, and how one is served: each line is read where it lies in the
-//!   reader's buffer: `src/program.rt`, `specs/Conversation.antt`,
+//!   reader's buffer: `src/program.rt`, `specs/{Conversation,Serving}.antt`,
 //!   `proofs/{FirstLine,Progress}.antt`
 //! - readers of lines, and what is known where they fail: `src/read.rt`
 //! - a conversation seen in other states, as a program's in the lists that it stores:

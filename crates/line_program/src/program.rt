@@ -6,6 +6,7 @@ ghost use Rattle.std.specs.Str.{IsUtf8};
 ghost use Rattle.line_program.specs.Conversation.{Conversation, IsUnreadable};
 ghost use Rattle.line_program.specs.Lines.{line_content};
 ghost use Rattle.line_program.specs.Listing.{Writes};
+ghost use Rattle.line_program.specs.Serving.{IsServed, IsStopped};
 ghost use Rattle.line_program.specs.declared.program.Stop.TheVariants.{Unreadable};
 
 use crate::line::without_line_end;
@@ -130,13 +131,12 @@ pub fn answer_lines<P: LineProgram<W>, R: LineRead, W: Write>(
     out: &mut W,
 ) -> Result<(), Stop>
     ensures ended { OnOk result (OnSome (R.remaining input.old) (R.remaining input.new ≡ Some [])) }
-    ensures answered { OnOk result (IfSome (R.remaining input.old)
-        (λ bytes. Writes (W.contents out.old) (W.contents out.new)
-        (λ text. Conversation P.answers program.old bytes text [] program.new))) }
-    ensures unread { result ≡ Err Unreadable → IfSome (R.remaining input.old)
-        (λ bytes. (rest : List ℕ) × IsUnreadable R.fails rest
-        × Writes (W.contents out.old) (W.contents out.new)
-        (λ text. Conversation P.answers program.old bytes text rest program.new)) }
+    ensures answered { OnOk result (IsServed
+        (λ bytes text rest. Conversation P.answers program.old bytes text rest program.new)
+        (R.remaining input.old) (W.contents out.old) (W.contents out.new)) }
+    ensures unread { result ≡ Err Unreadable → IsStopped
+        (λ bytes text rest. Conversation P.answers program.old bytes text rest program.new)
+        R.fails (R.remaining input.old) (W.contents out.old) (W.contents out.new) }
 {
     let mut line = Vec::new(alloc);
     for _ in 0..u64::MAX {
@@ -161,13 +161,12 @@ pub fn serve<P: LineProgram<W>, R: LineRead, W: Write, E: Write>(
 ) -> u8
     ensures status { result ≤ 1 }
     ensures silent { result ≡ 0 → err.new ≡ err.old }
-    ensures answered { result ≡ 0 → IfSome (R.remaining input.old)
-        (λ bytes. Writes (W.contents out.old) (W.contents out.new)
-        (λ text. Conversation P.answers program.old bytes text [] program.new)) }
-    ensures unread { result ≡ 1 → (err.new ≡ err.old) ⊎ IfSome (R.remaining input.old)
-        (λ bytes. (rest : List ℕ) × IsUnreadable R.fails rest
-        × Writes (W.contents out.old) (W.contents out.new)
-        (λ text. Conversation P.answers program.old bytes text rest program.new)) }
+    ensures answered { result ≡ 0 → IsServed
+        (λ bytes text rest. Conversation P.answers program.old bytes text rest program.new)
+        (R.remaining input.old) (W.contents out.old) (W.contents out.new) }
+    ensures unread { result ≡ 1 → (err.new ≡ err.old) ⊎ IsStopped
+        (λ bytes text rest. Conversation P.answers program.old bytes text rest program.new)
+        R.fails (R.remaining input.old) (W.contents out.old) (W.contents out.new) }
 {
     let served = answer_lines(alloc, program, input, out);
     let flushed = out.flush();

@@ -1,10 +1,8 @@
 -- A conversation with a program that keeps maps is one over their stored lists.
-use Rattle.std.proofs.Common.{◌≡◌, ◌⊎◌, ℕ, List, inl, inr, subst}
-use Rattle.std.specs.Prelude.{Option, None, Some, IfSome}
+use Rattle.std.proofs.Common.{◌≡◌, ℕ, List}
 use Rattle.btree_range_map.specs.Order.{KeyOrder}
 use Rattle.line_program.proofs.Conversations.{conversation_seen}
 use Rattle.line_program.specs.Conversation.{Conversation}
-use Rattle.line_program.specs.Listing.{Writes}
 use Rattle.rangecalc.specs.Conversation.{AnswersLine, IsConversation, none_stored}
 use Rattle.rangecalc.specs.Ranges.{Ranges}
 use Rattle.rangecalc.specs.declared.named.Named.{Named}

@@ -1,10 +1,9 @@
 //! The whole program, over any reader and writers.
 
-ghost use Rattle.std.specs.Prelude.{◌≡◌, ◌≤◌, ◌↔◌, ◌⊎◌, ℕ, List, Err, OnOk, OnSome, IfSome, Some, [], map, string_bytes};
+ghost use Rattle.std.specs.Prelude.{◌≡◌, ◌≤◌, ◌↔◌, ◌⊎◌, map, string_bytes};
 ghost use Rattle.rangecalc.specs.Conversation.{AnswersLine, IsConversation, stored_in};
-ghost use Rattle.line_program.specs.Conversation.{IsUnreadable};
-ghost use Rattle.line_program.specs.Listing.{Writes};
-ghost use Rattle.rangecalc.specs.Serving.{IsServed, IsStopped, NamesKeys};
+ghost use Rattle.line_program.specs.Serving.{IsServed, IsStopped, NamesKeys};
+ghost use Rattle.rangecalc.specs.Serving.{IsAnswered};
 
 use crate::maps::{Maps, answer_line, no_maps};
 use crate::number::MapKey;
@@ -38,15 +37,12 @@ fn serve_keys<K: MapKey, R: LineRead, W: Write, E: Write>(
     ensures status { result ≤ 1 }
     ensures silent { result ≡ 0 → err.new ≡ err.old }
     ensures answered { result ≡ 0
-        → IfSome (R.remaining input.old)
-        (λ bytes. Writes (W.contents out.old) (W.contents out.new)
-        (λ text. IsConversation K.order bytes text [])) }
+        → IsServed (IsConversation K.order) (R.remaining input.old) (W.contents out.old)
+        (W.contents out.new) }
     ensures unread { result ≡ 1
         → (err.new ≡ err.old)
-        ⊎ IfSome (R.remaining input.old)
-        (λ bytes. (rest : List ℕ) × IsUnreadable R.fails rest
-        × Writes (W.contents out.old) (W.contents out.new)
-        (λ text. IsConversation K.order bytes text rest)) }
+        ⊎ IsStopped (IsConversation K.order) R.fails (R.remaining input.old) (W.contents out.old)
+        (W.contents out.new) }
 {
     let mut program = MapsProgram::<K> {
         alloc,
@@ -74,11 +70,11 @@ pub fn serve<R: LineRead + Drop, W: Write, E: Write>(
     ensures silent { result ≡ 0 → err.new ≡ err.old }
     ensures unread { result ≡ 1
         → (err.new ≡ err.old)
-        ⊎ IsStopped (map string_bytes words.now) R.fails (R.remaining input) (W.contents out.old)
-        (W.contents out.new) }
+        ⊎ IsStopped (IsAnswered (map string_bytes words.now)) R.fails (R.remaining input)
+        (W.contents out.old) (W.contents out.new) }
     ensures served { result ≡ 0
-        → IsServed (map string_bytes words.now) (R.remaining input) (W.contents out.old)
-        (W.contents out.new) }
+        → IsServed (IsAnswered (map string_bytes words.now)) (R.remaining input)
+        (W.contents out.old) (W.contents out.new) }
 {
     if let [word] = words {
         match word.as_str() {

@@ -1,13 +1,9 @@
 -- A conversation with a program that keeps a map is one over its stored list.
-use Rattle.std.proofs.Common.{◌≡◌, ◌⊎◌, ℕ, ℤ, Bool, List, [], inl, inr, subst}
-use Rattle.std.specs.Prelude.{Option, None, Some, IfSome}
+use Rattle.std.proofs.Common.{◌≡◌, ℕ, ℤ, Bool, List, []}
 use Rattle.serde_json.specs.Data.{Data}
-use Rattle.btree_range_map.specs.AnyRange.{AnyRange}
-use Rattle.btree_range_map.specs.Item.{Item}
 use Rattle.btree_range_map.specs.Order.{KeyOrder}
 use Rattle.line_program.proofs.Conversations.{conversation_seen}
 use Rattle.line_program.specs.Conversation.{Conversation}
-use Rattle.line_program.specs.Listing.{Writes}
 use Rattle.rangerun.specs.Conversation.{AnswersStored, IsConversation, Kept}
 
 module _ {K P : Type 0} (order : KeyOrder K) (as_number : K → ℤ) (shape : K → Data)
