@@ -1,10 +1,11 @@
 -- Blank lines at the start of a list.
-use Rattle.std.proofs.Common.{◌≡◌, ◌≢◌, ◌↔◌, ℕ, suc, ◌+◌, Bool, true, false, List, [], ◌∷◌, ◌++◌, length, drop, Option, None, Some, IfSome, inl, inr, refl, ap, sym, subst, ◌∙◌, append_assoc, arith}
+use Rattle.std.proofs.Common.{◌≡◌, ◌≢◌, ◌↔◌, ℕ, ◌+◌, Bool, true, false, List, [], ◌∷◌, ◌++◌, length, Option, None, Some, IfSome, inl, inr, refl, ap, sym, subst, ◌∙◌, append_assoc, arith}
 use Rattle.std.proofs.lemmas.Bool.{eqb-true}
 use Rattle.std.specs.Char.{is_ascii_whitespace}
 use Rattle.std.specs.Io.BufRead.{drop_through, take_through}
 use Rattle.std.specs.List.{before_first}
 use Rattle.address_text.specs.Lines.{Says, from_word, is_hash, trimmed}
+use Rattle.address_text.proofs.Faults.{blank_first as white_first, blank_kept as kept_first}
 use Rattle.address_text.specs.declared.family.Family.{Family}
 use Rattle.address_text.specs.declared.line.Line.{Line}
 use Rattle.address_text.specs.declared.line.Line.TheVariants.{Nothing}
@@ -35,17 +36,6 @@ blank_is_white x blank = grind arith
 
 blank_is_no_hash : (x : ℕ) → is_blank x ≡ true → is_hash x ≡ false
 blank_is_no_hash x blank = grind (arith, eqb-true)
-
-drop_one_more : (x n : ℕ) (xs : List ℕ) → drop (1 + n) (x ∷ xs) ≡ drop n xs
-drop_one_more x n xs = let more : 1 + n ≡ suc n = omega arith in ap (λ k. drop k (x ∷ xs)) more
-
-white_first : (x : ℕ) (xs : List ℕ) → is_ascii_whitespace x ≡ true
-    → from_word (x ∷ xs) ≡ from_word xs
-white_first x xs white = grind (arith, drop_one_more)
-
-kept_first : (x : ℕ) (xs : List ℕ) → is_hash x ≡ false
-    → before_first is_hash (x ∷ xs) ≡ x ∷ before_first is_hash xs
-kept_first x xs none = grind arith
 
 blank_first : (x : ℕ) (xs : List ℕ) → mark (x ∷ xs) ≡ None → is_blank x ≡ true
 blank_first x xs none = grind arith

@@ -9,6 +9,7 @@ use Rattle.std.specs.List.{list_all}
 use Rattle.address_text.specs.Faults.{IsFault}
 use Rattle.address_text.specs.Lines.{Says, content}
 use Rattle.address_text.specs.Starts.{HasOneFault, IsBadStart, is_plain}
+use Rattle.address_text.proofs.Starts.{plain_later}
 use Rattle.address_text.specs.declared.fault.Expected.TheVariants.{Address}
 use Rattle.address_text.specs.declared.line.Line.{Line}
 use Rattle.address_lists.specs.Files.{mark}
@@ -16,10 +17,6 @@ use Rattle.address_lists.specs.Lists.{SaysNothingKnown}
 use Rattle.address_lists.specs.Reading.{IsBadLine, IsNextShown, IsShown}
 use Rattle.address_lists.specs.declared.read.ListError.{ListError}
 use Rattle.address_lists.specs.declared.read.ListError.TheVariants.{BadLine, Json, Memory, Unread}
-
-plain_later : (x : ℕ) (xs : List ℕ) → list_all is_plain (x ∷ xs) ≡ true
-    → list_all is_plain xs ≡ true
-plain_later x xs plain = grind arith
 
 no_end : (x : ℕ) (xs : List ℕ) → list_all is_plain (x ∷ xs) ≡ true → (x == 10) ≡ false
 no_end x xs plain = grind arith
