@@ -4,8 +4,9 @@ use Rattle.std.proofs.lemmas.Bool.{false≢true}
 use Rattle.std.proofs.lemmas.List.{append-nil}
 use Rattle.std.specs.Prelude.{IsTrue, if◌then◌else◌}
 use Rattle.std.specs.Int.{from_bool}
-use Rattle.std.specs.Io.BufRead.{drop_through, take_through}
+use Rattle.std.specs.Io.BufRead.{drop_through}
 use Rattle.std.specs.Io.KnownBytes.{Appends}
+use Rattle.line_program.specs.Lines.{IsLineRead}
 use Rattle.line_program.proofs.Listing.{appends_then}
 use Rattle.address_lines.specs.Found.{AreFound, line_text, lines_text}
 use Rattle.address_lines.specs.Found.AreFound.{Ended, Found, Other}
@@ -37,11 +38,6 @@ module _ (IsSuch : List ℕ → Type 0) (showing : Showing) (start : List ℕ) w
         → AreFound IsSuch number remaining more rest
         → AreFound IsSuch 1 input (found ++ more) rest
     pub appended : Appends before now (lines_text showing start found)
-
-  -- a line is read of what is left
-  abbrev pub IsLineRead : Option (List ℕ) → Option (List ℕ) → List ℕ → Type 0
-  IsLineRead left later line = IfSome left (λ bytes. (bytes ≢ [])
-      × (later ≡ Some (drop_through 10 bytes)) × (line ≡ take_through 10 bytes))
 
   one_searched : (input : List ℕ) (left later before now next : Option (List ℕ))
       (number count : ℕ) (line : List ℕ) (is_found : Bool)

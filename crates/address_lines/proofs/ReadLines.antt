@@ -1,8 +1,9 @@
 -- How far lines that are addresses are read.
-use Rattle.std.proofs.Common.{◌≡◌, ◌≢◌, ℕ, ◌+◌, ◌⊎◌, List, [], ◌∷◌, ◌++◌, Option, None, Some, IfSome, append_assoc, refl, subst, sym, inl, inr}
+use Rattle.std.proofs.Common.{◌≡◌, ℕ, ◌+◌, ◌⊎◌, List, [], ◌∷◌, ◌++◌, Option, None, Some, IfSome, append_assoc, refl, subst, sym, inl, inr}
 use Rattle.std.proofs.lemmas.List.{append-nil}
-use Rattle.std.specs.Io.BufRead.{drop_through, take_through}
+use Rattle.std.specs.Io.BufRead.{drop_through}
 use Rattle.std.specs.declared.net.ip_addr.IpAddr.{IpAddr}
+use Rattle.line_program.specs.Lines.{IsLineRead}
 use Rattle.address_lists.specs.declared.read.ListError.{ListError}
 use Rattle.address_lists.specs.declared.read.ListError.TheVariants.{Memory, Unread}
 use Rattle.address_lines.specs.Sought.{AreSought, IsAddedOf, IsAddressLine, IsBlank, IsNoAddress, IsUnreadAt}
@@ -16,11 +17,6 @@ pub record IsReadTo (input : List ℕ) (left : Option (List ℕ)) (number : ℕ)
   pub goes_on : (more : List IpAddr) (last : ℕ) (rest : List ℕ)
       → AreSought number remaining more last rest
       → AreSought 1 input (addresses ++ more) last rest
-
--- a line is read of what is left
-abbrev pub IsLineRead : Option (List ℕ) → Option (List ℕ) → List ℕ → Type 0
-IsLineRead left later line = IfSome left (λ bytes. (bytes ≢ [])
-    × (later ≡ Some (drop_through 10 bytes)) × (line ≡ take_through 10 bytes))
 
 pub none_read : (input : Option (List ℕ))
     → IfSome input (λ bytes. IsReadTo bytes input 1 [])

@@ -3,10 +3,11 @@ use Rattle.std.proofs.Common.{◌≡◌, ◌≢◌, ℕ, ◌+◌, ◌⊎◌, ◌
 use Rattle.std.proofs.lemmas.Bool.{false≢true}
 use Rattle.std.proofs.lemmas.List.{append-nil}
 use Rattle.std.specs.Prelude.{◌&&◌, IsTrue}
-use Rattle.std.specs.Io.BufRead.{drop_through, take_through}
+use Rattle.std.specs.Io.BufRead.{drop_through}
 use Rattle.std.specs.Io.KnownBytes.{Appends}
 use Rattle.std.specs.List.{AllByRecursion}
 use Rattle.std.specs.declared.net.ip_addr.IpAddr.{IpAddr}
+use Rattle.line_program.specs.Lines.{IsLineRead}
 use Rattle.line_program.specs.Listing.{SpellsEach, Writes}
 use Rattle.line_program.proofs.Listing.{appends_then}
 use Rattle.address_lists.specs.Lookups.{HasIp, IsTold}
@@ -73,11 +74,6 @@ module _ (list : Addresses) where
       → IsTrue (has_all && true) ↔ AllByRecursion (HasIp list) addresses
   and_true addresses true told = told
   and_true addresses false told = told
-
-  -- a line is read of what is left
-  abbrev pub IsLineRead : Option (List ℕ) → Option (List ℕ) → List ℕ → Type 0
-  IsLineRead left later line = IfSome left (λ bytes. (bytes ≢ [])
-      × (later ≡ Some (drop_through 10 bytes)) × (line ≡ take_through 10 bytes))
 
   blank_told : (input : List ℕ) (left later before now next : Option (List ℕ)) (number : ℕ)
       (has_all has : Bool) (line : List ℕ)

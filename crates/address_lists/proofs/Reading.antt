@@ -5,11 +5,12 @@ use Rattle.std.specs.Io.BufRead.{drop_through, take_through}
 use Rattle.address_text.specs.Lines.{Says, SaysAddress}
 use Rattle.address_text.specs.declared.family.Family.{Family}
 use Rattle.address_text.specs.declared.line.Line.{Line}
+use Rattle.line_program.specs.Lines.{IsNextLine}
 use Rattle.address_lists.proofs.Lines.{any_append}
 use Rattle.address_lists.proofs.Shown.{shown_bad, shown_says}
 use Rattle.address_lists.specs.Lists.{AreAdded, AreGood, AreSaid, Has, HasJust, IsListed, SaysNothingKnown}
 use Rattle.address_lists.specs.Lists.AreGood.{Ended, Other, Said}
-use Rattle.address_lists.specs.Reading.{HasFaultFrom, IsBad, IsBadLine, IsNext, IsNextShown}
+use Rattle.address_lists.specs.Reading.{HasFaultFrom, IsBad, IsBadLine, IsNextShown}
 use Rattle.address_lists.specs.declared.addresses.Addresses.{Addresses}
 use Rattle.address_lists.specs.declared.read.BadLines.{BadLines}
 use Rattle.address_lists.specs.declared.read.BadLines.TheVariants.{Refused, Skipped}
@@ -81,7 +82,7 @@ module _ (strict : Bool) (first : ℕ) where
   good_read : (input : List ℕ) (left later : Option (List ℕ)) (number others : ℕ)
       (Had Before After : Family → ℕ → Type 0) (line : Line)
       → (read : IsReadTo input left number others Had Before)
-      → IsNext strict (Some read.remaining) later (λ text. Says strict text line)
+      → IsNextLine (Some read.remaining) later (λ text. Says strict text line)
       → IsTaken Before After line → IsReadTo input later (number + 1) others Had After
   good_read input left later number others Had Before After line read (some, later_is, says)
       taken = record {
@@ -102,7 +103,7 @@ module _ (strict : Bool) (first : ℕ) where
   other_read : (input : List ℕ) (left later : Option (List ℕ)) (number others : ℕ)
       (Had IsRead : Family → ℕ → Type 0)
       → (read : IsReadTo input left number others Had IsRead)
-      → IsNext strict (Some read.remaining) later (SaysNothingKnown strict)
+      → IsNextLine (Some read.remaining) later (SaysNothingKnown strict)
       → IsReadTo input later (number + 1) (others + 1) Had IsRead
   other_read input left later number others Had IsRead read (some, later_is, says) = record {
     remaining = drop_through 10 read.remaining;
@@ -121,22 +122,22 @@ module _ (strict : Bool) (first : ℕ) where
   pub line_read : (input left later : Option (List ℕ)) (number others : ℕ) (Had : Family → ℕ → Type 0)
       (Before After : Family → ℕ → Type 0) (line : Line)
       → IfSome input (λ bytes. IsReadTo bytes left number others Had Before)
-      → IsNext strict left later (λ text. Says strict text line) → IsTaken Before After line
+      → IsNextLine left later (λ text. Says strict text line) → IsTaken Before After line
       → IfSome input (λ bytes. IsReadTo bytes later (number + 1) others Had After)
   line_read None left later number others Had Before After line read one taken = tt
   line_read (Some bytes) left later number others Had Before After line read one taken =
       good_read bytes left later number others Had Before After line read
-      (subst (λ o. IsNext strict o later (λ text. Says strict text line)) read.left_is one) taken
+      (subst (λ o. IsNextLine o later (λ text. Says strict text line)) read.left_is one) taken
 
   pub line_left_out : (input left later : Option (List ℕ)) (number others : ℕ) (Had : Family → ℕ → Type 0)
       (IsRead : Family → ℕ → Type 0)
       → IfSome input (λ bytes. IsReadTo bytes left number others Had IsRead)
-      → IsNext strict left later (SaysNothingKnown strict)
+      → IsNextLine left later (SaysNothingKnown strict)
       → IfSome input (λ bytes. IsReadTo bytes later (number + 1) (others + 1) Had IsRead)
   line_left_out None left later number others Had IsRead read one = tt
   line_left_out (Some bytes) left later number others Had IsRead read one =
       other_read bytes left later number others Had IsRead read
-      (subst (λ o. IsNext strict o later (SaysNothingKnown strict)) read.left_is one)
+      (subst (λ o. IsNextLine o later (SaysNothingKnown strict)) read.left_is one)
 
   -- where no line is left, the whole input is read
   pub all_read : (input left : Option (List ℕ)) (number others : ℕ) (Had : Family → ℕ → Type 0)
@@ -221,7 +222,7 @@ module _ (strict : Bool) (first : ℕ) where
 
   pub good_found : (left later : Option (List ℕ)) (text seen : List ℕ) (line : Line)
       → seen ≡ text → IfSome left (λ bytes. IsNextShown bytes later text) → Says strict seen line
-      → IsNext strict left later (λ t. Says strict t line)
+      → IsNextLine left later (λ t. Says strict t line)
   good_found None later text seen line same read says = tt
   good_found (Some bytes) later text seen line same (some, later_is, shown) says = (
     some,

@@ -7,6 +7,7 @@ use Rattle.address_text.specs.Starts.{HasOneFault, IsBadStart, is_plain}
 use Rattle.address_text.specs.Lines.{AreAddresses, Says, SaysAddress, content}
 use Rattle.address_text.specs.declared.family.Family.{Family}
 use Rattle.address_text.specs.declared.line.Line.{Line}
+use Rattle.line_program.specs.Lines.{IsNextLine}
 use Rattle.address_lists.specs.Lists.{AreAdded, AreSaid, SaysNothingKnown}
 use Rattle.address_lists.specs.declared.read.Found.{Found}
 use Rattle.address_lists.specs.declared.read.Found.TheVariants.{Good, Other, End}
@@ -32,11 +33,6 @@ IsNextShown bytes later text = (bytes ≢ []) × (later ≡ Some (drop_through 1
     × IsShown text (take_through 10 bytes)
 
 module _ (strict : Bool) where
-  -- a line is read of the input, which goes on behind it
-  abbrev pub IsNext : Option (List ℕ) → Option (List ℕ) → (List ℕ → Type 0) → Type 0
-  IsNext left later Fits = IfSome left (λ bytes. (bytes ≢ [])
-      × (later ≡ Some (drop_through 10 bytes)) × Fits (take_through 10 bytes))
-
   -- what a line says, or that it says nothing known
   abbrev pub IsSaid : List ℕ → Option Line → Type 0
   IsSaid text (Some line) = AreAddresses line × Says strict text line
@@ -52,8 +48,8 @@ module _ (strict : Bool) where
   -- what is read next, of the input before and after
   abbrev pub IsFound : Option (List ℕ) → Option (List ℕ) → Found → Type 0
   IsFound left later (Good line) =
-      AreAddresses line × IsNext left later (λ text. Says strict text line)
-  IsFound left later Other = IsNext left later (SaysNothingKnown strict)
+      AreAddresses line × IsNextLine left later (λ text. Says strict text line)
+  IsFound left later Other = IsNextLine left later (SaysNothingKnown strict)
   IsFound left later End = IfSome left (λ bytes. bytes ≡ [])
 
   -- a line says nothing that is known, this is its number, and this was expected in the column

@@ -1,8 +1,8 @@
 -- The numbers of values, found one after the other.
 use Rattle.std.proofs.Common.{◌≡◌, ℕ, ◌+◌, ◌<◌, ◌≤◌, List, [], ◌∷◌, ◌++◌, length, drop, get_or, map, ap, sym, subst, ◌∙◌, append_assoc, arith}
-use Rattle.std.proofs.Math.Seq.{drop-cons}
 use Rattle.std.proofs.lemmas.List.{append-nil, drop_all, get_or_append_left, length-append}
 use Rattle.std.specs.Borrow.{Bor}
+use Rattle.line_program.proofs.Told.{item_first}
 use Rattle.address_rows.specs.Rows.{IsAt}
 use Rattle.address_rows.specs.Texts.{AreDifferent}
 use Rattle.address_table_commands.specs.Results.{AreMoreTexts, AreNumbers}
@@ -54,10 +54,6 @@ pub numbered_all : (values before now : List (List ℕ)) (numbers : List ℕ)
 numbered_all values before now numbers to =
     subst (AreNumbers now values) (append-nil numbers)
     (to.goes_on now [] [] (sym (append-nil now)) tt)
-
-item_first : {X : Type 0} (xs : List X) (i : ℕ) (x : X) → i < length xs
-    → drop i xs ≡ get_or xs i x ∷ drop (i + 1) xs
-item_first xs i x within = grind (arith, drop-cons)
 
 -- the values that are left
 pub value_first : (values : List (Bor (List ℕ))) (i : ℕ) (v : Bor (List ℕ)) → i < length values

@@ -6,7 +6,7 @@ use Rattle.line_program.specs.Listing.{Writes}
 use Rattle.line_program.proofs.Listing.{appends_none, appends_then}
 use Rattle.address_table_lists.specs.Counts.{AreCounted, IsCountOf}
 use Rattle.address_table_lists.specs.declared.table.Table.{Table}
-use Rattle.address_table_lists.proofs.Told.{item_first}
+use Rattle.line_program.proofs.Told.{item_first}
 
 module _ (table : Table) (all : List (List ℕ)) where
   -- the lines of the values before the one of this number are written

@@ -10,4 +10,3 @@ mod Selected
 mod Shown
 mod Stored
 mod TilesOf
-mod Told

@@ -3,9 +3,10 @@ use Rattle.std.proofs.Common.{◌≡◌, ◌⊎◌, ℕ, suc, ◌+◌, List, [],
 use Rattle.std.specs.Io.BufRead.{drop_through}
 use Rattle.std.proofs.lemmas.List.{append-nil, length-append}
 use Rattle.address_rows.specs.Rows.{Row}
+use Rattle.line_program.specs.Lines.{IsNextLine}
 use Rattle.address_lists.specs.declared.read.BadLines.{BadLines}
 use Rattle.address_lists.specs.declared.read.BadLines.TheVariants.{Refused, Skipped}
-use Rattle.address_table_lists.specs.Reading.{AreRead, HasRowFault, IsBadLine, IsBadRow, IsFound, IsNext}
+use Rattle.address_table_lists.specs.Reading.{AreRead, HasRowFault, IsBadLine, IsBadRow, IsFound}
 use Rattle.address_table_lists.specs.Reading.AreRead.{Ended, Said, Nothing, Other}
 use Rattle.address_table_lists.specs.Rows.{Hold, HoldMore}
 use Rattle.address_table_lists.specs.declared.read.Found.TheVariants as Founds
@@ -53,7 +54,7 @@ module _ (Says : List ℕ → Row → Type 0) (Alone : List ℕ → Type 0) wher
 
   said_next : (input : List ℕ) (left later : Option (List ℕ)) (number others : ℕ)
       (old mid new : Rows) (row : Row) → (read : IsReadTo input left number others old mid)
-      → IsNext Says Alone (Some read.remaining) later (λ line. (¬ Alone line) × Says line row)
+      → IsNextLine (Some read.remaining) later (λ line. (¬ Alone line) × Says line row)
       → HoldMore mid new (row ∷ []) → IsReadTo input later (number + 1) others old new
   said_next input left later number others old mid new row read (some, later_is, says) adds = record {
     remaining = drop_through 10 read.remaining;
@@ -74,7 +75,7 @@ module _ (Says : List ℕ → Row → Type 0) (Alone : List ℕ → Type 0) wher
 
   nothing_next : (input : List ℕ) (left later : Option (List ℕ)) (number others : ℕ)
       (old mid : Rows) → (read : IsReadTo input left number others old mid)
-      → IsNext Says Alone (Some read.remaining) later Alone
+      → IsNextLine (Some read.remaining) later Alone
       → IsReadTo input later (number + 1) others old mid
   nothing_next input left later number others old mid read (some, later_is, skips) = record {
     remaining = drop_through 10 read.remaining;
@@ -93,7 +94,7 @@ module _ (Says : List ℕ → Row → Type 0) (Alone : List ℕ → Type 0) wher
 
   other_next : (input : List ℕ) (left later : Option (List ℕ)) (number others : ℕ)
       (old mid : Rows) → (read : IsReadTo input left number others old mid)
-      → IsNext Says Alone (Some read.remaining) later (IsBadLine Says Alone)
+      → IsNextLine (Some read.remaining) later (IsBadLine Says Alone)
       → IsReadTo input later (number + 1) (others + 1) old mid
   other_next input left later number others old mid read (some, later_is, bad) = record {
     remaining = drop_through 10 read.remaining;
@@ -117,7 +118,7 @@ module _ (Says : List ℕ → Row → Type 0) (Alone : List ℕ → Type 0) wher
   row_read None left later number others old mid new read found = tt
   row_read (Some bytes) left later number others old mid new read (row, next, adds) =
       said_next bytes left later number others old mid new row read
-      (subst (λ o. IsNext Says Alone o later (λ line. (¬ Alone line) × Says line row))
+      (subst (λ o. IsNextLine o later (λ line. (¬ Alone line) × Says line row))
       read.left_is next) adds
 
   pub nothing_read : (input left later : Option (List ℕ)) (number others : ℕ) (old mid new : Rows)
@@ -128,7 +129,7 @@ module _ (Says : List ℕ → Row → Type 0) (Alone : List ℕ → Type 0) wher
   nothing_read (Some bytes) left later number others old mid new read (next, same) =
       subst (IsReadTo bytes later (number + 1) others old) (sym same)
       (nothing_next bytes left later number others old mid read
-      (subst (λ o. IsNext Says Alone o later Alone) read.left_is next))
+      (subst (λ o. IsNextLine o later Alone) read.left_is next))
 
   pub other_read : (input left later : Option (List ℕ)) (number others : ℕ) (old mid new : Rows)
       → IfSome input (λ bytes. IsReadTo bytes left number others old mid)
@@ -138,7 +139,7 @@ module _ (Says : List ℕ → Row → Type 0) (Alone : List ℕ → Type 0) wher
   other_read (Some bytes) left later number others old mid new read (next, same) =
       subst (IsReadTo bytes later (number + 1) (others + 1) old) (sym same)
       (other_next bytes left later number others old mid read
-      (subst (λ o. IsNext Says Alone o later (IsBadLine Says Alone)) read.left_is next))
+      (subst (λ o. IsNextLine o later (IsBadLine Says Alone)) read.left_is next))
 
   -- where no line is left, the whole input is read
   pub all_read : (input left later : Option (List ℕ)) (number others : ℕ) (old mid new : Rows)

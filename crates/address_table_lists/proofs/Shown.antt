@@ -1,14 +1,10 @@
 -- The entries that are left of a list, with their values.
 use Rattle.std.proofs.Common.{◌≡◌, ◌≢◌, ℕ, ◌+◌, ◌<◌, ◌≤◌, List, [], ◌∷◌, length, drop, get_or, map, refl, ap, sym, ◌∙◌, arith}
-use Rattle.std.proofs.Math.Seq.{drop-cons}
 use Rattle.std.proofs.lemmas.List.{drop_all}
 use Rattle.std.specs.Borrow.{Bor}
+use Rattle.line_program.proofs.Told.{item_first}
 use Rattle.address_tables.specs.Tables.{shown}
 use Rattle.address_tables.specs.declared.entries.Entry.{Entry}
-
-item_first : {X : Type 0} (xs : List X) (i : ℕ) (x : X) → i < length xs
-    → drop i xs ≡ get_or xs i x ∷ drop (i + 1) xs
-item_first xs i x within = grind (arith, drop-cons)
 
 module _ {A V : Type 0} where
   pub entry_first : (es : List (Entry A (Bor V))) (i : ℕ) (e : Entry A (Bor V)) → i < length es

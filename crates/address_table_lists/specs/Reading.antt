@@ -1,8 +1,9 @@
 -- The rows of a table that is read, and why one is not read.
-use Rattle.std.specs.Prelude.{◌≡◌, ◌≢◌, ◌+◌, ℕ, suc, Bool, true, false, List, [], ◌∷◌, Option, Some, IfSome, length}
+use Rattle.std.specs.Prelude.{◌≡◌, ◌≢◌, ◌+◌, ℕ, suc, Bool, true, false, List, [], ◌∷◌, Option, IfSome, length}
 use Rattle.std.specs.Io.BufRead.{drop_through, take_through}
 use Rattle.address_rows.specs.Lines.{SaysRow}
 use Rattle.address_rows.specs.Rows.{Row}
+use Rattle.line_program.specs.Lines.{IsNextLine}
 use Rattle.address_table_lists.specs.Rows.{HoldMore}
 use Rattle.address_table_lists.specs.declared.read.Found.{Found}
 use Rattle.address_table_lists.specs.declared.read.Found.TheVariants as Founds
@@ -49,17 +50,12 @@ module _ (Says : List ℕ → Row → Type 0) (Skipped : List ℕ → Type 0) wh
         → AreRead (drop_through 10 input) rows skipped others rest
         → AreRead input rows skipped (suc others) rest
 
-  -- a line is read of the input, which goes on behind it
-  abbrev pub IsNext : Option (List ℕ) → Option (List ℕ) → (List ℕ → Type 0) → Type 0
-  IsNext left later Fits = IfSome left (λ bytes. (bytes ≢ [])
-      × (later ≡ Some (drop_through 10 bytes)) × Fits (take_through 10 bytes))
-
   -- what is read next, of the input before and after, and what is held then
   abbrev pub IsFound : Option (List ℕ) → Option (List ℕ) → Rows → Rows → Found → Type 0
   IsFound left later old new Founds.Said =
-      (row : Row) × IsNext left later (λ line. (¬ Skipped line) × Says line row) × HoldMore old new (row ∷ [])
-  IsFound left later old new Founds.Nothing = IsNext left later Skipped × (new ≡ old)
-  IsFound left later old new Founds.Other = IsNext left later IsBadLine × (new ≡ old)
+      (row : Row) × IsNextLine left later (λ line. (¬ Skipped line) × Says line row) × HoldMore old new (row ∷ [])
+  IsFound left later old new Founds.Nothing = IsNextLine left later Skipped × (new ≡ old)
+  IsFound left later old new Founds.Other = IsNextLine left later IsBadLine × (new ≡ old)
   IsFound left later old new Founds.End = IfSome left (λ bytes. bytes ≡ []) × (new ≡ old)
 
   -- the first line of the bytes is bad, and this is its number

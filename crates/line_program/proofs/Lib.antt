@@ -2,3 +2,4 @@ mod FirstLine
 pub mod Progress
 pub mod Conversations
 pub mod Listing
+pub mod Told

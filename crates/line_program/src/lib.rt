@@ -9,7 +9,7 @@
 //! - a conversation seen in other states, as a program's in the lists that it stores:
 //!   `proofs/Conversations.antt`
 //! - lines cut at a byte, numbers written in digits, a line for each element of a list:
-//!   `src/line.rt`, `specs/{Lines,Listing}.antt`, `proofs/Listing.antt`
+//!   `src/line.rt`, `specs/{Lines,Listing}.antt`, `proofs/{Listing,Told}.antt`
 //! - the arguments and the standard streams of a program: `src/streams.rt`
 #![tactic(auto)]
 

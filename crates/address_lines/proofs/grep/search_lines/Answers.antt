@@ -1,7 +1,8 @@
 use Rattle.std.proofs.Common.{ap, Ok, subst, sym, arith, ◌≡◌, ℕ, List, [], Some}
 use Rattle.std.proofs.lemmas.Option.{IfSome_then}
 use Rattle.address_lines.specs.Found.{IsSought}
-use Rattle.address_lines.proofs.Found.{IsLineRead, all_searched, line_searched, one_at_most, searched_so_far}
+use Rattle.line_program.specs.Lines.{IsLineRead}
+use Rattle.address_lines.proofs.Found.{all_searched, line_searched, one_at_most, searched_so_far}
 use Rattle.address_lines.proofs.grep.search_lines.Goals as goal
 
 pub loop-number-preserved : goal.loop-number-preserved
@@ -17,7 +18,7 @@ loop-number-preserved g c =
           (g.W.Write.contents c.loop-number.out) (g.W.Write.contents c.search_line.new.out)
           c.loop-number.number c.loop-number.count c.from-count.result c.as_slice.result.now
           c.in-Ok.found c.from-count.ensures c.loop-number.invariant.1
-          (subst (IsLineRead IsSuch c.args.search.showing c.args.before.now left later)
+          (subst (IsLineRead left later)
           (sym c.as_slice.ensures.value)
           (c.in-Ok-true.ensures.read (ap Ok c.in-Ok-true.field-0-test)))
           c.in-Ok.ensures.found c.in-Ok.ensures.written,

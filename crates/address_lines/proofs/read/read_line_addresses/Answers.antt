@@ -1,6 +1,7 @@
 use Rattle.std.proofs.Common.{◌≡◌, ap, Ok, subst, sym, arith, ℕ, List, [], Some}
 use Rattle.std.proofs.lemmas.Option.{IfSome_then}
-use Rattle.address_lines.proofs.ReadLines.{IsLineRead, all_read, halted, line_read, line_unread, none_read}
+use Rattle.line_program.specs.Lines.{IsLineRead}
+use Rattle.address_lines.proofs.ReadLines.{all_read, halted, line_read, line_unread, none_read}
 use Rattle.address_lines.proofs.read.read_line_addresses.Goals as goal
 
 pub loop-number-init : goal.loop-number-init

@@ -4,7 +4,8 @@ use Rattle.std.specs.Prelude.{IfSome}
 use Rattle.address_lists.specs.declared.read.ListError.TheVariants.{Unread}
 use Rattle.address_lines.specs.declared.sought.Halt.TheVariants.{Bad}
 use Rattle.address_lines.specs.Sought.{AreToldUntil}
-use Rattle.address_lines.proofs.Told.{IsLineRead, all_told, bad_told, line_told, unread_told}
+use Rattle.line_program.specs.Lines.{IsLineRead}
+use Rattle.address_lines.proofs.Told.{all_told, bad_told, line_told, unread_told}
 use Rattle.address_lines.proofs.sought.tell_lines.Goals as goal
 
 pub loop-number-preserved : goal.loop-number-preserved
@@ -15,7 +16,7 @@ loop-number-preserved g c =
     (g.W.Write.contents c.args.out.now) (g.W.Write.contents c.loop-number.out)
     (g.W.Write.contents c.tell_line.new.out) c.loop-number.number c.loop-number.has_all c.in-Ok.has
     c.as_slice.result.now c.loop-number.invariant
-    (subst (IsLineRead c.args.list.now left later) (sym c.as_slice.ensures.value)
+    (subst (IsLineRead left later) (sym c.as_slice.ensures.value)
     (c.in-Ok-true.ensures.read (ap Ok c.in-Ok-true.field-0-test)))
     c.in-Ok.ensures.told
 
@@ -49,7 +50,7 @@ returns-in-Err-tell_line-clause-bad g c = λ error same.
     (g.W.Write.contents c.args.out.now) (g.W.Write.contents c.loop-number.out)
     c.loop-number.number c.loop-number.has_all c.as_slice.result.now error
     c.loop-number.invariant
-    (subst (IsLineRead c.args.list.now left later) (sym c.as_slice.ensures.value)
+    (subst (IsLineRead left later) (sym c.as_slice.ensures.value)
     (c.in-Ok-true.ensures.read (ap Ok c.in-Ok-true.field-0-test)))
     bad.0)
 

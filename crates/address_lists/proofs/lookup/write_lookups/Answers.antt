@@ -1,6 +1,6 @@
 use Rattle.std.proofs.lemmas.List.{drop_all}
 use Rattle.line_program.proofs.Listing.{shown_all, shown_more, shown_none}
-use Rattle.address_lists.proofs.Lookups.{item_first, told_all, told_more, told_none}
+use Rattle.line_program.proofs.Told.{item_first, told_all, told_more, told_none}
 use Rattle.address_lists.proofs.lookup.write_lookups.Goals as goal
 use Rattle.std.proofs.Common.{arith}
 

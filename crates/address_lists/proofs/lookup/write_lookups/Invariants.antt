@@ -1,7 +1,7 @@
 use Rattle.std.proofs.Common.{drop}
 use Rattle.line_program.proofs.Listing.{HasShown}
 use Rattle.address_lists.specs.Lookups.{HasIp, IsLookup}
-use Rattle.address_lists.proofs.Lookups.{AreTold}
+use Rattle.line_program.proofs.Told.{AreTold}
 use Rattle.address_lists.proofs.lookup.write_lookups.Given as goal
 
 abbrev pub invariant-loop-address : goal.invariant-loop-address

@@ -1,7 +1,7 @@
 use Rattle.std.proofs.Common.{arith}
 use Rattle.std.proofs.lemmas.List.{drop_all}
 use Rattle.line_program.proofs.Listing.{shown_all, shown_more, shown_none}
-use Rattle.address_table_lists.proofs.Told.{item_first, told_all, told_more, told_none}
+use Rattle.line_program.proofs.Told.{item_first, told_all, told_more, told_none}
 use Rattle.address_table_lists.proofs.lookup.write_values.Goals as goal
 
 pub loop-address-init : goal.loop-address-init

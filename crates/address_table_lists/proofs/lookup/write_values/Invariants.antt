@@ -1,7 +1,7 @@
 use Rattle.std.proofs.Common.{drop, map}
 use Rattle.line_program.proofs.Listing.{HasShown}
 use Rattle.address_table_lists.specs.Lookups.{HasValue, IsValueLine}
-use Rattle.address_table_lists.proofs.Told.{AreTold}
+use Rattle.line_program.proofs.Told.{AreTold}
 use Rattle.address_table_lists.proofs.lookup.write_values.Given as goal
 
 abbrev pub invariant-loop-address : goal.invariant-loop-address
