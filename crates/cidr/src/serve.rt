@@ -473,8 +473,9 @@ fn print_within<W: Write>(
 ///
 /// Where at most so many prefixes are printed, returns how many addresses were added for that.
 /// Prefixes are as few as can be, ascending, those of IPv4 first, each on a line; `out` is
-/// flushed. Nothing is printed where a source cannot be read or an allocation fails. Where each source
-/// is read apart, one list is held beside the answer. Adds to `left_out` how many bad lines are left out of each source.
+/// flushed. Nothing is printed where a source cannot be read or an allocation fails. `merge` and
+/// `invert` gather all sources in one set; else one list is held beside the answer. Adds to
+/// `left_out` how many bad lines are left out of each source.
 pub fn serve<R: LineRead + Drop, W: Write>(
     alloc: Global,
     command: Command,
