@@ -1,6 +1,7 @@
 -- A set to whose addresses none have to be added, since few prefixes have just these.
-use Rattle.std.proofs.Common.{◌≡◌, ℕ, ◌≤◌, ◌^◌, ◌↔◌, true, List, map, length, arith}
+use Rattle.std.proofs.Common.{◌≡◌, ℕ, ◌≤◌, ◌^◌, ◌↔◌, Bool, true, List, map, length, arith}
 use Rattle.std.specs.List.{AllByRecursion}
+use Rattle.std.specs.Prelude.{IsTrue}
 use Rattle.btree_range_map.specs.AnyRange.{AnyRange}
 use Rattle.btree_range_map.specs.FreeRanges.{item_ranges}
 use Rattle.btree_range_map.specs.Item.{Item}
@@ -36,18 +37,19 @@ module _ {A : Type 0} {order : KeyOrder A} {number : A → ℕ} {at : ℕ → A}
         let held = tested ps whole a key in
         (λ h. held.0 (same.1 (stored.0 h)), λ t. stored.1 (same.0 (held.1 t)))
 
-    -- the fewest prefixes are at most as many just where some are
-    pub few_within : (ps : List (Prefix A)) → AllByRecursion (IsPrefix number width) ps
-        → HaveJust number order ps (item_ranges items)
-        → AreFewest number order width ps (item_ranges items) → length ps ≤ most
-        → HaveAtMost number order width most (item_ranges items)
-    few_within ps whole just fewest few = (ps, whole, just, few)
-
-    pub within_few : (ps : List (Prefix A))
-        → AreFewest number order width ps (item_ranges items)
+    within_few : (ps : List (Prefix A)) → AreFewest number order width ps (item_ranges items)
         → HaveAtMost number order width most (item_ranges items) → length ps ≤ most
     within_few ps fewest (others, whole, just, few) =
         let fewer = fewest others whole just in omega (arith, fewer, few)
+
+    -- some prefixes are at most as many just where the fewest are
+    pub few_within : (ps : List (Prefix A)) → AllByRecursion (IsPrefix number width) ps
+        → HaveJust number order ps (item_ranges items)
+        → AreFewest number order width ps (item_ranges items) → (few : Bool)
+        → IsTrue few ↔ (length ps ≤ most)
+        → IsTrue few ↔ HaveAtMost number order width most (item_ranges items)
+    few_within ps whole just fewest few is =
+        (λ yes. (ps, whole, just, is.0 yes), λ has. is.1 (within_few ps fewest has))
 
     -- no prefixes with all addresses of the set have fewer
     pub itself_least : HaveAtMost number order width most (item_ranges items)

@@ -18,11 +18,8 @@ use Rattle.address_lists.specs.declared.addresses.Addresses.{Addresses}
 use Rattle.address_lists.specs.declared.read.ListError.{ListError}
 use Rattle.address_lists.specs.declared.read.ListError.TheVariants.{Unread}
 use Rattle.cidr.specs.Commands.{AreKnown, AreLists, Asked, Combined, IsAnswer, IsList, IsReadAnd, IsSaid, IsSaidInOne, IsStop, Put, left_out_of}
-use Rattle.line_program.specs.Listing.{Writes}
-use Rattle.cidr.specs.Shown.{IsShown}
 use Rattle.cidr_arguments.specs.declared.request.Command.{Command}
 use Rattle.cidr_arguments.specs.declared.request.Command.TheVariants.{Merge, Common, Except, Diff, Invert}
-use Rattle.cidr_arguments.specs.declared.request.Form.{Form}
 use Rattle.cidr.specs.declared.serve.Reading.{Reading}
 use Rattle.cidr.specs.declared.serve.Stop.{Stop}
 use Rattle.cidr.specs.declared.serve.Stop.TheVariants.{Bad, Memory, Unwritable}
