@@ -201,17 +201,17 @@ pub unread_one : (reading : Reading) (input : Option (List ℕ)) (name : String 
 unread_one reading None name error why = tt
 unread_one reading (Some bytes) name error why = inl (refl, why)
 
-out_of_memory : (reading : Reading) (input : Option (List ℕ)) (name : String Global)
-    → IsUnread reading input name Memory
-out_of_memory reading None name = tt
-out_of_memory reading (Some bytes) name = tt
+pub out_of_memory : (reading : Reading) (input : Option (List ℕ)) (name : String Global)
+    (stop : Stop) → stop ≡ Memory → IsUnread reading input name stop
+out_of_memory reading None name stop memory = tt
+out_of_memory reading (Some bytes) name stop memory =
+    subst (IsStop reading (name ∷ []) (bytes ∷ [])) (sym memory) tt
 
 pub uncounted : {X : Type 0} (reading : Reading) (input : Option (List ℕ)) (name : String Global)
     (result : Result X Stop) → IfErr result (λ stop. stop ≡ Memory)
     → IfErr result (IsUnread reading input name)
 uncounted reading input name (Ok done) memory = tt
-uncounted reading input name (Err stop) memory =
-    subst (IsUnread reading input name) (sym memory) (out_of_memory reading input name)
+uncounted reading input name (Err stop) memory = out_of_memory reading input name stop memory
 
 -- why not all sources are read
 abbrev pub AreUnread : Reading → List (Option (List ℕ)) → List (String Global) → Stop → Type 0

@@ -93,3 +93,8 @@ returns-in_err-gather-clause-bad g c =
     numbers IsMade c.in_err-gather.field-0.0
     (subst (IsPut files) steps (c.loop-source.invariant.1 files known))
     c.in_err-gather.ensures.bad)
+
+pub returns-in_err-gather-clause-unread : goal.returns-in_err-gather-clause-unread
+returns-in_err-gather-clause-unread g c =
+    let error = err_from_is_err_and c.from_residual.result c.from_residual.ensures.1 in
+    rw (error.1, error.2) c.in_err-gather.ensures.unread
