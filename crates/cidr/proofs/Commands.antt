@@ -430,10 +430,10 @@ just_merged reading files before numbers IsHad new added (lists, said, counted, 
 pub merged_asked : (task : Command) (new : Addresses) (lists : List (Content × ℕ))
     → (task ≡ Merge) ⊎ (task ≡ Invert) → HasJust new (IsSaidInOne lists)
     → HasJust new (Asked task lists)
-merged_asked Merge new lists which just family n h =
-    iff_then (just family n h) (merge_asked family n lists)
-merged_asked Invert new lists which just family n h =
-    iff_then (just family n h) (invert_asked family n lists)
+merged_asked Merge new lists which just =
+    λ family n h. iff_then (just family n h) (merge_asked family n lists)
+merged_asked Invert new lists which just =
+    λ family n h. iff_then (just family n h) (invert_asked family n lists)
 merged_asked Common new lists which just = absurd (elim which [ inl is ↦ cc | inr is ↦ cc ])
 merged_asked Except new lists which just = absurd (elim which [ inl is ↦ cc | inr is ↦ cc ])
 merged_asked Diff new lists which just = absurd (elim which [ inl is ↦ cc | inr is ↦ cc ])
