@@ -1,5 +1,5 @@
 -- What the blocks that add the fewest numbers are as a set of addresses.
-use Rattle.std.proofs.Common.{◌≡◌, ℕ, ◌+◌, ◌≤◌, ◌<◌, ◌^◌, ◌↔◌, Bool, true, List, [], ◌∷◌, map, length, inl, inr, ap, sym, subst, ◌∙◌, arith}
+use Rattle.std.proofs.Common.{◌≡◌, ℕ, ◌+◌, ◌≤◌, ◌^◌, ◌↔◌, true, List, [], ◌∷◌, map, length, inl, inr, ap, sym, ◌∙◌, arith}
 use Rattle.std.specs.List.{AllByRecursion}
 use Rattle.std.proofs.lemmas.List.{length-map}
 use Rattle.btree_range_map.specs.AnyRange.{AnyRange}
