@@ -1,5 +1,5 @@
 -- There are as many addresses of a kind as numbers that pass a test which says so.
-use Rattle.std.proofs.Common.{◌≡◌, ℕ, ◌+◌, ◌-◌, ◌≤◌, ◌<◌, ◌^◌, ◌↔◌, Bool, true, false, List, [], ◌∷◌, length, inl, inr, refl, ap, sym, ◌∙◌, arith}
+use Rattle.std.proofs.Common.{◌≡◌, ℕ, ◌+◌, ◌-◌, ◌≤◌, ◌<◌, ◌^◌, ◌↔◌, Bool, true, false, List, [], ◌∷◌, length, inl, inr, refl, ap, sym, subst, ◌∙◌, arith}
 use Rattle.std.specs.Cmp.{ranked, nat_cmp_is}
 use Rattle.std.specs.List.{AllByRecursion}
 use Rattle.std.specs.declared.cmp.Ordering.TheVariants.{Equal}
@@ -84,15 +84,27 @@ module _ {A : Type 0} {order : KeyOrder A} {number : A → ℕ} {at : ℕ → A}
   zero_low [] = tt
   zero_low (a ∷ keys) = (omega arith, zero_low keys)
 
+  -- each number is the number of an address
+  pub key_at : (n : ℕ) → n < 2 ^ width → order.is_key (at n)
+  key_at n small =
+      let e = family.at_number n small in family.is_address (at n) (omega (arith, e, small))
+
+  -- what is so of an address just where a test says so of its number is tested by numbers
+  pub by_number : (P : A → Type 0) (f : ℕ → Bool)
+      → ((a : A) → order.is_key a → P a ↔ (f (number a) ≡ true))
+      → (k : ℕ) → k < 2 ^ width → P (at k) ↔ (f k ≡ true)
+  by_number P f h k small =
+      subst (λ n. P (at k) ↔ (f n ≡ true)) (family.at_number k small) (h (at k) (key_at k small))
+
   pub number_is : (P : A → Type 0) (f : ℕ → Bool)
-      → ((k : ℕ) → k < 2 ^ width → P (at k) ↔ (f k ≡ true)) → (n : ℕ) → IsNumberOfKeys order P n
-      → n ≡ how_many (2 ^ width) f
-  number_is P f is n count =
+      → ((a : A) → order.is_key a → P a ↔ (f (number a) ≡ true)) → (n : ℕ)
+      → IsNumberOfKeys order P n → n ≡ how_many (2 ^ width) f
+  number_is P f tested n count =
+      let is = by_number P f tested in
       let all_low = zero_low count.keys in
       let counted = count_keys count.keys 0 (2 ^ width) f (omega arith) count.in_type count.rising all_low
       (λ k past fits.
-      let here : number (at k) ≡ k = family.at_number k fits in
-      let key = family.is_address (at k) (omega (arith, here, fits)) in (
+      let key = key_at k fits in (
         λ listed. (is k fits).0 ((count.listed (at k) key).1 listed),
         λ t. (count.listed (at k) key).0 ((is k fits).1 t),
       )) in

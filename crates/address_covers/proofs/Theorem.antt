@@ -1,5 +1,5 @@
 -- What the blocks that add the fewest numbers are as a set of addresses.
-use Rattle.std.proofs.Common.{◌≡◌, ℕ, ◌+◌, ◌≤◌, ◌<◌, ◌^◌, ◌↔◌, Bool, true, List, [], ◌∷◌, map, length, inl, inr, ap, sym, subst, ◌∙◌, arith}
+use Rattle.std.proofs.Common.{◌≡◌, ℕ, ◌+◌, ◌≤◌, ◌^◌, ◌↔◌, true, List, [], ◌∷◌, map, length, inl, inr, ap, sym, ◌∙◌, arith}
 use Rattle.std.specs.List.{AllByRecursion}
 use Rattle.std.proofs.lemmas.List.{length-map}
 use Rattle.btree_range_map.specs.AnyRange.{AnyRange}
@@ -20,12 +20,12 @@ use Rattle.least_covers.specs.Trees.{IsBlock}
 use Rattle.least_covers.specs.declared.blocks.Block.{Block}
 use Rattle.address_covers.specs.Blocks.{HoldsBlocks}
 use Rattle.address_covers.specs.Covers.{AreAdded, AreLeast, HaveAtMost}
-use Rattle.address_covers.proofs.Numbers.{number_is}
+use Rattle.address_covers.proofs.Numbers.{key_at, number_is}
 use Rattle.address_covers.proofs.Prefixes.{block_of, prefix_of, prefixes_are, prefixes_hold, prefixes_ranges, ranges_hold}
 use Rattle.address_covers.proofs.Runs.{has_in, in_has}
 
 -- a stored range holds the key just where one of the ranges does
-stored_holds : {A V : Type 0} (order : KeyOrder A) (items : List (Item (AnyRange A) V)) (a : A)
+pub stored_holds : {A V : Type 0} (order : KeyOrder A) (items : List (Item (AnyRange A) V)) (a : A)
     → HoldsKey order items a ↔ Any (λ r. Holds order r a) (item_ranges items)
 stored_holds order [] a = (λ none. none, λ none. none)
 stored_holds order (i ∷ items) a =
@@ -39,10 +39,6 @@ module _ {A : Type 0} {order : KeyOrder A} {number : A → ℕ} {at : ℕ → A}
     (runs : List (ℕ × ℕ)) (bs : List Block)
     (are : AreRuns (λ n. HoldsKey order items (at n)) (2 ^ width) runs)
     (blocks : AllByRecursion (IsBlock width) bs) (is : HoldsBlocks order at width cover bs) where
-  key_at : (n : ℕ) → n < 2 ^ width → order.is_key (at n)
-  key_at n small =
-      let e = family.at_number n small in family.is_address (at n) (omega (arith, e, small))
-
   set_has : (a : A) → order.is_key a → HoldsKey order items a ↔ (has runs (number a) ≡ true)
   set_has a key =
       let both = in_runs family (HoldsKey order items) runs are a key in (
@@ -56,13 +52,6 @@ module _ {A : Type 0} {order : KeyOrder A} {number : A → ℕ} {at : ℕ → A}
         λ h. both.0 ((is a key).0 h),
         λ t. (is a key).1 (both.1 t),
       )
-
-  -- what is so of an address just where a test says so of its number is tested by numbers
-  by_number : (P : A → Type 0) (f : ℕ → Bool)
-      → ((a : A) → order.is_key a → P a ↔ (f (number a) ≡ true))
-      → (k : ℕ) → k < 2 ^ width → P (at k) ↔ (f k ≡ true)
-  by_number P f h k small =
-      subst (λ n. P (at k) ↔ (f n ≡ true)) (family.at_number k small) (h (at k) (key_at k small))
 
   pub covers : Covers width runs bs → BindKeysOf order items cover
   covers all a key held =
@@ -85,14 +74,12 @@ module _ {A : Type 0} {order : KeyOrder A} {number : A → ℕ} {at : ℕ → A}
   are_least most least others whole few all n m first second =
       let their : List Block = map (block_of family) others in
       let l = length-map others (block_of family) in
-      let one = number_is family (HoldsKey order cover) (are_held width bs)
-      (by_number (HoldsKey order cover) (are_held width bs) cover_has) n first in
+      let one = number_is family (HoldsKey order cover) (are_held width bs) cover_has n first in
       let two = number_is family (SomeHasAddress number others) (are_held width their)
-      (by_number (SomeHasAddress number others) (are_held width their)
-      (λ a key. prefixes_hold family others whole a (family.counted.in_size a key))) m second in
+      (λ a key. prefixes_hold family others whole a (family.counted.in_size a key)) m second in
       let fewest = least their (omega (arith, l, few)) (λ k small passes.
       let e = family.at_number k small in
-      let key = key_at k small in
+      let key = key_at family k small in
       let held_here : HoldsKey order items (at k) =
       (set_has (at k) key).1 (ap (λ x. has runs x) e ∙ passes) in
       ap (λ x. are_held width their x) (sym e)
@@ -102,8 +89,6 @@ module _ {A : Type 0} {order : KeyOrder A} {number : A → ℕ} {at : ℕ → A}
   pub are_added : (added : ℕ) → held width bs ≡ how_many (2 ^ width) (has runs) + added
       → AreAdded order items cover added
   are_added added e n m first second =
-      let one = number_is family (HoldsKey order items) (has runs)
-      (by_number (HoldsKey order items) (has runs) set_has) n first in
-      let two = number_is family (HoldsKey order cover) (are_held width bs)
-      (by_number (HoldsKey order cover) (are_held width bs) cover_has) m second in
+      let one = number_is family (HoldsKey order items) (has runs) set_has n first in
+      let two = number_is family (HoldsKey order cover) (are_held width bs) cover_has m second in
       omega (arith, one, two, e)

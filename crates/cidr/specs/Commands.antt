@@ -1,9 +1,9 @@
 -- What the commands make of lists.
-use Rattle.std.specs.Prelude.{◌≡◌, ℕ, ◌⊎◌, Option, Some, List, [], ◌∷◌, map, String}
+use Rattle.std.specs.Prelude.{◌≡◌, ℕ, ◌⊎◌, Option, Some, List, [], ◌∷◌, ◌++◌, map, IfSome, String}
 use Rattle.std.specs.declared.alloc.Global.{Global}
+use Rattle.btree_range_map.specs.Intervals.{Any}
 use Rattle.address_text.specs.declared.family.Family.{Family}
-use Rattle.address_lists.specs.Files.{IsFile, IsFileReason}
-use Rattle.address_lists.specs.Lists.{Has}
+use Rattle.address_lists.specs.Files.{Content, IsContent, IsFile, IsFileReason, IsSaidIn}
 use Rattle.address_lists.specs.Reading.{MayFail}
 use Rattle.address_lists.specs.declared.addresses.Addresses.{Addresses}
 use Rattle.address_lists.specs.declared.read.ListError.{ListError}
@@ -24,17 +24,28 @@ AreKnown (input ∷ inputs) (bytes ∷ files) = (input ≡ Some bytes) × AreKno
 abbrev pub IsList : Reading → List ℕ → Addresses × ℕ → Type 0
 IsList reading bytes list = IsFile reading.strict reading.bad_lines bytes list.0 list.1
 
--- those of each file
-abbrev pub AreLists : Reading → List (List ℕ) → List (Addresses × ℕ) → Type 0
+-- what a file says, and how many lines are left out of it
+abbrev pub IsSaid : Reading → List ℕ → Content × ℕ → Type 0
+IsSaid reading bytes list = IsContent reading.strict reading.bad_lines bytes list.0 list.1
+
+-- what each file says
+abbrev pub AreLists : Reading → List (List ℕ) → List (Content × ℕ) → Type 0
 AreLists reading [] [] = Unit {0}
 AreLists reading [] (list ∷ lists) = ⊥
 AreLists reading (bytes ∷ files) [] = ⊥
 AreLists reading (bytes ∷ files) (list ∷ lists) =
-    IsList reading bytes list × AreLists reading files lists
+    IsSaid reading bytes list × AreLists reading files lists
 
 -- how many lines are left out of each
-abbrev pub left_out_of : List (Addresses × ℕ) → List ℕ
-left_out_of lists = map (λ (list : Addresses × ℕ). list.1) lists
+abbrev pub left_out_of : List (Content × ℕ) → List ℕ
+left_out_of lists = map (λ (list : Content × ℕ). list.1) lists
+
+-- where the bytes of a file are known, it says something of which this is so, and its lines that
+-- are left out are counted
+abbrev pub IsReadAnd : Reading → Option (List ℕ) → List ℕ → List ℕ → (Content × ℕ → Type 0)
+    → Type 0
+IsReadAnd reading input before now Then = IfSome input (λ bytes. (list : Content × ℕ)
+    × IsSaid reading bytes list × (now ≡ before ++ list.1 ∷ []) × Then list)
 
 -- the first file that is not read has this name and this reason; the files before it are read
 abbrev pub IsBadAmong : Reading → List (String Global) → List (List ℕ) → String Global
@@ -43,7 +54,7 @@ IsBadAmong reading [] files name error = ⊥
 IsBadAmong reading (first ∷ names) [] name error = ⊥
 IsBadAmong reading (first ∷ names) (bytes ∷ files) name error =
     ((name ≡ first) × IsFileReason reading.strict reading.bad_lines bytes error)
-    ⊎ ((list : Addresses × ℕ) × IsList reading bytes list
+    ⊎ ((list : Content × ℕ) × IsSaid reading bytes list
     × IsBadAmong reading names files name error)
 
 -- the commands stop for this reason
@@ -61,17 +72,21 @@ Combined Except P Q family n = P family n × ¬ Q family n
 Combined Diff P Q family n = (P family n × ¬ Q family n) ⊎ ((¬ P family n) × Q family n)
 Combined Invert P Q family n = P family n ⊎ Q family n
 
+-- one of the lists says the address
+abbrev pub IsSaidInOne : List (Content × ℕ) → Family → ℕ → Type 0
+IsSaidInOne lists family n = Any (λ (list : Content × ℕ). IsSaidIn list.0 family n) lists
+
 -- some addresses, put together with those of lists, one after the other
-abbrev pub Put : Command → (Family → ℕ → Type 0) → List (Addresses × ℕ) → Family → ℕ → Type 0
+abbrev pub Put : Command → (Family → ℕ → Type 0) → List (Content × ℕ) → Family → ℕ → Type 0
 Put task P [] = P
-Put task P (list ∷ lists) = Put task (Combined task P (Has list.0)) lists
+Put task P (list ∷ lists) = Put task (Combined task P (IsSaidIn list.0)) lists
 
 -- the addresses of lists, put together
-abbrev pub Asked : Command → List (Addresses × ℕ) → Family → ℕ → Type 0
+abbrev pub Asked : Command → List (Content × ℕ) → Family → ℕ → Type 0
 Asked task [] = λ family n. ⊥
-Asked task (list ∷ lists) = Put task (Has list.0) lists
+Asked task (list ∷ lists) = Put task (IsSaidIn list.0) lists
 
 -- what the command says of lists: of `invert` all other addresses
-abbrev pub IsAnswer : Command → List (Addresses × ℕ) → Family → ℕ → Type 0
+abbrev pub IsAnswer : Command → List (Content × ℕ) → Family → ℕ → Type 0
 IsAnswer Invert lists family n = ¬ Asked Invert lists family n
 IsAnswer task lists family n = Asked task lists family n

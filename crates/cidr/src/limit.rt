@@ -24,12 +24,13 @@ pub struct Limited {
 }
 
 /// A list of which each family has at most so many prefixes, with the fewest addresses more.
-fn covered(alloc: Global, list: &Addresses, most: u32) -> Result<Limited, MapError>
+fn covered(alloc: Global, list: Addresses, most: u32) -> Result<Limited, MapError>
     requires { 0 < most }
-    ensures { IfOk result (λ new. IsCovered most list.now new.list new.added) }
+    ensures { IfOk result (λ new. IsCovered most list new.list new.added) }
 {
-    let v4 = least_cover(alloc, &list.v4, most)?;
-    let v6 = least_cover(alloc, &list.v6, most)?;
+    let Addresses { v4, v6 } = list;
+    let v4 = least_cover(alloc, v4, most)?;
+    let v6 = least_cover(alloc, v6, most)?;
     Ok(Limited {
         list: Addresses {
             v4: v4.set,
@@ -48,7 +49,7 @@ pub fn limit_list(alloc: Global, list: Addresses, most: Option<u32>) -> Result<L
     ensures { IfOk result (λ new. IsLimited most list new.list new.added) }
 {
     match most {
-        Some(most) if most > 0 => covered(alloc, &list, most),
+        Some(most) if most > 0 => covered(alloc, list, most),
         _ => Ok(Limited {
             list,
             added: Added { v4: 0, v6: 0 },

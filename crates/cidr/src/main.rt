@@ -11,7 +11,8 @@
 //! - files of firewalls: `src/firewall.rt`, `specs/Firewalls.antt`; lists that have few prefixes:
 //!   `src/limit.rt`, `specs/Limits.antt`
 //! - the commands over tables, which the crate `address_table_commands` has: `src/table.rt`
-//! - what is written, and why that failed: `src/output.rt`
+//! - what is written, and why that failed: `src/output.rt`; why a request is not answered:
+//!   `src/unanswered.rt`
 #![tactic(auto)]
 
 mod compare;
@@ -24,6 +25,7 @@ mod output;
 mod progress;
 mod serve;
 mod table;
+mod unanswered;
 
 use crate::compare::compare;
 use crate::inputs::{Input, ToldInput};
@@ -33,6 +35,7 @@ use crate::lookup::look_up;
 use crate::output::Noted;
 use crate::serve::{Reading, Source, Stop, read_source, serve};
 use crate::table::answer_tables;
+use crate::unanswered::Unanswered;
 use address_lines::{Search, Showing};
 use address_lists::{Addresses, BadLines};
 use anyhow::{Context, bail};
@@ -97,15 +100,11 @@ fn combine_files<W: Write>(
     output: &Output<'_>,
     left_out: &mut Vec<u64>,
     out: &mut W,
-) -> anyhow::Result<Result<bool, Stop>> {
+) -> Result<bool, Unanswered> {
     let sources = sources(rt, files)?;
-    match serve(rt.alloc(), command, sources, reading, output, left_out, out) {
-        Ok(added) => {
-            tell_added(rt, added)?;
-            Ok(Ok(true))
-        }
-        Err(stop) => Ok(Err(stop)),
-    }
+    let added = serve(rt.alloc(), command, sources, reading, output, left_out, out)?;
+    tell_added(rt, added)?;
+    Ok(true)
 }
 
 fn compare_files<W: Write>(
@@ -115,11 +114,11 @@ fn compare_files<W: Write>(
     reading: Reading,
     left_out: &mut Vec<u64>,
     out: &mut W,
-) -> anyhow::Result<Result<bool, Stop>> {
+) -> Result<bool, Unanswered> {
     let first = source(rt, first)?;
     let second = source(rt, second)?;
-    let compared = compare(rt.alloc(), first, second, reading, left_out, out);
-    Ok(compared.map(|()| true))
+    compare(rt.alloc(), first, second, reading, left_out, out)?;
+    Ok(true)
 }
 
 fn look_up_in_file<W: Write>(
@@ -129,14 +128,14 @@ fn look_up_in_file<W: Write>(
     reading: Reading,
     left_out: &mut Vec<u64>,
     out: &mut W,
-) -> anyhow::Result<Result<bool, Stop>> {
+) -> Result<bool, Unanswered> {
     let list = source(rt, file)?;
     let alloc = rt.alloc();
     Ok(match sought {
         Sought::These(addresses) => {
-            look_up(alloc, list, reading, addresses.as_slice(), left_out, out)
+            look_up(alloc, list, reading, addresses.as_slice(), left_out, out)?
         }
-        Sought::Lines => look_up_lines(alloc, list, source(rt, "-")?, reading, left_out, out),
+        Sought::Lines => look_up_lines(alloc, list, source(rt, "-")?, reading, left_out, out)?,
     })
 }
 
@@ -155,6 +154,14 @@ fn search_of(wanted: Wanted) -> Search {
     }
 }
 
+/// What stands before each line of the text of this name, where it is alone or one of several.
+fn line_start(rt: &HostRuntime, name: &str, is_alone: bool) -> anyhow::Result<String> {
+    if is_alone {
+        return Ok(String::new(rt.alloc()));
+    }
+    Ok(format!(in rt.alloc(); "{name}:")?)
+}
+
 /// Writes what is sought of the texts of these names. Where there are several, each line has the
 /// name of its text before it. Returns whether anything is found.
 fn search_texts<W: Write>(
@@ -163,21 +170,15 @@ fn search_texts<W: Write>(
     names: &[&str],
     wanted: Wanted,
     out: &mut W,
-) -> anyhow::Result<Result<bool, Stop>> {
+) -> Result<bool, Unanswered> {
     let alloc = rt.alloc();
     let mut found_any = false;
     for name in names {
-        let before = match names {
-            [_] => String::new(alloc),
-            _ => format!(in alloc; "{name}:")?,
-        };
+        let before = line_start(rt, name, names.len() == 1)?;
         let text = source(rt, name)?;
-        match search_text(alloc, list, search_of(wanted), before.as_str(), text, out) {
-            Ok(found) => found_any |= found,
-            Err(stop) => return Ok(Err(stop)),
-        }
+        found_any |= search_text(alloc, list, search_of(wanted), before.as_str(), text, out)?;
     }
-    Ok(Ok(found_any))
+    Ok(found_any)
 }
 
 fn search_files<W: Write>(
@@ -188,15 +189,12 @@ fn search_files<W: Write>(
     reading: Reading,
     left_out: &mut Vec<u64>,
     out: &mut W,
-) -> anyhow::Result<Result<bool, Stop>> {
-    let list = match read_source(rt.alloc(), source(rt, file)?, reading, left_out) {
-        Ok(list) => list,
-        Err(stop) => return Ok(Err(stop)),
-    };
+) -> Result<bool, Unanswered> {
+    let list = read_source(rt.alloc(), source(rt, file)?, reading, left_out)?;
     let found = search_texts(rt, &list, texts, wanted, out)?;
     match out.flush() {
         Ok(()) => Ok(found),
-        Err(_) => Ok(Err(Stop::Unwritable)),
+        Err(_) => Err(Unanswered::Stopped(Stop::Unwritable)),
     }
 }
 
@@ -207,7 +205,7 @@ fn answer<W: Write>(
     request: &Request<'_>,
     left_out: &mut Vec<u64>,
     out: &mut W,
-) -> anyhow::Result<Result<bool, Stop>> {
+) -> Result<bool, Unanswered> {
     let reading = reading_of(request);
     match &request.task {
         Task::Combine(command, files, output) => {
@@ -241,36 +239,42 @@ fn tell_left_out(rt: &HostRuntime, task: &Task<'_>, left_out: &[u64]) -> io::Res
     Ok(())
 }
 
-/// Answers on standard output, or nowhere where that is asked. Why the answer could not be written
-/// stands beside.
+/// Answers on standard output, or nowhere where that is asked.
 fn answered(
     rt: &HostRuntime,
     request: &Request<'_>,
     left_out: &mut Vec<u64>,
-) -> anyhow::Result<(Result<bool, Stop>, Option<Failure>)> {
+) -> Result<bool, Unanswered> {
     if request.is_quiet {
-        return Ok((answer(rt, request, left_out, &mut io::sink())?, None));
+        return answer(rt, request, left_out, &mut io::sink());
     }
     let out = Noted::new(rt.stdout());
     let mut out = BufWriter::with_capacity(rt.alloc(), BUFFER_BYTES, out)?;
-    let done = answer(rt, request, left_out, &mut out)?;
-    Ok((done, out.get_ref().failure()))
+    let done = answer(rt, request, left_out, &mut out);
+    match (done, out.get_ref().failure()) {
+        // Nobody reads any more.
+        (Err(Unanswered::Stopped(Stop::Unwritable)), Some(Failure::BrokenPipe)) => Ok(false),
+        (Err(Unanswered::Stopped(Stop::Unwritable)), Some(failure)) => {
+            Err(Unanswered::Unwritten(failure))
+        }
+        (done, _) => done,
+    }
 }
 
 /// Does what the arguments ask, and returns the exit status.
 fn run(rt: &HostRuntime, request: &Request<'_>) -> anyhow::Result<ExitCode> {
     let mut left_out = Vec::new(rt.alloc());
-    let (done, failure) = answered(rt, request, &mut left_out)?;
-    tell_left_out(rt, &request.task, left_out.as_slice())?;
-    match (done, failure) {
-        (Ok(true), _) => Ok(ExitCode::SUCCESS),
-        // Nobody reads any more.
-        (Ok(false), _) | (Err(Stop::Unwritable), None | Some(Failure::BrokenPipe)) => {
-            Ok(ExitCode::FAILURE)
-        }
-        (Err(Stop::Unwritable), Some(failure)) => bail!("standard output: {failure}"),
-        (Err(Stop::Memory), _) => bail!("out of memory"),
-        (Err(Stop::Bad(name, error)), _) => bail!("{name}: {error}"),
+    let done = answered(rt, request, &mut left_out);
+    if !matches!(&done, Err(Unanswered::Failed(_))) {
+        tell_left_out(rt, &request.task, left_out.as_slice())?;
+    }
+    match done {
+        Ok(true) => Ok(ExitCode::SUCCESS),
+        Ok(false) | Err(Unanswered::Stopped(Stop::Unwritable)) => Ok(ExitCode::FAILURE),
+        Err(Unanswered::Stopped(Stop::Memory)) => bail!("out of memory"),
+        Err(Unanswered::Stopped(Stop::Bad(name, error))) => bail!("{name}: {error}"),
+        Err(Unanswered::Unwritten(failure)) => bail!("standard output: {failure}"),
+        Err(Unanswered::Failed(error)) => Err(error),
     }
 }
 

@@ -4,12 +4,14 @@ ghost use Rattle.std.specs.Prelude.{◌≡◌, ◌≢◌, ◌⊎◌, ◌++◌, �
 ghost use Rattle.std.specs.declared.alloc.Global.{Global};
 ghost use Rattle.std.specs.Vec.Iter.{into_iter_items, into_iter_len};
 ghost use Rattle.std.specs.Io.KnownBytes.{Appends};
-ghost use Rattle.address_lists.specs.Lists.{Has, HasJust};
+ghost use Rattle.address_lists.specs.Files.{Content, IsSaidIn};
+ghost use Rattle.address_lists.specs.Lists.{AreAdded, Has, HasJust};
+ghost use Rattle.address_lists.specs.Waiting.{HasSoFar};
 ghost use Rattle.address_lists.specs.declared.addresses.Addresses.{Addresses};
 ghost use Rattle.address_lists.specs.declared.read.ListError.TheVariants.{Unread};
 ghost use Rattle.address_text.specs.declared.family.Family.TheVariants.{V4, V6};
 ghost use Rattle.line_program.specs.Listing.{Writes};
-ghost use Rattle.cidr.specs.Commands.{AreKnown, AreLists, Asked, Combined, IsAnswer, IsList, IsStop, Put, left_out_of};
+ghost use Rattle.cidr.specs.Commands.{AreKnown, AreLists, Asked, Combined, IsAnswer, IsList, IsReadAnd, IsSaidInOne, IsStop, Put, left_out_of};
 ghost use Rattle.cidr.specs.Firewalls.{IsFirewallFile, IsSetText};
 ghost use Rattle.cidr.specs.Limits.{IsShownWithin};
 ghost use Rattle.cidr.specs.Shown.{AreShown, IsShown, Kept};
@@ -19,8 +21,9 @@ ghost use Rattle.cidr.specs.declared.serve.Stop.TheVariants.{Bad, Memory, Unwrit
 use crate::firewall::{Firewall, SetText, set_text, write_sets};
 use crate::limit::{Added, Limited, limit_list};
 use address_lists::{
-    Addresses, BadLines, ListError, empty_set, list_to_text, read_addresses, write_counts,
-    write_prefixes_around, write_ranges, write_singles, write_split_prefixes,
+    Addresses, BadLines, ListError, Waiting, empty_set, gather_addresses, list_to_text,
+    read_addresses, write_counts, write_prefixes_around, write_ranges, write_singles,
+    write_split_prefixes,
 };
 use address_text::Family;
 use address_text::write::Around;
@@ -57,15 +60,13 @@ pub enum Stop {
     Unwritable,
 }
 
-/// Adds how many bad lines are left out of a list, and hands out its addresses.
-fn counted(found: (Addresses, u64), left_out: &mut Vec<u64>) -> Result<Addresses, Stop>
-    ensures same { IfOk result (λ list. list ≡ found.0) }
-    ensures counted { OnOk result (left_out.new.items ≡ left_out.old.items ++ found.1 ∷ []) }
+/// Adds how many bad lines are left out of a list.
+fn count(others: u64, left_out: &mut Vec<u64>) -> Result<(), Stop>
+    ensures counted { OnOk result (left_out.new.items ≡ left_out.old.items ++ others ∷ []) }
     ensures memory { IfErr result (λ stop. stop ≡ Memory) }
 {
-    let (list, others) = found;
     match left_out.push(others) {
-        Ok(()) => Ok(list),
+        Ok(()) => Ok(()),
         Err(_) => Err(Stop::Memory),
     }
 }
@@ -88,8 +89,66 @@ pub fn read_source<R: LineRead + Drop>(
     let Source { name, mut reader } = source;
     let Reading { strict, bad_lines } = reading;
     match read_addresses(alloc, &mut reader, strict, bad_lines) {
-        Ok(found) => counted(found, left_out),
+        Ok((list, others)) => {
+            count(others, left_out)?;
+            Ok(list)
+        }
         Err(error) => Err(Stop::Bad(name, error)),
+    }
+}
+
+/// Gathers the addresses of a list. Adds how many bad lines are left out of it.
+fn gather<R: LineRead + Drop>(
+    alloc: Global,
+    waiting: &mut Waiting,
+    list: &mut Addresses,
+    source: Source<R>,
+    reading: Reading,
+    left_out: &mut Vec<u64>,
+) -> Result<(), Stop>
+    ensures read { OnOk result (IsReadAnd reading (R.remaining source.reader) left_out.old.items
+        left_out.new.items (λ one. AreAdded (HasSoFar list.old waiting.old)
+        (HasSoFar list.new waiting.new) (IsSaidIn one.0))) }
+    ensures bad { IfErr result (λ stop. IfSome (R.remaining source.reader)
+        (λ bytes. IsStop reading (source.name ∷ []) (bytes ∷ []) stop)) }
+    ensures unread { IfErr result (λ stop. (name : String Global)
+        → stop ≡ Bad name Unread → R.fails) }
+{
+    let Source { name, mut reader } = source;
+    let Reading { strict, bad_lines } = reading;
+    match gather_addresses(alloc, waiting, list, &mut reader, strict, bad_lines) {
+        Ok(others) => count(others, left_out),
+        Err(error) => Err(Stop::Bad(name, error)),
+    }
+}
+
+/// The addresses of all sources together.
+fn merged<R: LineRead + Drop>(
+    alloc: Global,
+    mut sources: IntoIter<Source<R>>,
+    reading: Reading,
+    left_out: &mut Vec<u64>,
+) -> Result<Addresses, Stop>
+    requires { into_iter_len sources ≡ length (into_iter_items sources) }
+    ensures made { IfOk result (λ new. (files : List (List ℕ))
+        → AreKnown (map (λ s. R.remaining s.reader) (into_iter_items sources)) files
+        → (lists : List (Content × ℕ)) × AreLists reading files lists
+        × (left_out.new.items ≡ left_out.old.items ++ left_out_of lists)
+        × HasJust new (IsSaidInOne lists)) }
+    ensures bad { IfErr result (λ stop. (files : List (List ℕ))
+        → AreKnown (map (λ s. R.remaining s.reader) (into_iter_items sources)) files
+        → IsStop reading (map (λ s. s.name) (into_iter_items sources)) files stop) }
+    ensures unread { IfErr result (λ stop. (name : String Global)
+        → stop ≡ Bad name Unread → R.fails) }
+{
+    let mut list = Addresses::new(alloc);
+    let mut waiting = Waiting::new(alloc);
+    while let Some(source) = sources.next() {
+        gather(alloc, &mut waiting, &mut list, source, reading, left_out)?;
+    }
+    match waiting.add_all(&mut list) {
+        Ok(()) => Ok(list),
+        Err(_) => Err(Stop::Memory),
     }
 }
 
@@ -118,10 +177,9 @@ fn add_source<R: LineRead + Drop>(
     reading: Reading,
     left_out: &mut Vec<u64>,
 ) -> Result<(), Stop>
-    ensures put { OnOk result ((other : Addresses) × IfSome (R.remaining source.reader)
-        (λ bytes. (others : ℕ) × IsList reading bytes (other, others)
-        × (left_out.new.items ≡ left_out.old.items ++ others ∷ []))
-        × HasJust list.new (Combined command (Has list.old) (Has other))) }
+    ensures put { OnOk result (IsReadAnd reading (R.remaining source.reader) left_out.old.items
+        left_out.new.items (λ one. HasJust list.new
+        (Combined command (Has list.old) (IsSaidIn one.0)))) }
     ensures bad { IfErr result (λ stop. IfSome (R.remaining source.reader)
         (λ bytes. IsStop reading (source.name ∷ []) (bytes ∷ []) stop)) }
     ensures unread { IfErr result (λ stop. (name : String Global)
@@ -146,7 +204,7 @@ fn gathered<R: LineRead + Drop>(
     requires { into_iter_len sources ≡ length (into_iter_items sources) }
     ensures made { IfOk result (λ new. (files : List (List ℕ))
         → AreKnown (map (λ s. R.remaining s.reader) (into_iter_items sources)) files
-        → (lists : List (Addresses × ℕ)) × AreLists reading files lists
+        → (lists : List (Content × ℕ)) × AreLists reading files lists
         × (left_out.new.items ≡ left_out.old.items ++ left_out_of lists)
         × HasJust new (Put command (Has list) lists)) }
     ensures bad { IfErr result (λ stop. (files : List (List ℕ))
@@ -161,8 +219,8 @@ fn gathered<R: LineRead + Drop>(
     Ok(list)
 }
 
-/// What the command makes of the addresses of the sources, before `invert` turns it round.
-fn asked<R: LineRead + Drop>(
+/// What the command makes of the addresses of the sources, each read apart.
+fn put_together<R: LineRead + Drop>(
     alloc: Global,
     command: Command,
     mut sources: IntoIter<Source<R>>,
@@ -172,7 +230,7 @@ fn asked<R: LineRead + Drop>(
     requires { into_iter_len sources ≡ length (into_iter_items sources) }
     ensures made { IfOk result (λ new. (files : List (List ℕ))
         → AreKnown (map (λ s. R.remaining s.reader) (into_iter_items sources)) files
-        → (lists : List (Addresses × ℕ)) × AreLists reading files lists
+        → (lists : List (Content × ℕ)) × AreLists reading files lists
         × (left_out.new.items ≡ left_out.old.items ++ left_out_of lists)
         × HasJust new (Asked command lists)) }
     ensures bad { IfErr result (λ stop. (files : List (List ℕ))
@@ -190,6 +248,32 @@ fn asked<R: LineRead + Drop>(
     }
 }
 
+/// What the command makes of the addresses of the sources, before `invert` turns it round.
+fn asked<R: LineRead + Drop>(
+    alloc: Global,
+    command: Command,
+    sources: IntoIter<Source<R>>,
+    reading: Reading,
+    left_out: &mut Vec<u64>,
+) -> Result<Addresses, Stop>
+    requires { into_iter_len sources ≡ length (into_iter_items sources) }
+    ensures made { IfOk result (λ new. (files : List (List ℕ))
+        → AreKnown (map (λ s. R.remaining s.reader) (into_iter_items sources)) files
+        → (lists : List (Content × ℕ)) × AreLists reading files lists
+        × (left_out.new.items ≡ left_out.old.items ++ left_out_of lists)
+        × HasJust new (Asked command lists)) }
+    ensures bad { IfErr result (λ stop. (files : List (List ℕ))
+        → AreKnown (map (λ s. R.remaining s.reader) (into_iter_items sources)) files
+        → IsStop reading (map (λ s. s.name) (into_iter_items sources)) files stop) }
+    ensures unread { IfErr result (λ stop. (name : String Global)
+        → stop ≡ Bad name Unread → R.fails) }
+{
+    match command {
+        Command::Merge | Command::Invert => merged(alloc, sources, reading, left_out),
+        _ => put_together(alloc, command, sources, reading, left_out),
+    }
+}
+
 /// What the command says of the addresses of the sources.
 fn answered<R: LineRead + Drop>(
     alloc: Global,
@@ -201,7 +285,7 @@ fn answered<R: LineRead + Drop>(
     requires { into_iter_len sources ≡ length (into_iter_items sources) }
     ensures made { IfOk result (λ new. (files : List (List ℕ))
         → AreKnown (map (λ s. R.remaining s.reader) (into_iter_items sources)) files
-        → (lists : List (Addresses × ℕ)) × AreLists reading files lists
+        → (lists : List (Content × ℕ)) × AreLists reading files lists
         × (left_out.new.items ≡ left_out.old.items ++ left_out_of lists)
         × HasJust new (IsAnswer command lists)) }
     ensures bad { IfErr result (λ stop. (files : List (List ℕ))
@@ -389,8 +473,9 @@ fn print_within<W: Write>(
 ///
 /// Where at most so many prefixes are printed, returns how many addresses were added for that.
 /// Prefixes are as few as can be, ascending, those of IPv4 first, each on a line; `out` is
-/// flushed. Nothing is printed where a source cannot be read or an allocation fails. One list is
-/// held beside the answer. Adds to `left_out` how many bad lines are left out of each source.
+/// flushed. Nothing is printed where a source cannot be read or an allocation fails. `merge` and
+/// `invert` gather all sources in one set; else one list is held beside the answer. Adds to
+/// `left_out` how many bad lines are left out of each source.
 pub fn serve<R: LineRead + Drop, W: Write>(
     alloc: Global,
     command: Command,
@@ -402,7 +487,7 @@ pub fn serve<R: LineRead + Drop, W: Write>(
 ) -> Result<Added, Stop>
     ensures printed { IfOk result (λ added. (files : List (List ℕ))
         → AreKnown (map (λ s. R.remaining s.reader) sources.items) files
-        → (lists : List (Addresses × ℕ)) × (list : Addresses) × AreLists reading files lists
+        → (lists : List (Content × ℕ)) × (list : Addresses) × AreLists reading files lists
         × (left_out.new.items ≡ left_out.old.items ++ left_out_of lists)
         × HasJust list (Kept output.now.only (IsAnswer command lists))
         × Writes (W.contents out.old) (W.contents out.new)

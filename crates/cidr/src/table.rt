@@ -12,6 +12,7 @@ ghost use Rattle.cidr.specs.Shown.{IsShown};
 use crate::inputs::ToldInput;
 use crate::serve::{Reading as ListReading, Source as ListSource, Stop as ListStop, print};
 use crate::source;
+use crate::unanswered::Unanswered;
 use address_lines::read_line_addresses;
 use address_table_commands::{
     Asked, Extent, Keeping, Outline, Output as TableOutput, Source, Stop, print_differences,
@@ -19,7 +20,6 @@ use address_table_commands::{
 };
 use address_table_lists::Precedence;
 use address_table_lists::read::Reading;
-use anyhow::bail;
 use cidr_arguments::{Output, Sought, TableRequest, TableShape, TableTask};
 use line_program::read::LineRead;
 use std::alloc::Global;
@@ -118,21 +118,21 @@ fn get<W: Write>(
     asked: Asked<'_>,
     left_out: &mut Vec<u64>,
     out: &mut W,
-) -> anyhow::Result<Result<bool, Stop>> {
+) -> Result<bool, Unanswered> {
     let alloc = rt.alloc();
     let Source { name, mut reader } = match sought {
         Sought::These(addresses) => {
             let addresses = addresses.as_slice();
-            return Ok(print_values(alloc, tables, addresses, asked, left_out, out));
+            return Ok(print_values(alloc, tables, addresses, asked, left_out, out)?);
         }
         Sought::Lines => table(rt, "-")?,
     };
     match read_line_addresses(alloc, &mut reader) {
         Ok(addresses) => {
             let addresses = addresses.as_slice();
-            Ok(print_values(alloc, tables, addresses, asked, left_out, out))
+            Ok(print_values(alloc, tables, addresses, asked, left_out, out)?)
         }
-        Err(error) => Ok(Err(Stop::BadList(name, error))),
+        Err(error) => Err(Unanswered::Stopped(ListStop::Bad(name, error))),
     }
 }
 
@@ -154,24 +154,6 @@ fn compare<W: Write>(
     print_differences(alloc, tables, after, extent, asked, left_out, out)
 }
 
-/// Why nothing more is printed, where that is no bad table.
-fn stopped(stop: Stop) -> anyhow::Result<ListStop> {
-    match stop {
-        Stop::BadTable(name, error) => bail!("{name}: {error}"),
-        Stop::BadList(name, error) => Ok(ListStop::Bad(name, error)),
-        Stop::Memory => Ok(ListStop::Memory),
-        Stop::Unwritable => Ok(ListStop::Unwritable),
-    }
-}
-
-/// Whether each address has a value or two tables are alike, or why nothing more is printed.
-fn told(done: Result<bool, Stop>) -> anyhow::Result<Result<bool, ListStop>> {
-    match done {
-        Ok(has_all) => Ok(Ok(has_all)),
-        Err(stop) => Ok(Err(stopped(stop)?)),
-    }
-}
-
 /// Does what is asked of tables, and returns whether each address that is looked up has a value, or
 /// two tables are alike. Adds how many bad lines are left out of each file.
 pub fn answer_tables<W: Write>(
@@ -180,13 +162,13 @@ pub fn answer_tables<W: Write>(
     lists: ListReading,
     left_out: &mut Vec<u64>,
     out: &mut W,
-) -> anyhow::Result<Result<bool, ListStop>> {
+) -> Result<bool, Unanswered> {
     let alloc = rt.alloc();
     let asked = asked_of(request, lists);
     let output = output_of(request);
     let tables = tables(rt, request.tables.as_slice())?;
-    let done = match &request.task {
-        TableTask::Print => print_tables(alloc, tables, asked, output, left_out, out),
+    match &request.task {
+        TableTask::Print => print_tables(alloc, tables, asked, output, left_out, out)?,
         TableTask::Only(list) => {
             let list = table(rt, list)?;
             print_part(
@@ -198,7 +180,7 @@ pub fn answer_tables<W: Write>(
                 output,
                 left_out,
                 out,
-            )
+            )?
         }
         TableTask::Without(list) => {
             let list = table(rt, list)?;
@@ -211,7 +193,7 @@ pub fn answer_tables<W: Write>(
                 output,
                 left_out,
                 out,
-            )
+            )?
         }
         TableTask::Select(values, output) => print_selected(
             alloc,
@@ -221,17 +203,15 @@ pub fn answer_tables<W: Write>(
             output,
             left_out,
             out,
-        ),
-        TableTask::Values => print_value_counts(alloc, tables, asked, left_out, out),
+        )?,
+        TableTask::Values => print_value_counts(alloc, tables, asked, left_out, out)?,
         TableTask::Check => {
-            return told(compare(alloc, tables, Extent::First, asked, left_out, out));
+            return Ok(compare(alloc, tables, Extent::First, asked, left_out, out)?);
         }
         TableTask::Diff => {
-            return told(compare(alloc, tables, Extent::All, asked, left_out, out));
+            return Ok(compare(alloc, tables, Extent::All, asked, left_out, out)?);
         }
-        TableTask::Get(sought) => {
-            return told(get(rt, tables, sought, asked, left_out, out)?);
-        }
-    };
-    told(done.map(|()| true))
+        TableTask::Get(sought) => return get(rt, tables, sought, asked, left_out, out),
+    }
+    Ok(true)
 }
