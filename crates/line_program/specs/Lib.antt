@@ -1,3 +1,4 @@
 pub mod Conversation
 pub mod Lines
 pub mod Listing
+pub mod Pieces
