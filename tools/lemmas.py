@@ -15,7 +15,7 @@ USE = re.compile(r"^ *(?:ghost |pub )*use Rattle\.(\w+)\.((?:specs|proofs)\.(?:[
 MODULE = re.compile(r"^ *module\b.*?\bwhere *$", re.M | re.S)
 # Where the root states what it offers to users.
 OFFERED = ("btree_range_map", "specs/")
-HEAD = re.compile(r" *((?:(?:pub|unfoldable|abbrev|record|data|mutual) )*)([^\s:(){}]+)")
+HEAD = re.compile(r" *((?:(?:pub|unfoldable|abbrev|record|data|mutual)\s+)*)([^\s:(){}]+)")
 COMMENT = re.compile(r"^\s*(--|//).*$", re.M)
 
 

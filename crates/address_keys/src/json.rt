@@ -1,20 +1,19 @@
 //! Addresses as JSON: strings of their texts.
 
 ghost use Rattle.std.specs.Prelude.{◌≡◌, ⊤, false, IsTrue, MatchOption};
-ghost use Rattle.serde_json.specs.View.{view};
 ghost use Rattle.address_keys.specs.Json.{IsIpv4Read, IsIpv4Value, IsIpv6Read, IsIpv6Value, ipv4_shape, ipv6_shape, reads_ipv4, reads_ipv6};
 
 use crate::ipv4::Ipv4;
 use crate::ipv6::Ipv6;
-use btree_range_map::json::{Json, ReadError};
+use btree_range_map::json::{Json, JsonTree, ReadError};
 use serde_json::Value;
 use std::alloc::{AllocError, Global};
 use std::net::{Ipv4Addr, Ipv6Addr};
 
-fn ipv4_in(value: &Value) -> Option<Ipv4>
-    ensures { MatchOption result (reads_ipv4 (view value.now) ≡ false)
-        (λ address. IsIpv4Read (view value.now) address
-        × IsTrue (reads_ipv4 (view value.now))) }
+fn ipv4_in<J: JsonTree>(value: &J) -> Option<Ipv4>
+    ensures { MatchOption result (reads_ipv4 (J.content value.now) ≡ false)
+        (λ address. IsIpv4Read (J.content value.now) address
+        × IsTrue (reads_ipv4 (J.content value.now))) }
 {
     let text = value.as_str()?;
     match text.parse::<Ipv4Addr>() {
@@ -23,10 +22,10 @@ fn ipv4_in(value: &Value) -> Option<Ipv4>
     }
 }
 
-fn ipv6_in(value: &Value) -> Option<Ipv6>
-    ensures { MatchOption result (reads_ipv6 (view value.now) ≡ false)
-        (λ address. IsIpv6Read (view value.now) address
-        × IsTrue (reads_ipv6 (view value.now))) }
+fn ipv6_in<J: JsonTree>(value: &J) -> Option<Ipv6>
+    ensures { MatchOption result (reads_ipv6 (J.content value.now) ≡ false)
+        (λ address. IsIpv6Read (J.content value.now) address
+        × IsTrue (reads_ipv6 (J.content value.now))) }
 {
     let text = value.as_str()?;
     match text.parse::<Ipv6Addr>() {
@@ -52,7 +51,7 @@ impl Json for Ipv4 {
         Ok(Value::from(format!(in alloc; "{address}")?))
     }
 
-    fn from_json(_alloc: Global, value: &Value) -> Result<Ipv4, ReadError> {
+    fn from_json<J: JsonTree>(_alloc: Global, value: &J) -> Result<Ipv4, ReadError> {
         match ipv4_in(value) {
             Some(address) => Ok(address),
             None => Err(ReadError::Refused),
@@ -81,7 +80,7 @@ impl Json for Ipv6 {
         Ok(Value::from(format!(in alloc; "{address}")?))
     }
 
-    fn from_json(_alloc: Global, value: &Value) -> Result<Ipv6, ReadError> {
+    fn from_json<J: JsonTree>(_alloc: Global, value: &J) -> Result<Ipv6, ReadError> {
         match ipv6_in(value) {
             Some(address) => Ok(address),
             None => Err(ReadError::Refused),

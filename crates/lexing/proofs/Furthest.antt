@@ -22,6 +22,8 @@ use Rattle.lexing.specs.Tokens.{IsToken}
 use Rattle.lexing.specs.Machines.{IsMachine, target}
 use Rattle.lexing.specs.MachineSteps.{GoesTo, state_count}
 use Rattle.lexing.specs.Runs.{IsCharacterAt}
+use Rattle.lexing.specs.Settled.{LeadsNowhere}
+use Rattle.lexing.proofs.Settled.{nowhere_when_stuck}
 use Rattle.lexing.proofs.Running.{IsBestOf, IsThere, there_none, there_more, goes_by_step, nowhere_beyond_ascii}
 
 -- the character of a byte of ASCII
@@ -110,6 +112,14 @@ module _ (machine : Machine) (text : List ℕ) where
         let split : chars text ≡ was.read ++ c ∷ rest = rw (← one) was.whole in
         let best = was.best rule stands some in
         rw split (best_when_stuck _ _ _ was.read rest c there.set _ there.after none best))
+
+  pub nowhere_of_reading : (state at : ℕ) → ∥ IsReading state at ∥₁ → (c : ℕ)
+      → IsCharacterAt text at c → GoesTo machine state c None → LeadsNowhere machine.lexer text
+  nowhere_of_reading state at reading c one goes p q start path =
+      ∥∥₁_elim reading (hlevel props)
+      (λ was.
+      nowhere_when_stuck machine text was.read (chars (drop (at + len_utf8 c) text)) c state
+      (rw (← one) was.whole) goes ∣ was.there ∣₁ p q start path)
 
   -- the step of the byte at the place
   module _ (utf8 : IsUtf8 text) (first at : ℕ) (row : first % 256 ≡ 0)

@@ -6,5 +6,6 @@ pub mod Meeting
 pub mod Places
 pub mod Rows
 pub mod Running
+pub mod Settled
 pub mod Tables
 pub mod TokenLists

@@ -7,5 +7,6 @@ pub mod Machines
 pub mod MachineSteps
 pub mod Places
 pub mod Runs
+pub mod Settled
 pub mod Tables
 pub mod Tokens

@@ -30,6 +30,7 @@
 //!   `specs/{Runs,Given}.antt`, `proofs/{TokenLists,Giving}.antt`
 //! - the machine of a lexer, which finds the same tokens: `src/{machine,step}.rt`,
 //!   `specs/{Machines,MachineSteps}.antt`, `proofs/{Running,Furthest}.antt`
+//! - the same token whatever follows a text: `specs/Settled.antt`, `proofs/Settled.antt`
 //! - how it is built, within a budget of states: `src/{build,states,error}.rt`,
 //!   `specs/{Building,Budgets}.antt`, `proofs/{Rows,Growing,Meeting}.antt`
 //! - lines and columns: `src/{place,placed}.rt`, `specs/Places.antt`, `proofs/Places.antt`

@@ -1,5 +1,5 @@
 //! An automaton with one state at a time, made from that of a lexer.
-ghost use Rattle.std.specs.Prelude.{◌≡◌, ◌*◌, ◌<◌, Some, IfSome, MatchOption, slice_get, vec_len};
+ghost use Rattle.std.specs.Prelude.{◌≡◌, ◌*◌, ◌<◌, Some, false, length, IfSome, MatchOption, slice_get, vec_len};
 ghost use Rattle.lexing.specs.Machines.{IsMachine};
 
 use crate::lexer::Lexer;
@@ -26,6 +26,7 @@ pub struct Machine {
 
 impl Machine {
     ghost use Rattle.lexing.specs.MachineSteps.{GoesTo, lexer_of, state_count};
+    ghost use Rattle.lexing.specs.Settled.{LeadsNowhere};
     ghost use Rattle.lexing.specs.Tokens.{BeginsWithNone, IsToken};
 
     /// The lexer that the machine was built from. Allocates nothing.
@@ -62,7 +63,10 @@ impl Machine {
     /// way.
     #[inline(always)]
     fn furthest_match(&self, text: &str) -> Option<Match>
-        ensures { IfSome result (λ m. IsToken (lexer_of self.now) text.now m.rule m.len) }
+        ensures token { IfSome result
+            (λ m. IsToken (lexer_of self.now) text.now m.rule m.len) }
+        ensures settled { IfSome result (λ m. m.len < length text.now
+            → LeadsNowhere (lexer_of self.now) text.now) }
     {
         let mut first = 0;
         let mut at = 0;
@@ -121,6 +125,42 @@ impl Machine {
             }
         }
         longest
+    }
+
+    /// Whether the text leads to a state.
+    #[inline(never)]
+    fn leads_on(&self, text: &str) -> bool
+        ensures { result ≡ false → LeadsNowhere (lexer_of self.now) text.now }
+    {
+        let mut state = 0;
+        for c in text.chars() {
+            match self.next(state, c) {
+                Some(next) => state = next,
+                None => return false,
+            }
+        }
+        true
+    }
+
+    /// The token that the text begins with, as `longest_match` finds it, where that is settled: each
+    /// text that begins with this one begins with the same token, or with none. `None` where it
+    /// depends on what follows. Allocates nothing.
+    ///
+    /// So a text can be cut that comes in pieces: of a piece that ends within a token more is
+    /// wanted. Costs as much as `longest_match`, and one look-up more for each character where no
+    /// token ends just before the first that leads nowhere.
+    pub fn settled_match(&self, text: &str) -> Option<Option<Match>>
+        ensures longest { IfSome result
+            (λ found. MatchOption found (BeginsWithNone (lexer_of self.now) text.now)
+            (λ m. IsToken (lexer_of self.now) text.now m.rule m.len)) }
+        ensures settled { IfSome result (λ _. LeadsNowhere (lexer_of self.now) text.now) }
+    {
+        match self.furthest_match(text) {
+            Some(found) if found.len < text.len() => Some(Some(found)),
+            Some(_) => None,
+            None if self.leads_on(text) => None,
+            None => Some(self.noted_match(text)),
+        }
     }
 }
 

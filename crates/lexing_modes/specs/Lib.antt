@@ -1,4 +1,5 @@
 pub mod Changes
+pub mod Cutting
 pub mod Given
 pub mod Left
 pub mod Modes

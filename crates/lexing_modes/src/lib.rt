@@ -25,10 +25,13 @@
 //!   `proofs/StateSteps.antt`
 //! - the tokens of a text, one after the other: `src/{tokens,cutting}.rt`,
 //!   `specs/{Given,Left}.antt`, `proofs/{TokenLists,Giving}.antt`
+//! - those of a text that comes in pieces: `src/cutter.rt`, `specs/Cutting.antt`,
+//!   `proofs/Pieces.antt`
 #![tactic(auto)]
 
 mod change;
 mod cursor;
+mod cutter;
 mod cutting;
 mod error;
 mod modes;
@@ -37,6 +40,7 @@ mod token;
 mod tokens;
 
 pub use change::ModeChange;
+pub use cutter::{Cutter, Taken};
 pub use error::{SetupError, TokenError};
 pub use modes::Modes;
 pub use token::ModeToken;

@@ -39,7 +39,7 @@ pub(crate) fn next_from<S: Scanner>(
 }
 
 /// Whether tokens of the rule are skipped in the mode.
-fn is_left_out<S: Scanner>(modes: &Modes<S>, found: &ModeToken) -> bool
+pub(crate) fn is_left_out<S: Scanner>(modes: &Modes<S>, found: &ModeToken) -> bool
     requires { found.now.mode < mode_count modes.now }
     ensures { IsTrue result ↔ IsLeftOut S.lexer modes.now found.now }
 {
@@ -86,7 +86,7 @@ pub(crate) fn take_token<S: Scanner>(
 }
 
 /// Takes this token, which stands at the cursor.
-fn take<S: Scanner>(
+pub(crate) fn take<S: Scanner>(
     modes: &Modes<S>,
     text: &str,
     cursor: &mut Cursor,
@@ -123,7 +123,7 @@ fn take<S: Scanner>(
 }
 
 /// The place behind the character at the place.
-fn behind_one(text: &str, at: usize) -> usize
+pub(crate) fn behind_one(text: &str, at: usize) -> usize
     requires boundary { IsCharBoundary text.now at }
     requires within { at < length text.now }
     ensures one { IsBehindOne text.now at result }

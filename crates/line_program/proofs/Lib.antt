@@ -1,3 +1,4 @@
+pub mod Faults
 mod FirstLine
 pub mod Progress
 pub mod Conversations

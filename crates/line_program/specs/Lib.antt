@@ -1,4 +1,5 @@
 pub mod Conversation
 pub mod Lines
 pub mod Listing
+pub mod Pieces
 pub mod Serving

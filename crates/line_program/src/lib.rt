@@ -6,6 +6,7 @@
 //!   reader's buffer: `src/program.rt`, `specs/{Conversation,Serving}.antt`,
 //!   `proofs/{FirstLine,Progress}.antt`
 //! - readers of lines, and what is known where they fail: `src/read.rt`
+//! - texts that are read in pieces: `src/pieces.rt`, `specs/Pieces.antt`, `proofs/Faults.antt`
 //! - a conversation seen in other states, as a program's in the lists that it stores:
 //!   `proofs/Conversations.antt`
 //! - lines cut at a byte, numbers written in digits, a line for each element of a list:
@@ -14,6 +15,7 @@
 #![tactic(auto)]
 
 pub mod line;
+pub mod pieces;
 pub mod program;
 pub mod read;
 pub mod streams;

@@ -43,7 +43,7 @@ pub use Rattle.range_runs.specs.Edits.{flipped_bound, with_end, with_start}
 pub use Rattle.range_runs.specs.Frames.{HasValue, IsEndOf, IsInsertionFrame, IsMergeFrame, IsMergedInto, IsNewItem, IsPart, IsRemovalFrame, IsSpliceFrame, IsStartOf, IsUpdateFrame, JoinsOrMeets}
 pub use Rattle.range_runs.specs.Lookups.{IsConnectedTo, IsConnectedToSome, MeetsSome, Overlap}
 pub use Rattle.range_runs.specs.Pieces.{ArePieces, IsCommonPart, LiesIn}
-pub use Rattle.range_edit.specs.Reach.{IsReach, IsSurrounded, ReachesAfter, ReachesBefore}
+pub use Rattle.range_edit.specs.Reach.{AreEnds, IsSurrounded, ReachesAfter, ReachesBefore}
 pub use Rattle.range_edit.specs.Replaced.{AreWithin, IsReplaced}
 pub use Rattle.range_edit.specs.Seams.{with_first_start, with_last_end}
 pub use Rattle.range_runs.specs.Spelling.{IsEndAsIn, IsSpelledAsIn, IsStartAsIn, KeepsSpelling}

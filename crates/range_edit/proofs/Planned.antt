@@ -1,7 +1,6 @@
 -- That a container can be changed as planned, and how many items it then has.
-use Rattle.range_edit.proofs.Common.{common_steps, ◌≡◌, ℕ, ◌+◌, ◌*◌, ◌≤◌, List, ◌++◌, length, take, drop, arith, Option, Bool, IsEquivalence, ForSome, Bound, KeyOrder, IsLawful, AnyRange, rank_or_len, Item, kept_at, good_at, IsGoodBorder, IsLeftShape, IsRightShape, IsReach, option_items, Border}
-use Rattle.range_edit.specs.declared.reach.Reach.{Reach}
-use Rattle.range_edit.specs.Reach.{AreApart}
+use Rattle.range_edit.proofs.Common.{common_steps, ◌≡◌, ℕ, ◌+◌, ◌*◌, ◌≤◌, List, ◌++◌, length, take, drop, arith, Option, Bool, IsEquivalence, ForSome, Bound, KeyOrder, IsLawful, AnyRange, rank_or_len, Item, kept_at, good_at, IsGoodBorder, IsLeftShape, IsRightShape, AreEnds, option_items, Border}
+use Rattle.range_edit.specs.declared.reach.Ends.{Ends}
 use Rattle.range_edit.proofs.BoundEdits.{shape_kept, border_good}
 use Rattle.range_edit.proofs.Lengths.{one_item, changed_length, border_length}
 use Rattle.range_edit.proofs.SidePlans.{IsPlan}
@@ -33,11 +32,11 @@ module _ {K : Type 0} {order : KeyOrder K} {lawful : IsLawful order} {V : Type 0
   planned_fits plan kept same_list = grind (arith, common_steps, plan.left.shape, plan.right.shape, plan.left.run, plan.ends, plan.right.side.in_range, kept_at, border_length, border_good, good_at, shape_kept)
 
   -- what is put in the place of the run decides how long the list is
-  pub planned_size : {reach : Reach P} (plan : IsPlan order same lawful equal is_good rank items r
-      place reach.window.count middle reach.first reach.last border behind from size)
-      → IsReach order same is_good rank items r reach place → AreApart reach
+  pub planned_size : {ends : Ends P} (plan : IsPlan order same lawful equal is_good rank items r
+      place ends.window.count middle ends.first ends.last border behind from size)
+      → AreEnds order same is_good rank items r ends place
       → (new put : List (Item (AnyRange K) V)) → new ≡ take plan.left.at items
       ++ option_items plan.left.rest ++ put ++ option_items plan.right.rest
       ++ drop plan.right.end items
-      → 2 * length new + reach.window.count ≤ 2 * length items + 2 * length put + 2
-  planned_size {reach} plan found apart new put made = grind (arith, common_steps, border_length, changed_length, one_item)
+      → 2 * length new + ends.window.count ≤ 2 * length items + 2 * length put + 2
+  planned_size {ends} plan found new put made = grind (arith, common_steps, border_length, changed_length, one_item)

@@ -1,10 +1,9 @@
 -- What is planned on both sides of a range for a list that comes to stand there.
-use Rattle.range_edit.proofs.Common.{Bor, option_copied, common_steps, ◌≡◌, ℕ, ◌+◌, ◌-◌, ◌<◌, ◌≤◌, inl, inr, List, [], ◌∷◌, ◌++◌, length, take, refl, ap, ◌∙◌, arith, Option, Some, None, Bool, slice_get, IsEquivalence, tied_itself, position_total, Bound, KeyOrder, IsLawful, AnyRange, IsAt, Item, joined_count, IsLeftShape, IsRightShape, right_side, IsRunStart, IsReach, IsWindow, IsStored, IsBoundOfKey, SameBound, flipped_bound, seam_border, option_items, Border, Window, AreWithin, ReachesBefore, ReachesAfter, with_start, with_end, with_first_start, lower, upper, item_lower, item_upper, PLe, lt_not_le}
+use Rattle.range_edit.proofs.Common.{Bor, option_copied, common_steps, ◌≡◌, ℕ, ◌+◌, ◌-◌, ◌<◌, ◌≤◌, inl, inr, List, [], ◌∷◌, ◌++◌, length, take, refl, ap, ◌∙◌, arith, Option, Some, None, Bool, slice_get, IsEquivalence, tied_itself, position_total, Bound, KeyOrder, IsLawful, AnyRange, IsAt, Item, joined_count, IsLeftShape, IsRightShape, right_side, IsRunStart, AreEnds, IsWindow, IsStored, IsBoundOfKey, SameBound, flipped_bound, seam_border, option_items, Border, Window, AreWithin, ReachesBefore, ReachesAfter, with_start, with_end, with_first_start, lower, upper, item_lower, item_upper, PLe, lt_not_le}
 use Rattle.range_edit.specs.declared.borders.Joins.{Joins}
-use Rattle.range_edit.specs.declared.reach.Reach.{Reach}
+use Rattle.range_edit.specs.declared.reach.Ends.{Ends}
 use Rattle.range_edit.specs.Borders.{IsSeamAt, run_length}
 use Rattle.range_edit.specs.Plans.{IsJoinedLeft, IsJoinedRight}
-use Rattle.range_edit.specs.Reach.{AreApart}
 use Rattle.range_edit.specs.Seams.{IsFirstSeam, IsLastSeam}
 use Rattle.range_edit.proofs.BoundEdits.{cut_joins_none}
 use Rattle.range_runs.proofs.ItemPlaces.{element_at, element_at_is_read}
@@ -210,44 +209,44 @@ module _ {K : Type 0} {order : KeyOrder K} (lawful : IsLawful order) {V : Type 0
           ends = omega (arith, after.2);
         }
 
-  module _ {reach : Reach P} {place : ℕ} (found : IsReach order same is_good rank items r reach place)
-      (apart : AreApart reach) {joins : Joins P} {border behind : Border K P} {from : Option P}
-      {count : ℕ} (on_left : IsSeamAt order joins.before reach.first r.start border)
-      (on_right : IsSeamAt order joins.after reach.last r.end behind)
-      (start : IsRunStart is_good rank (length items) place reach.first joins.before from)
-      (size : count ≡ run_length reach joins) where
+  module _ {ends : Ends P} {place : ℕ} (found : AreEnds order same is_good rank items r ends place)
+      {joins : Joins P} {border behind : Border K P} {from : Option P}
+      {count : ℕ} (on_left : IsSeamAt order joins.before ends.first r.start border)
+      (on_right : IsSeamAt order joins.after ends.last r.end behind)
+      (start : IsRunStart is_good rank (length items) place ends.first joins.before from)
+      (size : count ≡ run_length ends joins) where
     pub plan_run : {middle : List (Item (AnyRange K) V)} → IsStored order same middle
         → AreWithin order middle r → IsFirstSeam order same is_good rank items r
-        (place + length (option_items reach.first)) (slice_get middle 0) joins.before
+        (place + length (option_items ends.first)) (slice_get middle 0) joins.before
         → IsLastSeam order same is_good rank items r
-        (place + reach.window.count - length (option_items reach.last))
+        (place + ends.window.count - length (option_items ends.last))
         (slice_get middle (length middle - 1)) joins.after
-        → IsPlan order same lawful equal is_good rank items r place reach.window.count middle
-        reach.first reach.last border behind from count
+        → IsPlan order same lawful equal is_good rank items r place ends.window.count middle
+        ends.first ends.last border behind from count
     plan_run {middle} others within first last =
-        let left = rw (← on_left.at) at (left_plan found.window others within reach.first
+        let left = rw (← on_left.at) at (left_plan found.window others within ends.first
         joins.before from on_left.cut found.first first (on_left.known, on_left.flipped) start) in
         let right = rw (← on_right.at) at (right_plan found.window others within [] left.side
-        reach.last joins.after on_right.cut found.last last (on_right.known, on_right.flipped)) in
-        let joined = ap joined_count on_left.at ∙ seam_count joins.before reach.first on_left.cut in
-        let other = ap joined_count on_right.at ∙ seam_count joins.after reach.last on_right.cut in
+        ends.last joins.after on_right.cut found.last last (on_right.known, on_right.flipped)) in
+        let joined = ap joined_count on_left.at ∙ seam_count joins.before ends.first on_left.cut in
+        let other = ap joined_count on_right.at ∙ seam_count joins.after ends.last on_right.cut in
         let least = border_length is_good rank items right_side behind right.upto right.end right.rest
         right.finish right.shape in
         record {
           left = left;
           right = right;
-          ends = omega (arith, left.begins, right.ends, apart, size, joined, other);
+          ends = omega (arith, left.begins, right.ends, found.apart, size, joined, other);
           within = omega (arith, least, right.side.in_range);
           joined = omega (arith, size, joined, other);
         }
 
     -- for one item, whose range is that of the change
     pub plan_one : {v : V} → IsJoinedLeft order same is_good rank items r v
-        (place + length (option_items reach.first)) joins.before
+        (place + length (option_items ends.first)) joins.before
         → IsJoinedRight order same is_good rank items r v
-        (place + reach.window.count - length (option_items reach.last)) joins.after
-        → IsPlan order same lawful equal is_good rank items r place reach.window.count
-        (record { key = r; value = v } ∷ []) reach.first reach.last border behind from count
+        (place + ends.window.count - length (option_items ends.last)) joins.after
+        → IsPlan order same lawful equal is_good rank items r place ends.window.count
+        (record { key = r; value = v } ∷ []) ends.first ends.last border behind from count
     plan_one {v} first last =
         let own : Item (AnyRange K) V = record { key = r; value = v } in
         let total = position_total order.cmp lawful.total in
@@ -257,6 +256,6 @@ module _ {K : Type 0} {order : KeyOrder K} (lawful : IsLawful order) {V : Type 0
 
     -- for none
     pub plan_none : joins.before ≡ None → joins.after ≡ None
-        → IsPlan order same lawful equal is_good rank items r place reach.window.count [] reach.first
-        reach.last border behind from count
+        → IsPlan order same lawful equal is_good rank items r place ends.window.count [] ends.first
+        ends.last border behind from count
     plan_none no_first no_last = grind (arith, common_steps, plan_run)

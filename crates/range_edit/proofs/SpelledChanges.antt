@@ -1,7 +1,7 @@
 -- That what a change puts in the place of a range is spelled as what it replaces.
-use Rattle.range_edit.proofs.Common.{common_steps, ◌≡◌, BorderSide, IsBorderShape, left_side, right_side, with_start, with_end, sym, ap, subst, ◌∙◌, ℕ, ◌+◌, ◌-◌, ◌<◌, arith, Option, Some, Bool, List, ◌∷◌, ◌++◌, inl, inr, length, get_or, take, drop, IsEquivalence, Every, Bound, KeyOrder, IsLawful, AnyRange, same_itself, lower, upper, lt_le, eq_le, lt_not_le, lt_trans, PLt, IsKeyRange, every_weaker, every_append, every_left, every_right, list_is_take_and_drop, reaching_is_before_past, Item, IsInserted, IsRemoved, seam_border, flipped_bound, IsStartOf, IsEndOf, IsReach, IsSpliceFrame, IsSurrounded, with_first_start, with_last_end, IsStartAsIn, IsEndAsIn, IsSpelledAsIn, KeepsSpelling, IsStored, item_lower, option_items, Window}
+use Rattle.range_edit.proofs.Common.{common_steps, ◌≡◌, BorderSide, IsBorderShape, left_side, right_side, with_start, with_end, sym, ap, subst, ◌∙◌, ℕ, ◌+◌, ◌-◌, ◌<◌, arith, Option, Some, Bool, List, ◌∷◌, ◌++◌, inl, inr, length, get_or, take, drop, IsEquivalence, Every, Bound, KeyOrder, IsLawful, AnyRange, same_itself, lower, upper, lt_le, eq_le, lt_not_le, lt_trans, PLt, IsKeyRange, every_weaker, every_append, every_left, every_right, list_is_take_and_drop, reaching_is_before_past, Item, IsInserted, IsRemoved, seam_border, flipped_bound, IsStartOf, IsEndOf, AreEnds, IsSpliceFrame, IsSurrounded, with_first_start, with_last_end, IsStartAsIn, IsEndAsIn, IsSpelledAsIn, KeepsSpelling, IsStored, item_lower, option_items, Window}
 use Rattle.std.proofs.lemmas.Option.{same_Some}
-use Rattle.range_edit.specs.declared.reach.Reach.{Reach}
+use Rattle.range_edit.specs.declared.reach.Ends.{Ends}
 use Rattle.range_runs.proofs.RangePieces.{any_use, item_at}
 use Rattle.range_runs.proofs.ItemPlaces.{listed_at, from_item}
 use Rattle.range_runs.proofs.Extents.{past_le, end_le}
@@ -30,8 +30,8 @@ module _ {K : Type 0} {order : KeyOrder K} (lawful : IsLawful order) {V : Type 0
   one_is_spelled k x within read = item_at IsSpelled items k x list_keeps_spelling within read
 
   -- what the borders leave of the items beside a range, and the bounds that they give away
-  module _ {P : Type 0} {is_good : P → Type 0} {rank : P → ℕ} {r : AnyRange K} {reach : Reach P}
-      {place : ℕ} (found : IsReach order same is_good rank items r reach place)
+  module _ {P : Type 0} {is_good : P → Type 0} {rank : P → ℕ} {r : AnyRange K} {ends : Ends P}
+      {place : ℕ} (found : AreEnds order same is_good rank items r ends place)
       (in_range : (p : P) → is_good p → rank p < length items) where
     border_spelled : (side : BorderSide K V) (As : Bound K → Type 0)
         → ((x : Item (AnyRange K) V) → IsSpelled x → As (side.outer x)) → (joined reaching : Option P)
@@ -42,7 +42,7 @@ module _ {K : Type 0} {order : KeyOrder K} (lawful : IsLawful order) {V : Type 0
         × ((c : Bound K) → given ≡ Some c → As c)
     border_spelled side As outer joined reaching b low high rest given shape cut = grind (arith, common_steps, same_Some, one_is_spelled)
 
-    cut_before : (p : P) → reach.first ≡ Some p → (x : Item (AnyRange K) V)
+    cut_before : (p : P) → ends.first ≡ Some p → (x : Item (AnyRange K) V)
         → x ≡ get_or items (rank p) x → IsSpelled (with_end x (flipped_bound r.start))
     cut_before p is x read =
         let before = rw is at found.first in
@@ -56,12 +56,12 @@ module _ {K : Type 0} {order : KeyOrder K} (lawful : IsLawful order) {V : Type 0
               (same_itself order lawful (flipped_bound r.start)),
         )
 
-    cut_after : (p : P) → reach.last ≡ Some p → (x : Item (AnyRange K) V)
+    cut_after : (p : P) → ends.last ≡ Some p → (x : Item (AnyRange K) V)
         → x ≡ get_or items (rank p) x → IsSpelled (with_start x (flipped_bound r.end))
     cut_after p is x read =
         let after = rw is at found.last in
-        let index : rank p ≡ place + reach.window.count - 1 = omega (arith, after.1, after.2) in
-        let here : x ≡ get_or items (place + reach.window.count - 1) x =
+        let index : rank p ≡ place + ends.window.count - 1 = omega (arith, after.1, after.2) in
+        let here : x ≡ get_or items (place + ends.window.count - 1) x =
         read ∙ ap (λ n. get_or items n x) index in
         let within = in_range p after.0 in
         let starts = subst (λ y. PLt lawful (item_lower order y) (upper order r)) (sym here)
@@ -75,9 +75,9 @@ module _ {K : Type 0} {order : KeyOrder K} (lawful : IsLawful order) {V : Type 0
 
     pub replaced_keeps_spelling : {middle : List (Item (AnyRange K) V)} (joined other : Option P)
         {from : Option P} {size : ℕ} (plan : IsPlan order same lawful equal is_good rank
-        items r place reach.window.count middle reach.first reach.last
-        (seam_border joined reach.first (flipped_bound r.start))
-        (seam_border other reach.last (flipped_bound r.end)) from size) (new : List (Item (AnyRange K) V))
+        items r place ends.window.count middle ends.first ends.last
+        (seam_border joined ends.first (flipped_bound r.start))
+        (seam_border other ends.last (flipped_bound r.end)) from size) (new : List (Item (AnyRange K) V))
         → new ≡ take plan.left.at items ++ option_items plan.left.rest
         ++ with_last_end plan.right.finish (with_first_start plan.left.start middle)
         ++ option_items plan.right.rest ++ drop plan.right.end items
@@ -89,9 +89,9 @@ module _ {K : Type 0} {order : KeyOrder K} (lawful : IsLawful order) {V : Type 0
         let start = plan.left.start in
         let beyond = plan.right.rest in
         let finish = plan.right.finish in
-        let left = border_spelled left_side (IsStartAsIn order items) (λ x s. s.0) joined reach.first
+        let left = border_spelled left_side (IsStartAsIn order items) (λ x s. s.0) joined ends.first
         (flipped_bound r.start) at plan.left.begin rest start plan.left.shape cut_before in
-        let right = border_spelled right_side (IsEndAsIn order items) (λ x s. s.1) other reach.last
+        let right = border_spelled right_side (IsEndAsIn order items) (λ x s. s.1) other ends.last
         (flipped_bound r.end) plan.right.upto end beyond finish plan.right.shape cut_after in
         let front = take at items in
         let tail = drop end items in

@@ -1,7 +1,7 @@
 -- What becomes of the one item that a range meets where it surrounds the range.
-use Rattle.range_edit.proofs.Common.{AnswersPiece, AnyRange, ArePieces, Bool, Bor, Every, IsCommonPart, start_position, inl, IsConnectedTo, IsDivided, IsEquivalence, IsInserted, IsBoundOfKey, IsLawful, IsReach, IsRemoved, IsStored, IsSurrounded, IsTrue, Item, KeyOrder, List, MayAnswer, None, Option, Overlap, PLe, PLt, ReachesAfter, ReachesBefore, Result, SameBound, Shared, Some, Window, [], ap, arith, both, common_steps, drop, end_position, every_append, every_left, every_right, false, flipped_bound, get_or, is_gt, le_lt_trans, le_refl, length, line_of, lower, lt_le, lt_le_trans, lt_trans, option_items, position_cmp, position_total, refl, subst, sym, take, tied_itself, true, upper, with_end, ℕ, ◌++◌, ◌+◌, ◌-◌, ◌<◌, ◌∙◌, ◌∷◌, ◌≡◌}
+use Rattle.range_edit.proofs.Common.{AnswersPiece, AnyRange, ArePieces, Bool, Bor, Every, IsCommonPart, start_position, inl, IsConnectedTo, IsDivided, IsEquivalence, IsInserted, IsBoundOfKey, IsLawful, AreEnds, IsRemoved, IsStored, IsSurrounded, IsTrue, Item, KeyOrder, List, MayAnswer, None, Option, Overlap, PLe, PLt, ReachesAfter, ReachesBefore, Result, SameBound, Shared, Some, Window, [], ap, arith, both, common_steps, drop, end_position, every_append, every_left, every_right, false, flipped_bound, get_or, is_gt, le_lt_trans, le_refl, length, line_of, lower, lt_le, lt_le_trans, lt_trans, option_items, position_cmp, position_total, refl, subst, sym, take, tied_itself, true, upper, with_end, ℕ, ◌++◌, ◌+◌, ◌-◌, ◌<◌, ◌∙◌, ◌∷◌, ◌≡◌}
 use Rattle.range_edit.specs.declared.cut.DividedItem.{DividedItem}
-use Rattle.range_edit.specs.declared.reach.Reach.{Reach}
+use Rattle.range_edit.specs.declared.reach.Ends.{Ends}
 use Rattle.range_runs.proofs.RangePieces.{IsFull, all_full, cut_all, earlier_under, either_choice_holds, every_with, item_at, later_over}
 use Rattle.range_runs.proofs.ItemPlaces.{listed_at}
 use Rattle.range_edit.proofs.RangeSides.{inserted, removed}
@@ -19,9 +19,9 @@ module _ {K : Type 0} {order : KeyOrder K} {V : Type 0} {same : V → V → Bool
     {is_good : P → Type 0} {rank : P → ℕ} {items : List (Item (AnyRange K) V)} {r : AnyRange K}
     {place : ℕ} where
   -- nothing reaches out of the range where the window is empty
-  pub none_reach : {reach : Reach P} → IsReach order same is_good rank items r reach place
-      → reach.window.count ≡ 0 → (reach.first ≡ None) × (reach.last ≡ None)
-  none_reach {reach} found none = grind (arith, common_steps)
+  pub none_reach : {ends : Ends P} → AreEnds order same is_good rank items r ends place
+      → ends.window.count ≡ 0 → (ends.first ≡ None) × (ends.last ≡ None)
+  none_reach {ends} found none = grind (arith, common_steps)
 
 module _ {K : Type 0} {order : KeyOrder K} (lawful : IsLawful order) {V : Type 0}
     {same : V → V → Bool} (equal : IsEquivalence same) {P : Type 0} {is_good : P → Type 0}

@@ -1,6 +1,6 @@
 -- How a range that is bound joins what stands beside it.
 use Rattle.std.specs.Prelude.{◌≡◌, ◌+◌, ◌-◌, ◌<◌, ◌≤◌, ◌++◌}
-use Rattle.range_edit.specs.Common.{ℕ, Bool, true, List, length, take, drop, slice_index_or, slice_set, Option, Some, None, MatchOption, ⊤, Bound, KeyOrder, IsBoundOfKey, unwrap_or, Border, Reach, SameBound, AnyRange, rank_or_len, IsAt, Item, Window, Touches}
+use Rattle.range_edit.specs.Common.{ℕ, Bool, true, List, length, take, drop, slice_index_or, slice_set, Option, Some, None, MatchOption, ⊤, Bound, KeyOrder, IsBoundOfKey, unwrap_or, Border, Ends, SameBound, AnyRange, rank_or_len, IsAt, Item, Window, Touches}
 use Rattle.std.specs.declared.ops.Bound.TheVariants.{Unbounded}
 use Rattle.range_edit.specs.declared.borders.Border.TheVariants.{Plain, Cut, Joined}
 use Rattle.range_edit.specs.declared.borders.Joins.{Joins}
@@ -212,9 +212,9 @@ module _ {K : Type 0} (order : KeyOrder K) {V : Type 0} (same : V → V → Bool
 
 module _ {P : Type 0} where
   -- how many items are replaced
-  abbrev pub run_length : Reach P → Joins P → ℕ
-  run_length reach joins =
-      length (option_items joins.before) + inner_count reach + length (option_items joins.after)
+  abbrev pub run_length : Ends P → Joins P → ℕ
+  run_length ends joins =
+      length (option_items joins.before) + inner_count ends + length (option_items joins.after)
 
   -- they begin with the item that joins, or else after the one that reaches out
   abbrev pub IsRunStart : (P → Type 0) → (P → ℕ) → ℕ → ℕ → Option P → Option P → Option P → Type 0

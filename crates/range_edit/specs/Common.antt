@@ -16,5 +16,7 @@ pub use Rattle.range_algebra.specs.declared.any.AnyRange.{AnyRange}
 pub use Rattle.range_store.specs.ListRanks.{IsAt, rank_or_len}
 pub use Rattle.range_store.specs.declared.storage.Item.{Item}
 pub use Rattle.range_edit.specs.declared.borders.Border.{Border}
+pub use Rattle.range_edit.specs.declared.reach.Ends.{Ends}
 pub use Rattle.range_edit.specs.declared.reach.Reach.{Reach}
+pub use Rattle.range_edit.specs.declared.reach.Reach.TheVariants.{Surrounded, Apart}
 pub use Rattle.range_runs.specs.declared.window.Window.{Window}

@@ -1,6 +1,6 @@
 -- Which items a range that is bound joins.
 use Rattle.std.specs.Prelude.{◌≡◌, ◌+◌, ◌-◌, ◌<◌}
-use Rattle.range_edit.specs.Common.{ℕ, Bool, true, List, length, slice_index_or, Option, Some, None, KeyOrder, position_cmp, lower, upper, Le, Lt, AnyRange, Item, rank_or_len, Reach}
+use Rattle.range_edit.specs.Common.{ℕ, Bool, true, List, length, slice_index_or, Option, Some, None, KeyOrder, position_cmp, lower, upper, Le, Lt, AnyRange, Item, rank_or_len, Ends}
 use Rattle.range_runs.specs.Stored.{item_lower, item_upper}
 use Rattle.range_runs.specs.Window.{option_items}
 
@@ -34,16 +34,16 @@ module _ {K : Type 0} (order : KeyOrder K) {V : Type 0} (same : V → V → Bool
 module _ {K : Type 0} (order : KeyOrder K) {V : Type 0} (same : V → V → Bool) {P : Type 0}
     {S : Type 0} (is_good : S → P → Type 0) (rank : S → P → ℕ)
     (items : S → List (Item (AnyRange K) V)) (stored : S) (r : AnyRange K) (v : V)
-    (reach : Reach P) where
+    (ends : Ends P) where
   -- the item that the range joins where it starts: the one that reaches out of it, or else the one
   -- before
   abbrev pub JoinsBefore : Option P → Type 0
   JoinsBefore = IsJoinedLeft order same (is_good stored) (rank stored) (items stored) r v
-      (rank_or_len (rank stored) (length (items stored)) reach.window.from
-      + length (option_items reach.first))
+      (rank_or_len (rank stored) (length (items stored)) ends.window.from
+      + length (option_items ends.first))
 
   -- the one that it joins where it ends
   abbrev pub JoinsAfter : Option P → Type 0
   JoinsAfter = IsJoinedRight order same (is_good stored) (rank stored) (items stored) r v
-      (rank_or_len (rank stored) (length (items stored)) reach.window.from + reach.window.count
-      - length (option_items reach.last))
+      (rank_or_len (rank stored) (length (items stored)) ends.window.from + ends.window.count
+      - length (option_items ends.last))

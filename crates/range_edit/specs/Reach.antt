@@ -1,6 +1,6 @@
 -- Which of the items that a range meets reach out of it, and all that is found before a change.
 use Rattle.std.specs.Prelude.{◌≡◌, ◌+◌, ◌-◌, ◌<◌, ◌≤◌}
-use Rattle.range_edit.specs.Common.{ℕ, Bool, List, length, slice_index_or, Option, Some, None, KeyOrder, position_cmp, AnyRange, Item, Le, Lt, lower, upper, rank_or_len, Reach, Window}
+use Rattle.range_edit.specs.Common.{ℕ, Bool, List, length, slice_index_or, Option, Some, None, KeyOrder, position_cmp, AnyRange, Item, Le, Lt, lower, upper, rank_or_len, Ends, Reach, Surrounded, Apart, Window}
 use Rattle.range_runs.specs.Stored.{item_lower, item_upper}
 use Rattle.range_runs.specs.Window.{option_items, IsWindow}
 
@@ -42,29 +42,35 @@ module _ {K : Type 0} (order : KeyOrder K) {V : Type 0} {P : Type 0} {S : Type 0
 
 module _ {P : Type 0} where
   -- no item of the window reaches out of the range on both sides
-  abbrev pub AreApart : Reach P → Type 0
-  AreApart reach =
-      length (option_items reach.first) + length (option_items reach.last) ≤ reach.window.count
+  abbrev pub AreApart : Ends P → Type 0
+  AreApart ends =
+      length (option_items ends.first) + length (option_items ends.last) ≤ ends.window.count
 
   -- how many of its items lie within the range
-  abbrev pub inner_count : Reach P → ℕ
-  inner_count reach =
-      reach.window.count - (length (option_items reach.first) + length (option_items reach.last))
+  abbrev pub inner_count : Ends P → ℕ
+  inner_count ends =
+      ends.window.count - (length (option_items ends.first) + length (option_items ends.last))
+
+  -- the window of which it is told
+  abbrev pub window_of : Reach P → Window P
+  window_of (Surrounded w p) = w
+  window_of (Apart ends) = ends.window
 
 module _ {K : Type 0} (order : KeyOrder K) {V : Type 0} (same : V → V → Bool) {P : Type 0} where
-  -- the items that a range meets, and those of them that reach out of it
-  pub record IsReach (is_good : P → Type 0) (rank : P → ℕ) (items : List (Item (AnyRange K) V))
-      (r : AnyRange K) (reach : Reach P) (index : ℕ) : Type 0 where
-    pub window : IsWindow order same is_good rank items r reach.window index
-    pub first : ReachesBefore order is_good rank items r index reach.window.count reach.first
-    pub last : ReachesAfter order is_good rank items r index reach.window.count reach.last
+  -- the items that a range meets, of which the first and the last may reach out of it
+  pub record AreEnds (is_good : P → Type 0) (rank : P → ℕ) (items : List (Item (AnyRange K) V))
+      (r : AnyRange K) (ends : Ends P) (index : ℕ) : Type 0 where
+    pub window : IsWindow order same is_good rank items r ends.window index
+    pub first : ReachesBefore order is_good rank items r index ends.window.count ends.first
+    pub last : ReachesAfter order is_good rank items r index ends.window.count ends.last
+    pub apart : AreApart ends
 
   -- those of a container
-  abbrev pub IsReachOf : {S : Type 0} → (S → P → Type 0) → (S → P → ℕ)
-      → (S → List (Item (AnyRange K) V)) → S → AnyRange K → Reach P → Type 0
-  IsReachOf is_good rank items stored r reach =
-      IsReach (is_good stored) (rank stored) (items stored) r reach
-      (rank_or_len (rank stored) (length (items stored)) reach.window.from)
+  abbrev pub AreEndsOf : {S : Type 0} → (S → P → Type 0) → (S → P → ℕ)
+      → (S → List (Item (AnyRange K) V)) → S → AnyRange K → Ends P → Type 0
+  AreEndsOf is_good rank items stored r ends =
+      AreEnds (is_good stored) (rank stored) (items stored) r ends
+      (rank_or_len (rank stored) (length (items stored)) ends.window.from)
 
   -- the range lies within the one item that it meets, at the position
   pub record IsSurrounded (is_good : P → Type 0) (rank : P → ℕ) (items : List (Item (AnyRange K) V))
@@ -83,3 +89,11 @@ module _ {K : Type 0} (order : KeyOrder K) {V : Type 0} (same : V → V → Bool
   IsSurroundedOf is_good rank items stored r w p =
       IsSurrounded (is_good stored) (rank stored) (items stored) r w
       (rank_or_len (rank stored) (length (items stored)) w.from) p
+
+  -- how the items that a range meets in a container reach out of it
+  abbrev pub IsReachOf : {S : Type 0} → (S → P → Type 0) → (S → P → ℕ)
+      → (S → List (Item (AnyRange K) V)) → S → AnyRange K → Reach P → Type 0
+  IsReachOf is_good rank items stored r (Surrounded w p) =
+      IsSurroundedOf is_good rank items stored r w p
+  IsReachOf is_good rank items stored r (Apart ends) =
+      AreEndsOf is_good rank items stored r ends

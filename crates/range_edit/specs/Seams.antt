@@ -1,6 +1,6 @@
 -- Which items a list joins that comes to stand in a range.
 use Rattle.std.specs.Prelude.{◌≡◌, ◌+◌, ◌-◌, ◌∷◌, ◌⊎◌}
-use Rattle.range_edit.specs.Common.{ℕ, Bool, List, [], length, Option, Some, None, Equal, Bound, KeyOrder, position_cmp, lower, upper, Lt, AnyRange, Item, rank_or_len, Reach}
+use Rattle.range_edit.specs.Common.{ℕ, Bool, List, [], length, Option, Some, None, Equal, Bound, KeyOrder, position_cmp, lower, upper, Lt, AnyRange, Item, rank_or_len, Ends}
 use Rattle.range_edit.specs.Plans.{IsJoinedLeft, IsJoinedRight}
 use Rattle.range_runs.specs.Edits.{with_start, with_end}
 use Rattle.range_runs.specs.Stored.{item_lower, item_upper}
@@ -45,15 +45,15 @@ module _ {K : Type 0} (order : KeyOrder K) {V : Type 0} (same : V → V → Bool
 
 module _ {K : Type 0} (order : KeyOrder K) {V : Type 0} (same : V → V → Bool) {P : Type 0}
     {S : Type 0} (is_good : S → P → Type 0) (rank : S → P → ℕ)
-    (items : S → List (Item (AnyRange K) V)) (stored : S) (r : AnyRange K) (reach : Reach P) where
+    (items : S → List (Item (AnyRange K) V)) (stored : S) (r : AnyRange K) (ends : Ends P) where
   -- the item that the first of a run is to join, where there is one
   abbrev pub IsJoiningFirst : Option (Item (AnyRange K) V) → Option P → Type 0
   IsJoiningFirst = IsFirstSeam order same (is_good stored) (rank stored) (items stored) r
-      (rank_or_len (rank stored) (length (items stored)) reach.window.from
-      + length (option_items reach.first))
+      (rank_or_len (rank stored) (length (items stored)) ends.window.from
+      + length (option_items ends.first))
 
   -- the item that the last of a run is to join, where there is one
   abbrev pub IsJoiningLast : Option (Item (AnyRange K) V) → Option P → Type 0
   IsJoiningLast = IsLastSeam order same (is_good stored) (rank stored) (items stored) r
-      (rank_or_len (rank stored) (length (items stored)) reach.window.from + reach.window.count
-      - length (option_items reach.last))
+      (rank_or_len (rank stored) (length (items stored)) ends.window.from + ends.window.count
+      - length (option_items ends.last))

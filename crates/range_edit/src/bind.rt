@@ -4,7 +4,7 @@ ghost use Rattle.range_algebra.specs.Range.{ClonesAreEqual, IsEmptyRange};
 ghost use Rattle.range_store.specs.Counting.{AddsSteps};
 ghost use Rattle.range_runs.specs.Clones.{ClonesNeverFail};
 ghost use Rattle.range_runs.specs.Stored.{IsStored};
-ghost use Rattle.range_edit.specs.Reach.{AreApart, IsReachOf, IsSurroundedOf};
+ghost use Rattle.range_edit.specs.Reach.{AreEndsOf, IsSurroundedOf};
 ghost use Rattle.range_edit.specs.Plans.{JoinsBefore, JoinsAfter};
 ghost use Rattle.range_edit.specs.Costs.{TakesAtLeast, TakesAsChange};
 ghost use Rattle.range_edit.specs.Changes.{IsInserted};
@@ -13,7 +13,7 @@ use crate::append::{comes_first, comes_last, outer_window, put_apart};
 use crate::borders::{Joins, joins_after, joins_before, seam_at};
 use crate::cut::prepare_parts;
 use crate::free::{bind_free, put_merged};
-use crate::reach::{Reach, reaching, surrounding};
+use crate::reach::{Ends, Reach, reaching};
 use crate::splice::divide;
 use range_algebra::any::AnyRange;
 use range_keys::traits::{Measure, PartialEnum};
@@ -58,57 +58,55 @@ pub fn bind_inside<K: PartialEnum + Clone, V: Eq + Clone, C: Storage<Item<AnyRan
 /// it.
 fn bind_merging<K: PartialEnum + Clone, V: Eq + Clone, C: Storage<Item<AnyRange<K>, V>>>(
     stored: &mut C,
-    reach: &Reach<C::Position>,
+    ends: &Ends<C::Position>,
     joins: &Joins<C::Position>,
     item: Item<AnyRange<K>, V>,
 ) -> Result<(), AllocError>
     requires keys { ClonesAreEqual K.is_clone K.eq }
-    requires reach { IsReachOf K.order V.eq C.is_good C.rank C.items stored.old item.key reach.now }
+    requires ends { AreEndsOf K.order V.eq C.is_good C.rank C.items stored.old item.key ends.now }
     requires before { JoinsBefore K.order V.eq C.is_good C.rank C.items stored.old item.key
-        item.value reach.now joins.now.before }
+        item.value ends.now joins.now.before }
     requires after { JoinsAfter K.order V.eq C.is_good C.rank C.items stored.old item.key item.value
-        reach.now joins.now.after }
-    requires apart { AreApart reach.now }
+        ends.now joins.now.after }
     ensures ok { OnOk result
         (IsInserted K.order V.eq (C.items stored.old) (C.items stored.new) item.key item.value) }
     ensures few { OnOk result
-        (2 * length (C.items stored.new) + reach.now.window.count
+        (2 * length (C.items stored.new) + ends.now.window.count
         ≤ 2 * length (C.items stored.old) + 4) }
     ensures refused { OnErr result (C.items stored.new ≡ C.items stored.old) }
     ensures succeeds { ClonesNeverFail K.is_infallible → 1 ≤ C.room stored.old → IsOk result }
 {
-    let left = seam_at(joins.before, reach.first, item.key.start_bound())?;
-    let right = seam_at(joins.after, reach.last, item.key.end_bound())?;
-    put_merged::<K, V, C>(stored, reach, joins, left, right, item)?;
+    let left = seam_at(joins.before, ends.first, item.key.start_bound())?;
+    let right = seam_at(joins.after, ends.last, item.key.end_bound())?;
+    put_merged::<K, V, C>(stored, ends, joins, left, right, item)?;
     Ok(())
 }
 
 /// Binds an item's range, which no stored range surrounds, to its value.
 fn bind_outside<K: PartialEnum + Clone, V: Eq + Clone, C: Storage<Item<AnyRange<K>, V>>>(
     stored: &mut C,
-    reach: &Reach<C::Position>,
+    ends: &Ends<C::Position>,
     item: Item<AnyRange<K>, V>,
     steps: &mut Steps,
 ) -> Result<(), AllocError>
     requires keys { ClonesAreEqual K.is_clone K.eq }
-    requires reach { IsReachOf K.order V.eq C.is_good C.rank C.items stored.old item.key reach.now }
-    requires apart { AreApart reach.now }
+    requires ends { AreEndsOf K.order V.eq C.is_good C.rank C.items stored.old item.key ends.now }
     ensures ok { OnOk result
         (IsInserted K.order V.eq (C.items stored.old) (C.items stored.new) item.key item.value) }
     ensures few { OnOk result
-        (2 * length (C.items stored.new) + reach.now.window.count
+        (2 * length (C.items stored.new) + ends.now.window.count
         ≤ 2 * length (C.items stored.old) + 4) }
     ensures counted { AddsSteps steps.old steps.new 0 2 }
     ensures refused { OnErr result (C.items stored.new ≡ C.items stored.old) }
     ensures succeeds { ClonesNeverFail K.is_infallible → 1 ≤ C.room stored.old → IsOk result }
 {
-    if reach.window.count == 0 {
-        bind_free::<K, V, C>(stored, reach, item, steps)?;
+    if ends.window.count == 0 {
+        bind_free::<K, V, C>(stored, ends, item, steps)?;
         return Ok(());
     }
-    let before = joins_before::<K, V, C>(stored, reach, &item.key, &item.value, steps);
-    let after = joins_after::<K, V, C>(stored, reach, &item.key, &item.value, steps);
-    bind_merging::<K, V, C>(stored, reach, &Joins { before, after }, item)
+    let before = joins_before::<K, V, C>(stored, ends, &item.key, &item.value, steps);
+    let after = joins_after::<K, V, C>(stored, ends, &item.key, &item.value, steps);
+    bind_merging::<K, V, C>(stored, ends, &Joins { before, after }, item)
 }
 
 /// Binds each key of a nonempty range to the value.
@@ -133,10 +131,14 @@ pub fn bind<K: Measure + Clone, V: Eq + Clone, C: Storage<Item<AnyRange<K>, V>>>
         → 2 ≤ C.room stored.old → IsOk result }
 {
     let window = find_window::<K, V, C, AnyRange<K>>(stored, &range, steps);
-    let reach = reaching::<K, V, C, AnyRange<K>>(stored, window, &range, steps);
-    match surrounding(&reach) {
-        Some(p) => bind_inside::<K, V, C>(stored, &reach.window, p, range, value),
-        None => bind_outside::<K, V, C>(stored, &reach, Item { key: range, value }, steps),
+    match reaching::<K, V, C, AnyRange<K>>(stored, window, &range, steps) {
+        Reach::Surrounded(window, p) => bind_inside::<K, V, C>(stored, &window, p, range, value),
+        Reach::Apart(ends) => bind_outside::<K, V, C>(
+            stored,
+            &ends,
+            Item { key: range, value },
+            steps,
+        ),
     }
 }
 
@@ -168,12 +170,12 @@ pub fn bind_in_order<K: Measure + Clone, V: Eq + Clone, C: Storage<Item<AnyRange
     }
     let mut steps = Steps::new();
     if let Some(window) = outer_window::<K, V, C>(stored, &range) {
-        let reach = Reach {
+        let ends = Ends {
             window,
             first: None,
             last: None,
         };
-        bind_free::<K, V, C>(stored, &reach, Item { key: range, value }, &mut steps)?;
+        bind_free::<K, V, C>(stored, &ends, Item { key: range, value }, &mut steps)?;
         return Ok(());
     }
     bind::<K, V, C>(stored, range, value, &mut steps)

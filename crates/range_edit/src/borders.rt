@@ -6,11 +6,11 @@ ghost use Rattle.range_algebra.specs.Range.{ClonesAreEqual};
 ghost use Rattle.range_store.specs.Counting.{AddsSteps};
 ghost use Rattle.range_runs.specs.Clones.{ClonesNeverFail};
 ghost use Rattle.range_runs.specs.Window.{IsWindowOf};
-ghost use Rattle.range_edit.specs.Reach.{AreApart, IsReachOf};
+ghost use Rattle.range_edit.specs.Reach.{AreApart, AreEndsOf};
 ghost use Rattle.range_edit.specs.Borders.{seam_border, run_length, IsSeamAt, IsJoinedBefore, IsJoinedAfter};
 ghost use Rattle.range_edit.specs.Plans.{JoinsBefore, JoinsAfter};
 
-use crate::reach::{Reach, item_count};
+use crate::reach::{Ends, item_count};
 use range_algebra::any::AnyRange;
 use range_algebra::inner;
 use range_algebra::inner::starts_at_end;
@@ -120,17 +120,17 @@ pub fn joined_after<K: PartialEnum, V: Eq + Drop, C: Storage<Item<AnyRange<K>, V
 #[inline(always)]
 pub fn joins_before<K: PartialEnum, V: Eq + Drop, C: Storage<Item<AnyRange<K>, V>>>(
     stored: &C,
-    reach: &Reach<C::Position>,
+    ends: &Ends<C::Position>,
     range: &AnyRange<K>,
     value: &V,
     steps: &mut Steps,
 ) -> Option<C::Position>
-    requires { IsReachOf K.order V.eq C.is_good C.rank C.items stored.now range.now reach.now }
+    requires { AreEndsOf K.order V.eq C.is_good C.rank C.items stored.now range.now ends.now }
     ensures joins { JoinsBefore K.order V.eq C.is_good C.rank C.items stored.now range.now value.now
-        reach.now result }
+        ends.now result }
     ensures counted { AddsSteps steps.old steps.new 0 1 }
 {
-    match reach.first {
+    match ends.first {
         Some(first) => {
             if stored.get(first).value == *value {
                 Some(first)
@@ -138,7 +138,7 @@ pub fn joins_before<K: PartialEnum, V: Eq + Drop, C: Storage<Item<AnyRange<K>, V
                 None
             }
         }
-        None => joined_before::<K, V, C>(stored, &reach.window, range, value, steps),
+        None => joined_before::<K, V, C>(stored, &ends.window, range, value, steps),
     }
 }
 
@@ -146,17 +146,17 @@ pub fn joins_before<K: PartialEnum, V: Eq + Drop, C: Storage<Item<AnyRange<K>, V
 #[inline(always)]
 pub fn joins_after<K: PartialEnum, V: Eq + Drop, C: Storage<Item<AnyRange<K>, V>>>(
     stored: &C,
-    reach: &Reach<C::Position>,
+    ends: &Ends<C::Position>,
     range: &AnyRange<K>,
     value: &V,
     steps: &mut Steps,
 ) -> Option<C::Position>
-    requires { IsReachOf K.order V.eq C.is_good C.rank C.items stored.now range.now reach.now }
+    requires { AreEndsOf K.order V.eq C.is_good C.rank C.items stored.now range.now ends.now }
     ensures joins { JoinsAfter K.order V.eq C.is_good C.rank C.items stored.now range.now value.now
-        reach.now result }
+        ends.now result }
     ensures counted { AddsSteps steps.old steps.new 0 1 }
 {
-    match reach.last {
+    match ends.last {
         Some(last) => {
             if stored.get(last).value == *value {
                 Some(last)
@@ -164,7 +164,7 @@ pub fn joins_after<K: PartialEnum, V: Eq + Drop, C: Storage<Item<AnyRange<K>, V>
                 None
             }
         }
-        None => joined_after::<K, V, C>(stored, &reach.window, range, value, steps),
+        None => joined_after::<K, V, C>(stored, &ends.window, range, value, steps),
     }
 }
 
@@ -206,11 +206,11 @@ pub fn seam_at<K: PartialEnum + Clone, P: Copy>(
 }
 
 /// How many items are replaced: those that join, and those that lie within the range.
-pub fn run_length<P: Copy>(reach: &Reach<P>, joins: &Joins<P>) -> usize
-    requires apart { AreApart reach.now }
-    requires fits { run_length reach.now joins.now ≤ usize.MAX }
-    ensures { result ≡ run_length reach.now joins.now }
+pub fn run_length<P: Copy>(ends: &Ends<P>, joins: &Joins<P>) -> usize
+    requires apart { AreApart ends.now }
+    requires fits { run_length ends.now joins.now ≤ usize.MAX }
+    ensures { result ≡ run_length ends.now joins.now }
 {
-    let inner = reach.window.count - (item_count(&reach.first) + item_count(&reach.last));
+    let inner = ends.window.count - (item_count(&ends.first) + item_count(&ends.last));
     item_count(&joins.before) + inner + item_count(&joins.after)
 }

@@ -5,12 +5,12 @@ ghost use Rattle.std.specs.Option.{ForSome};
 ghost use Rattle.range_store.specs.Counting.{AddsSteps};
 ghost use Rattle.range_store.specs.ListRanks.{rank_or_len};
 ghost use Rattle.range_edit.specs.Borders.{IsSeamAt};
-ghost use Rattle.range_edit.specs.Reach.{AreApart, IsReachOf};
+ghost use Rattle.range_edit.specs.Reach.{AreEndsOf};
 ghost use Rattle.range_edit.specs.Plans.{JoinsBefore, JoinsAfter};
 ghost use Rattle.range_edit.specs.Changes.{IsInserted};
 
 use crate::borders::{Border, Joins, Sides, joins_after, joins_before, run_length, seam};
-use crate::reach::{Reach, run_start};
+use crate::reach::{Ends, run_start};
 use crate::splice::change;
 use range_algebra::any::AnyRange;
 use range_keys::traits::PartialEnum;
@@ -48,15 +48,15 @@ pub fn put<T, C: Storage<T>>(
 /// it back where there is no memory.
 fn put_between<K: PartialEnum, V: Eq + Drop, C: Storage<Item<AnyRange<K>, V>>>(
     stored: &mut C,
-    reach: &Reach<C::Position>,
+    ends: &Ends<C::Position>,
     item: Item<AnyRange<K>, V>,
 ) -> Result<(), AllocFailed<Item<AnyRange<K>, V>>>
-    requires reach { IsReachOf K.order V.eq C.is_good C.rank C.items stored.old item.key reach.now }
-    requires none { reach.now.window.count ≡ 0 }
+    requires ends { AreEndsOf K.order V.eq C.is_good C.rank C.items stored.old item.key ends.now }
+    requires none { ends.now.window.count ≡ 0 }
     requires before { JoinsBefore K.order V.eq C.is_good C.rank C.items stored.old item.key
-        item.value reach.now None }
+        item.value ends.now None }
     requires after { JoinsAfter K.order V.eq C.is_good C.rank C.items stored.old item.key item.value
-        reach.now None }
+        ends.now None }
     ensures ok { OnOk result
         (IsInserted K.order V.eq (C.items stored.old) (C.items stored.new) item.key item.value) }
     ensures few { OnOk result (length (C.items stored.new) ≤ length (C.items stored.old) + 2) }
@@ -64,7 +64,7 @@ fn put_between<K: PartialEnum, V: Eq + Drop, C: Storage<Item<AnyRange<K>, V>>>(
     ensures refused { OnErr result (C.items stored.new ≡ C.items stored.old) }
     ensures succeeds { 1 ≤ C.room stored.old → IsOk result }
 {
-    put::<Item<AnyRange<K>, V>, C>(stored, reach.window.from, item)
+    put::<Item<AnyRange<K>, V>, C>(stored, ends.window.from, item)
 }
 
 /// How much capacity to spare one item needs that replaces a run.
@@ -78,32 +78,31 @@ fn growth(count: usize) -> usize
 /// Hands it back where there is no memory.
 pub fn put_merged<K: PartialEnum, V: Eq + Drop, C: Storage<Item<AnyRange<K>, V>>>(
     stored: &mut C,
-    reach: &Reach<C::Position>,
+    ends: &Ends<C::Position>,
     joins: &Joins<C::Position>,
     left: Border<K, C::Position>,
     right: Border<K, C::Position>,
     item: Item<AnyRange<K>, V>,
 ) -> Result<(), AllocFailed<Item<AnyRange<K>, V>>>
-    requires reach { IsReachOf K.order V.eq C.is_good C.rank C.items stored.old item.key reach.now }
+    requires ends { AreEndsOf K.order V.eq C.is_good C.rank C.items stored.old item.key ends.now }
     requires before { JoinsBefore K.order V.eq C.is_good C.rank C.items stored.old item.key
-        item.value reach.now joins.now.before }
+        item.value ends.now joins.now.before }
     requires after { JoinsAfter K.order V.eq C.is_good C.rank C.items stored.old item.key item.value
-        reach.now joins.now.after }
-    requires apart { AreApart reach.now }
-    requires left { IsSeamAt K.order joins.now.before reach.now.first item.key.start left }
-    requires right { IsSeamAt K.order joins.now.after reach.now.last item.key.end right }
+        ends.now joins.now.after }
+    requires left { IsSeamAt K.order joins.now.before ends.now.first item.key.start left }
+    requires right { IsSeamAt K.order joins.now.after ends.now.last item.key.end right }
     ensures ok { OnOk result
         (IsInserted K.order V.eq (C.items stored.old) (C.items stored.new) item.key item.value) }
     ensures few { OnOk result
-        (2 * length (C.items stored.new) + reach.now.window.count
+        (2 * length (C.items stored.new) + ends.now.window.count
         ≤ 2 * length (C.items stored.old) + 4) }
     ensures given { IfErr result (λ e. e.value ≡ item) }
     ensures refused { OnErr result (C.items stored.new ≡ C.items stored.old) }
     ensures succeeds { 1 ≤ C.room stored.old → IsOk result }
 {
     let run = Cursor {
-        at: run_start::<K, V, C>(stored, reach, joins.before),
-        left: run_length(reach, joins),
+        at: run_start::<K, V, C>(stored, ends, joins.before),
+        left: run_length(ends, joins),
     };
     match stored.reserve(growth(run.left)) {
         Ok(()) => {
@@ -119,12 +118,12 @@ pub fn put_merged<K: PartialEnum, V: Eq + Drop, C: Storage<Item<AnyRange<K>, V>>
 #[inline(always)]
 pub fn bind_free<K: PartialEnum, V: Eq + Drop, C: Storage<Item<AnyRange<K>, V>>>(
     stored: &mut C,
-    reach: &Reach<C::Position>,
+    ends: &Ends<C::Position>,
     item: Item<AnyRange<K>, V>,
     steps: &mut Steps,
 ) -> Result<(), AllocFailed<Item<AnyRange<K>, V>>>
-    requires reach { IsReachOf K.order V.eq C.is_good C.rank C.items stored.old item.key reach.now }
-    requires none { reach.now.window.count ≡ 0 }
+    requires ends { AreEndsOf K.order V.eq C.is_good C.rank C.items stored.old item.key ends.now }
+    requires none { ends.now.window.count ≡ 0 }
     ensures ok { OnOk result
         (IsInserted K.order V.eq (C.items stored.old) (C.items stored.new) item.key item.value) }
     ensures few { OnOk result (length (C.items stored.new) ≤ length (C.items stored.old) + 2) }
@@ -133,12 +132,12 @@ pub fn bind_free<K: PartialEnum, V: Eq + Drop, C: Storage<Item<AnyRange<K>, V>>>
     ensures refused { OnErr result (C.items stored.new ≡ C.items stored.old) }
     ensures succeeds { 1 ≤ C.room stored.old → IsOk result }
 {
-    let before = joins_before::<K, V, C>(stored, reach, &item.key, &item.value, steps);
-    let after = joins_after::<K, V, C>(stored, reach, &item.key, &item.value, steps);
+    let before = joins_before::<K, V, C>(stored, ends, &item.key, &item.value, steps);
+    let after = joins_after::<K, V, C>(stored, ends, &item.key, &item.value, steps);
     if before.is_none() && after.is_none() {
-        return put_between::<K, V, C>(stored, reach, item);
+        return put_between::<K, V, C>(stored, ends, item);
     }
     let left = seam(before, None, Bound::Unbounded);
     let right = seam(after, None, Bound::Unbounded);
-    put_merged::<K, V, C>(stored, reach, &Joins { before, after }, left, right, item)
+    put_merged::<K, V, C>(stored, ends, &Joins { before, after }, left, right, item)
 }

@@ -1,11 +1,11 @@
 //! Which of the items that a range meets reach out of it.
-ghost use Rattle.std.specs.Prelude.{◌≡◌, ◌+◌, ◌≤◌, length, Some, IsSome, MatchOption};
+ghost use Rattle.std.specs.Prelude.{◌≡◌, ◌+◌, ◌≤◌, length};
 ghost use Rattle.std.specs.Option.{ForSome};
 ghost use Rattle.range_store.specs.Counting.{AddsSteps};
 ghost use Rattle.range_store.specs.ListRanks.{rank_or_len};
 ghost use Rattle.range_runs.specs.Window.{option_items, IsWindowOf};
 ghost use Rattle.range_edit.specs.Borders.{IsRunStart};
-ghost use Rattle.range_edit.specs.Reach.{AreApart, IsFirstReaching, IsLastReaching, IsReachOf};
+ghost use Rattle.range_edit.specs.Reach.{IsFirstReaching, IsLastReaching, IsReachOf, window_of};
 
 use crate::cut::{ends_after, starts_before};
 use range_algebra::any::AnyRange;
@@ -14,9 +14,18 @@ use range_keys::traits::{Measure, PartialEnum};
 use range_runs::window::Window;
 use range_store::storage::{Item, Steps, Storage};
 
-/// The items that a range meets, and those of them that reach out of it.
+/// How the items that a range meets reach out of it.
 #[derive(Drop)]
-pub struct Reach<P: Copy> {
+pub enum Reach<P: Copy> {
+    /// The one item of the window, at the position, reaches out on both sides.
+    Surrounded(Window<P>, P),
+    /// No item reaches out on both sides.
+    Apart(Ends<P>),
+}
+
+/// The items that a range meets where none of them surrounds it.
+#[derive(Drop)]
+pub struct Ends<P: Copy> {
     pub window: Window<P>,
     /// The first one, if it starts before the range.
     pub first: Option<P>,
@@ -79,7 +88,7 @@ pub fn reaching_after<
     }
 }
 
-/// The items that a range meets, with those that reach out of it. A step for each side of it.
+/// How the items of a window reach out of its range. A step for each side.
 #[inline(always)]
 pub fn reaching<K: Measure, V: Eq + Drop, C: Storage<Item<AnyRange<K>, V>>, R: AsRange<Item = K>>(
     stored: &C,
@@ -91,53 +100,41 @@ pub fn reaching<K: Measure, V: Eq + Drop, C: Storage<Item<AnyRange<K>, V>>, R: A
         window }
     ensures reach { IsReachOf K.order V.eq C.is_good C.rank C.items stored.now (R.range range.now)
         result }
-    ensures window { result.window ≡ window }
+    ensures window { window_of result ≡ window }
     ensures counted { AddsSteps steps.old steps.new 0 2 }
 {
     let first = reaching_before::<K, V, C, R>(stored, &window, range, steps);
     let last = reaching_after::<K, V, C, R>(stored, &window, range, steps);
-    Reach {
+    if let (1, Some(first), Some(_)) = (window.count, first, last) {
+        return Reach::Surrounded(window, first);
+    }
+    Reach::Apart(Ends {
         window,
         first,
         last,
-    }
-}
-
-/// The one item that a range meets, if it reaches out on both sides.
-pub fn surrounding<P: Copy>(reach: &Reach<P>) -> Option<P>
-    requires first { length (option_items reach.now.first) ≤ reach.now.window.count }
-    requires last { length (option_items reach.now.last) ≤ reach.now.window.count }
-    ensures { MatchOption result (AreApart reach.now)
-        (λ p. (reach.now.window.count ≡ 1) × (reach.now.first ≡ Some p)
-        × IsSome reach.now.last) }
-{
-    if reach.window.count == 1 && reach.last.is_some() {
-        reach.first
-    } else {
-        None
-    }
+    })
 }
 
 /// The first item that is replaced: the one that joins, or else the first one that does not reach
 /// out before the range.
 pub fn run_start<K: PartialEnum, V: Eq + Drop, C: Storage<Item<AnyRange<K>, V>>>(
     stored: &C,
-    reach: &Reach<C::Position>,
+    ends: &Ends<C::Position>,
     joined: Option<C::Position>,
 ) -> Option<C::Position>
-    requires from { ForSome reach.now.window.from (C.is_good stored.now) }
-    requires first { ForSome reach.now.first
+    requires from { ForSome ends.now.window.from (C.is_good stored.now) }
+    requires first { ForSome ends.now.first
         (λ p. C.is_good stored.now p
         × (C.rank stored.now p
-        ≡ rank_or_len (C.rank stored.now) (length (C.items stored.now)) reach.now.window.from)) }
+        ≡ rank_or_len (C.rank stored.now) (length (C.items stored.now)) ends.now.window.from)) }
     ensures { IsRunStart (C.is_good stored.now) (C.rank stored.now) (length (C.items stored.now))
-        (rank_or_len (C.rank stored.now) (length (C.items stored.now)) reach.now.window.from)
-        reach.now.first joined result }
+        (rank_or_len (C.rank stored.now) (length (C.items stored.now)) ends.now.window.from)
+        ends.now.first joined result }
 {
-    match (joined, reach.first) {
+    match (joined, ends.first) {
         (Some(p), _) => Some(p),
         (None, Some(p)) => stored.next(p),
-        (None, None) => reach.window.from,
+        (None, None) => ends.window.from,
     }
 }
 

@@ -1,7 +1,7 @@
 //! Letting a list of items stand for all that a range held.
 ghost use Rattle.std.specs.Prelude.{◌≡◌, length, option_copied, IfSome, IsOk, OnOk, OnErr};
 ghost use Rattle.range_runs.specs.Pieces.{LiesIn};
-ghost use Rattle.range_edit.specs.Reach.{AreApart, IsReachOf};
+ghost use Rattle.range_edit.specs.Reach.{AreEndsOf};
 ghost use Rattle.range_edit.specs.Replaced.{AreWithin, IsReplaced};
 ghost use Rattle.range_edit.specs.Seams.{IsJoiningFirst, IsJoiningLast};
 ghost use Rattle.range_runs.specs.Spelling.{KeepsSpelling};
@@ -9,7 +9,7 @@ ghost use Rattle.range_runs.specs.Stored.{IsStored};
 
 use crate::borders::{Joins, Sides, joins_after, joins_before, run_length, seam};
 use crate::cut::{ends_after, starts_before};
-use crate::reach::{Reach, run_start};
+use crate::reach::{Ends, run_start};
 use crate::splice::change_to;
 use range_algebra::any::AnyRange;
 use range_algebra::inner;
@@ -22,14 +22,14 @@ use std::alloc::AllocError;
 /// The stored item that becomes one with the first item to stand in a range, where there is one.
 fn joined_left<K: Measure, V: Eq + Drop, C: Storage<Item<AnyRange<K>, V>>>(
     stored: &C,
-    reach: &Reach<C::Position>,
+    ends: &Ends<C::Position>,
     range: &AnyRange<K>,
     next: Option<&Item<AnyRange<K>, V>>,
 ) -> Option<C::Position>
-    requires reach { IsReachOf K.order V.eq C.is_good C.rank C.items stored.now range.now
-        reach.now }
+    requires ends { AreEndsOf K.order V.eq C.is_good C.rank C.items stored.now range.now
+        ends.now }
     requires within { IfSome next (λ i. LiesIn K.order i.now.key range.now) }
-    ensures { IsJoiningFirst K.order V.eq C.is_good C.rank C.items stored.now range.now reach.now
+    ensures { IsJoiningFirst K.order V.eq C.is_good C.rank C.items stored.now range.now ends.now
         (option_copied next.entry) result }
 {
     let Some(item) = next else {
@@ -39,20 +39,20 @@ fn joined_left<K: Measure, V: Eq + Drop, C: Storage<Item<AnyRange<K>, V>>>(
         return None;
     }
     let mut steps = Steps::new();
-    joins_before::<K, V, C>(stored, reach, range, &item.value, &mut steps)
+    joins_before::<K, V, C>(stored, ends, range, &item.value, &mut steps)
 }
 
 /// The stored item that becomes one with the last item to stand in a range, where there is one.
 fn joined_right<K: Measure, V: Eq + Drop, C: Storage<Item<AnyRange<K>, V>>>(
     stored: &C,
-    reach: &Reach<C::Position>,
+    ends: &Ends<C::Position>,
     range: &AnyRange<K>,
     previous: Option<&Item<AnyRange<K>, V>>,
 ) -> Option<C::Position>
-    requires reach { IsReachOf K.order V.eq C.is_good C.rank C.items stored.now range.now
-        reach.now }
+    requires ends { AreEndsOf K.order V.eq C.is_good C.rank C.items stored.now range.now
+        ends.now }
     requires within { IfSome previous (λ i. LiesIn K.order i.now.key range.now) }
-    ensures { IsJoiningLast K.order V.eq C.is_good C.rank C.items stored.now range.now reach.now
+    ensures { IsJoiningLast K.order V.eq C.is_good C.rank C.items stored.now range.now ends.now
         (option_copied previous.entry) result }
 {
     let Some(item) = previous else {
@@ -63,7 +63,7 @@ fn joined_right<K: Measure, V: Eq + Drop, C: Storage<Item<AnyRange<K>, V>>>(
         return None;
     }
     let mut steps = Steps::new();
-    joins_after::<K, V, C>(stored, reach, range, &item.value, &mut steps)
+    joins_after::<K, V, C>(stored, ends, range, &item.value, &mut steps)
 }
 
 /// Lets the items of a list stand for all that a nonempty range held, where no stored range
@@ -72,12 +72,11 @@ fn joined_right<K: Measure, V: Eq + Drop, C: Storage<Item<AnyRange<K>, V>>>(
 /// Clones nothing, and allocates only where more items come than are replaced.
 pub fn replace<K: Measure, V: Eq + Drop, C: Storage<Item<AnyRange<K>, V>>>(
     stored: &mut C,
-    reach: &Reach<C::Position>,
+    ends: &Ends<C::Position>,
     range: AnyRange<K>,
     middle: Vec<Item<AnyRange<K>, V>>,
 ) -> Result<(), AllocError>
-    requires reach { IsReachOf K.order V.eq C.is_good C.rank C.items stored.old range reach.now }
-    requires apart { AreApart reach.now }
+    requires ends { AreEndsOf K.order V.eq C.is_good C.rank C.items stored.old range ends.now }
     requires middle { IsStored K.order V.eq middle.items }
     requires within { AreWithin K.order middle.items range }
     ensures ok { OnOk result
@@ -87,16 +86,16 @@ pub fn replace<K: Measure, V: Eq + Drop, C: Storage<Item<AnyRange<K>, V>>>(
     ensures refused { OnErr result (C.items stored.new ≡ C.items stored.old) }
     ensures none_put { length middle.items ≡ 0 → IsOk result }
 {
-    let before = joined_left::<K, V, C>(stored, reach, &range, middle.first());
-    let after = joined_right::<K, V, C>(stored, reach, &range, middle.last());
+    let before = joined_left::<K, V, C>(stored, ends, &range, middle.first());
+    let after = joined_right::<K, V, C>(stored, ends, &range, middle.last());
     let run = Cursor {
-        at: run_start::<K, V, C>(stored, reach, before),
-        left: run_length(reach, &Joins { before, after }),
+        at: run_start::<K, V, C>(stored, ends, before),
+        left: run_length(ends, &Joins { before, after }),
     };
     stored.reserve(middle.len().saturating_sub(run.left))?;
     let (start, end) = range.into_bounds();
-    let left = seam(before, reach.first, flip_bound(start));
-    let right = seam(after, reach.last, flip_bound(end));
+    let left = seam(before, ends.first, flip_bound(start));
+    let right = seam(after, ends.last, flip_bound(end));
     change_to::<K, V, C>(stored, Sides { left, right, run }, middle);
     Ok(())
 }

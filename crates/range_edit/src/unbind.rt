@@ -7,14 +7,14 @@ ghost use Rattle.range_runs.specs.Bindings.{IsUnboundAfter};
 ghost use Rattle.range_runs.specs.Clones.{ClonesNeverFail};
 ghost use Rattle.range_runs.specs.Stored.{IsStored};
 ghost use Rattle.range_runs.specs.Window.{IsWindowOf};
-ghost use Rattle.range_edit.specs.Reach.{AreApart, IsReachOf, IsSurroundedOf};
+ghost use Rattle.range_edit.specs.Reach.{AreEndsOf, IsSurroundedOf};
 ghost use Rattle.range_runs.specs.Lookups.{Overlap};
 ghost use Rattle.range_edit.specs.Costs.{TakesAtLeast, TakesAsChange};
 ghost use Rattle.range_edit.specs.Changes.{IsRemoved};
 
 use crate::borders::{Joins, Sides, run_length, seam_at};
 use crate::cut::prepare_parts;
-use crate::reach::{Reach, reaching, run_start, surrounding};
+use crate::reach::{Ends, Reach, reaching, run_start};
 use crate::splice::{change, divide};
 use range_algebra::any::AnyRange;
 use range_algebra::inner;
@@ -53,24 +53,24 @@ pub fn unbind_inside<
 /// Unbinds a range that meets stored ranges of which none reaches out of it: takes these out.
 fn unbind_whole<K: Measure, V: Eq + Drop, C: Storage<Item<AnyRange<K>, V>>, R: AsRange<Item = K>>(
     stored: &mut C,
-    reach: &Reach<C::Position>,
+    ends: &Ends<C::Position>,
     range: &R,
 )
-    requires reach { IsReachOf K.order V.eq C.is_good C.rank C.items stored.old (R.range range.now)
-        reach.now }
-    requires some { 0 < reach.now.window.count }
-    requires first { reach.now.first ≡ None }
-    requires last { reach.now.last ≡ None }
+    requires ends { AreEndsOf K.order V.eq C.is_good C.rank C.items stored.old (R.range range.now)
+        ends.now }
+    requires some { 0 < ends.now.window.count }
+    requires first { ends.now.first ≡ None }
+    requires last { ends.now.last ≡ None }
     ensures removed { IsRemoved K.order V.eq (C.items stored.old) (C.items stored.new)
         (R.range range.now) }
-    ensures few { length (C.items stored.new) + reach.now.window.count
+    ensures few { length (C.items stored.new) + ends.now.window.count
         ≡ length (C.items stored.old) }
     ensures space { C.room stored.old + length (C.items stored.old)
         ≤ C.room stored.new + length (C.items stored.new) }
 {
     let run = Cursor {
-        at: reach.window.from,
-        left: reach.window.count,
+        at: ends.window.from,
+        left: ends.window.count,
     };
     remove_rest::<Item<AnyRange<K>, V>, C>(stored, run);
 }
@@ -81,31 +81,30 @@ fn unbind_cutting<
     V: Eq + Drop,
     C: Storage<Item<AnyRange<K>, V>>,
     R: AsRange<Item = K>,
->(stored: &mut C, reach: &Reach<C::Position>, range: &R) -> Result<(), AllocError>
+>(stored: &mut C, ends: &Ends<C::Position>, range: &R) -> Result<(), AllocError>
     requires keys { ClonesAreEqual K.is_clone K.eq }
-    requires reach { IsReachOf K.order V.eq C.is_good C.rank C.items stored.old (R.range range.now)
-        reach.now }
-    requires some { 0 < reach.now.window.count }
-    requires apart { AreApart reach.now }
+    requires ends { AreEndsOf K.order V.eq C.is_good C.rank C.items stored.old (R.range range.now)
+        ends.now }
+    requires some { 0 < ends.now.window.count }
     ensures ok { OnOk result
         (IsRemoved K.order V.eq (C.items stored.old) (C.items stored.new) (R.range range.now)) }
     ensures few { OnOk result
-        (2 * length (C.items stored.new) + reach.now.window.count
+        (2 * length (C.items stored.new) + ends.now.window.count
         ≤ 2 * length (C.items stored.old) + 3) }
     ensures refused { OnErr result (C.items stored.new ≡ C.items stored.old) }
     ensures space { C.room stored.old + length (C.items stored.old)
         ≤ C.room stored.new + length (C.items stored.new) }
     ensures succeeds { ClonesNeverFail K.is_infallible → IsOk result }
 {
-    let left = seam_at(None, reach.first, range.start())?;
-    let right = seam_at(None, reach.last, range.end())?;
+    let left = seam_at(None, ends.first, range.start())?;
+    let right = seam_at(None, ends.last, range.end())?;
     let joins = Joins {
         before: None,
         after: None,
     };
     let run = Cursor {
-        at: run_start::<K, V, C>(stored, reach, None),
-        left: run_length(reach, &joins),
+        at: run_start::<K, V, C>(stored, ends, None),
+        left: run_length(ends, &joins),
     };
     change::<K, V, C>(stored, Sides { left, right, run }, None);
     Ok(())
@@ -139,15 +138,17 @@ fn unbind_met<
     ensures succeeds { ClonesNeverFail K.is_infallible → ClonesNeverFail V.is_infallible
         → 1 ≤ C.room stored.old → IsOk result }
 {
-    let reach = reaching::<K, V, C, R>(stored, window, range, steps);
-    if reach.first.is_none() && reach.last.is_none() {
-        unbind_whole::<K, V, C, R>(stored, &reach, range);
+    let ends = match reaching::<K, V, C, R>(stored, window, range, steps) {
+        Reach::Surrounded(window, p) => {
+            return unbind_inside::<K, V, C, R>(stored, &window, p, range);
+        }
+        Reach::Apart(ends) => ends,
+    };
+    if ends.first.is_none() && ends.last.is_none() {
+        unbind_whole::<K, V, C, R>(stored, &ends, range);
         return Ok(());
     }
-    match surrounding(&reach) {
-        Some(p) => unbind_inside::<K, V, C, R>(stored, &reach.window, p, range),
-        None => unbind_cutting::<K, V, C, R>(stored, &reach, range),
-    }
+    unbind_cutting::<K, V, C, R>(stored, &ends, range)
 }
 
 /// Binds no key of a nonempty range.

@@ -9,7 +9,7 @@ ghost use Rattle.range_runs.specs.Stored.{IsStored};
 ghost use Rattle.range_runs.specs.declared.error.UpdateError.TheVariants.{Closure as ClosureError, Memory as MemoryError};
 
 use crate::bind::bind_inside;
-use crate::reach::{reaching, surrounding};
+use crate::reach::{Reach, reaching};
 use crate::replace::replace;
 use crate::unbind::unbind_inside;
 use range_algebra::any::AnyRange;
@@ -94,11 +94,11 @@ pub fn update_pieces<
 {
     let mut steps = Steps::new();
     let window = find_window::<K, V, C, AnyRange<K>>(stored, &range, &mut steps);
-    let reach = reaching::<K, V, C, AnyRange<K>>(stored, window, &range, &mut steps);
-    if let Some(p) = surrounding(&reach) {
-        return update_within(stored, &reach.window, p, range, f);
-    }
-    let middle = gather(alloc, stored, &reach.window, &range, f)?;
-    replace::<K, V, C>(stored, &reach, range, middle)?;
+    let ends = match reaching::<K, V, C, AnyRange<K>>(stored, window, &range, &mut steps) {
+        Reach::Surrounded(window, p) => return update_within(stored, &window, p, range, f),
+        Reach::Apart(ends) => ends,
+    };
+    let middle = gather(alloc, stored, &ends.window, &range, f)?;
+    replace::<K, V, C>(stored, &ends, range, middle)?;
     Ok(())
 }

@@ -1,14 +1,16 @@
 -- What is read of a list while a loop goes over it.
-use Rattle.std.proofs.Common.{◌≡◌, refl, sym, ap, ◌∙◌, ℕ, suc, ◌+◌, List, [], ◌∷◌, ◌++◌, map, length, Option, Some, None, append_assoc, arith, rules}
-use Rattle.std.proofs.lemmas.Option.{none-some}
+use Rattle.std.proofs.Common.{◌≡◌, refl, sym, ap, ◌∙◌, ℕ, suc, ◌+◌, List, [], ◌∷◌, ◌++◌, map, length, Bool, true, ◌&&◌, if◌then◌else◌, codes, Option, Some, None, option_map, option_and_then, Err, append_assoc, arith, rules}
+use Rattle.std.proofs.lemmas.Option.{none-some, same_Some}
 use Rattle.std.specs.List.{AllZip}
-use Rattle.serde_json.specs.Data.{Data, array}
-use Rattle.serde_json.specs.Find.{as_array}
-use Rattle.serde_json.specs.View.{view, items_of, items_view}
-use Rattle.serde_json.specs.declared.value.Value.{Value}
+use Rattle.serde_json.specs.Data.{Data, array, object}
+use Rattle.serde_json.specs.Find.{as_array, as_number, as_object, as_u64, get, get_member}
+use Rattle.serde_json.specs.View.{items_of}
+use Rattle.json_trees.specs.LookUps.{are_named}
 use Rattle.range_json.specs.Shapes.{list_of, elements_of}
+use Rattle.range_json.specs.MapFaults.{are_known, is_two, map_elements, or_no_array}
 use Rattle.range_json.specs.Faults.{before, first_fault}
 use Rattle.range_json.specs.declared.error.JsonError.{JsonError}
+use Rattle.range_json.specs.declared.error.JsonError.TheVariants.{Version}
 use Rattle.range_json.specs.SetReadBack.{list_back}
 
 abbrev MaybeFault : Type 0
@@ -51,18 +53,33 @@ read_more R [] [] d x h k = (k, tt)
 read_more R (e ∷ ds) (y ∷ xs) d x h k = (h.0, read_more R ds xs d x h.1 k)
 read_more R ds xs d x h k = absurd h
 
-pub same_length : (vs : List Value) → length (map view vs) ≡ length vs
-same_length [] = refl
-same_length (v ∷ vs) = ap suc (same_length vs)
+pub same_length : {T : Type 0} (content : T → Data) (vs : List T)
+    → length (map content vs) ≡ length vs
+same_length content [] = refl
+same_length content (v ∷ vs) = ap suc (same_length content vs)
 
 -- an array's elements are its list
-pub array_has_elements : (d : Data) (vs : List Value) → as_array d ≡ Some (items_view vs)
-    → elements_of d ≡ Some (map view vs)
-array_has_elements (array ds) vs e =
-    let same : ds ≡ items_of (map view vs) = search (rules, e) in
-    ap (λ is. Some (list_of is)) same ∙ ap (λ l. Some l) (list_back (map view vs))
-array_has_elements d vs e = absurd (none-some _ e)
+pub array_has_elements : {T : Type 0} (content : T → Data) (d : Data) (vs : List T)
+    → as_array d ≡ Some (items_of (map content vs)) → elements_of d ≡ Some (map content vs)
+array_has_elements content (array ds) vs e =
+    let same : ds ≡ items_of (map content vs) = search (rules, e) in
+    ap (λ is. Some (list_of is)) same ∙ ap (λ l. Some l) (list_back (map content vs))
+array_has_elements content d vs e = absurd (none-some _ e)
 
-pub append_one_more : (xs : List Value) (v : Value) (more : List Value)
+-- the elements of an object of version 2
+pub version_2_has_items : (d items : Data)
+    → Some true ≡ option_map (are_named (codes "version") (codes "items")) (as_object d)
+    → option_and_then as_u64 (option_and_then as_number (get (codes "version") d)) ≡ Some 2
+    → Some items ≡ get (codes "items") d → map_elements d ≡ or_no_array (elements_of items)
+version_2_has_items (object ms) items known version found =
+    let elements =
+    or_no_array (option_and_then elements_of (get_member (codes "items") ms)) in
+    ap (λ v. if is_two v && are_known ms then elements else Err Version) version
+    ∙ ap (λ b. if b then elements else Err Version)
+    (sym (same_Some true (are_known ms) known))
+    ∙ ap (λ o. or_no_array (option_and_then elements_of o)) (sym found)
+version_2_has_items d items known version found = absurd (none-some true (sym known))
+
+pub append_one_more : {T : Type 0} (xs : List T) (v : T) (more : List T)
     → (xs ++ v ∷ []) ++ more ≡ xs ++ v ∷ more
 append_one_more xs v more = append_assoc xs (v ∷ []) more

@@ -1,10 +1,11 @@
 -- The first fault of a JSON value that is read as a map, in either shape, and what it binds where
 -- it has none.
-use Rattle.std.specs.Prelude.{◌≡◌, ℕ, List, [], ◌∷◌, ◌++◌, length, Option, Some, None, Result, Ok, Err, Bool, true, false, ◌==◌, ◌||◌, ◌&&◌, if◌then◌else◌, option_and_then, codes, bytes_eq, ◌⊎◌, ⊤}
+use Rattle.std.specs.Prelude.{◌≡◌, ℕ, List, [], ◌∷◌, ◌++◌, length, Option, Some, None, Result, Ok, Err, Bool, true, false, ◌==◌, ◌&&◌, if◌then◌else◌, option_and_then, codes, ◌⊎◌, ⊤}
 use Rattle.std.specs.List.{AllByRecursion, AllZip}
 use Rattle.std.specs.declared.cmp.Ordering.TheVariants.{Equal}
-use Rattle.serde_json.specs.Data.{Data, null, boolean, number, string, array, object, Members, no_members, member}
+use Rattle.serde_json.specs.Data.{Data, null, boolean, number, string, array, object, Members}
 use Rattle.serde_json.specs.Find.{get_member, as_number, as_u64}
+use Rattle.json_trees.specs.LookUps.{are_named}
 use Rattle.range_keys.specs.Order.{KeyOrder}
 use Rattle.range_algebra.specs.declared.any.AnyRange.{AnyRange}
 use Rattle.range_algebra.specs.Intervals.{Any}
@@ -20,9 +21,7 @@ use Rattle.range_json.specs.declared.error.JsonError.TheVariants.{Meets, NotArra
 
 -- each member is named `version` or `items`
 abbrev pub are_known : Members → Bool
-are_known no_members = true
-are_known (member k d ms) =
-    (bytes_eq k (codes "version") || bytes_eq k (codes "items")) && are_known ms
+are_known ms = are_named (codes "version") (codes "items") ms
 
 abbrev pub is_two : Option ℕ → Bool
 is_two None = false

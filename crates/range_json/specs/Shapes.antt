@@ -5,6 +5,7 @@ use Rattle.std.specs.declared.ops.Bound.{Bound}
 use Rattle.std.specs.declared.ops.Bound.TheVariants.{Included, Excluded, Unbounded}
 use Rattle.serde_json.specs.Data.{Data, null, boolean, number, string, array, object, unsigned, Items, no_items, item, Members, no_members, member}
 use Rattle.serde_json.specs.View.{items_of}
+pub use Rattle.json_trees.specs.LookUps.{alone, only_member_of}
 use Rattle.range_algebra.specs.declared.any.AnyRange.{AnyRange}
 use Rattle.range_reads.specs.FreeRanges.{item_ranges}
 use Rattle.range_store.specs.declared.storage.Item.{Item}
@@ -50,20 +51,6 @@ pair_of (number n) = None
 pair_of (string s) = None
 pair_of (array ds) = pair_of_items ds
 pair_of (object ms) = None
-
--- the name and the value of a member that is alone
-abbrev pub alone : Members → Option (List ℕ × Data)
-alone no_members = None
-alone (member k d no_members) = Some (k, d)
-alone (member k d (member l e more)) = None
-
-abbrev pub only_member_of : Data → Option (List ℕ × Data)
-only_member_of null = None
-only_member_of (boolean b) = None
-only_member_of (number n) = None
-only_member_of (string s) = None
-only_member_of (array ds) = None
-only_member_of (object ms) = alone ms
 
 abbrev pub named_bound : Option (List ℕ × Data) → Option (Bound Data)
 named_bound None = None

@@ -1,14 +1,15 @@
 //! Bounds as JSON values.
-ghost use Rattle.std.specs.Prelude.{◌≡◌, ◌⊎◌, Some, None, option_map, IfOk, OnOk, IfErr, IsErrOf};
+ghost use Rattle.std.specs.Prelude.{◌≡◌, ◌⊎◌, Some, None, IfOk, OnOk, IfErr, IsErrOf};
 ghost use Rattle.serde_json.specs.Data.{object, member, no_members};
 ghost use Rattle.serde_json.specs.View.{view};
 ghost use Rattle.range_json.specs.Faults.{IsBoundRead, bound_fault, key_fault};
-ghost use Rattle.range_json.specs.Shapes.{bound_shape, only_member_of};
+ghost use Rattle.range_json.specs.Shapes.{bound_shape};
 ghost use Rattle.range_json.specs.Values.{IsBoundValue};
 ghost use Rattle.range_json.specs.declared.error.JsonError.TheVariants.{Memory};
 
 use crate::error::{JsonError, ReadError};
 use crate::json::Json;
+use json_trees::JsonTree;
 use serde_json::{Map, Value};
 use std::alloc::{AllocError, Global};
 use std::ops::Bound;
@@ -35,11 +36,15 @@ pub(crate) fn bound_to_json<K: Json>(alloc: Global, bound: &Bound<K>) -> Result<
 }
 
 /// A key of the element at `index`.
-fn key_from_json<K: Json>(alloc: Global, value: &Value, index: usize) -> Result<K, JsonError>
-    ensures read { IfOk result (K.is_read (view value.now)) }
-    ensures sound { OnOk result (key_fault K.reads index (view value.now) ≡ None) }
+fn key_from_json<K: Json, J: JsonTree>(
+    alloc: Global,
+    value: &J,
+    index: usize,
+) -> Result<K, JsonError>
+    ensures read { IfOk result (K.is_read (J.content value.now)) }
+    ensures sound { OnOk result (key_fault K.reads index (J.content value.now) ≡ None) }
     ensures fault { IfErr result
-        (λ e. (e ≡ Memory) ⊎ (key_fault K.reads index (view value.now) ≡ Some e)) }
+        (λ e. (e ≡ Memory) ⊎ (key_fault K.reads index (J.content value.now) ≡ Some e)) }
     ensures memory { IsErrOf result Memory → ¬ K.reads_in_place }
 {
     match K::from_json(alloc, value) {
@@ -49,28 +54,16 @@ fn key_from_json<K: Json>(alloc: Global, value: &Value, index: usize) -> Result<
     }
 }
 
-/// The one member of an object that has no other.
-pub(crate) fn only_member(value: &Value) -> Option<(&str, &Value)>
-    ensures { option_map (λ m. (m.0.now, view m.1.now)) result ≡ only_member_of (view value.now) }
-{
-    let members = value.as_object()?;
-    let mut entries = members.iter();
-    match (entries.next(), entries.next()) {
-        (Some((name, member)), None) => Some((name.as_str(), member)),
-        _ => None,
-    }
-}
-
 /// A bound of the element at `index`.
-pub(crate) fn bound_from_json<K: Json>(
+pub(crate) fn bound_from_json<K: Json, J: JsonTree>(
     alloc: Global,
-    value: &Value,
+    value: &J,
     index: usize,
 ) -> Result<Bound<K>, JsonError>
-    ensures read { IfOk result (IsBoundRead K.is_read (view value.now)) }
-    ensures sound { OnOk result (bound_fault K.reads index (view value.now) ≡ None) }
+    ensures read { IfOk result (IsBoundRead K.is_read (J.content value.now)) }
+    ensures sound { OnOk result (bound_fault K.reads index (J.content value.now) ≡ None) }
     ensures fault { IfErr result
-        (λ e. (e ≡ Memory) ⊎ (bound_fault K.reads index (view value.now) ≡ Some e)) }
+        (λ e. (e ≡ Memory) ⊎ (bound_fault K.reads index (J.content value.now) ≡ Some e)) }
     ensures memory { IsErrOf result Memory → ¬ K.reads_in_place }
 {
     if let Some(text) = value.as_str() {
@@ -80,9 +73,12 @@ pub(crate) fn bound_from_json<K: Json>(
             Err(JsonError::NotBound(index))
         };
     }
-    match only_member(value) {
-        Some(("Included", key)) => Ok(Bound::Included(key_from_json(alloc, key, index)?)),
-        Some(("Excluded", key)) => Ok(Bound::Excluded(key_from_json(alloc, key, index)?)),
+    let Some((kind, key)) = value.only_member() else {
+        return Err(JsonError::NotBound(index));
+    };
+    match kind {
+        "Included" => Ok(Bound::Included(key_from_json(alloc, key, index)?)),
+        "Excluded" => Ok(Bound::Excluded(key_from_json(alloc, key, index)?)),
         _ => Err(JsonError::NotBound(index)),
     }
 }

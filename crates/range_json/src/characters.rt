@@ -6,6 +6,7 @@ ghost use Rattle.range_json.specs.ReadBack.{character_back, told_some, same_numb
 
 use crate::error::ReadError;
 use crate::json::{Json, ReadsBack};
+use json_trees::JsonTree;
 use range_keys::traits::MaybeBounded;
 use serde_json::Value;
 use std::alloc::{AllocError, Global};
@@ -28,7 +29,7 @@ impl Json for char {
         Ok(Value::from(text))
     }
 
-    fn from_json(_alloc: Global, value: &Value) -> Result<char, ReadError> {
+    fn from_json<J: JsonTree>(_alloc: Global, value: &J) -> Result<char, ReadError> {
         let text = match value.as_str() {
             Some(text) => text,
             None => return Err(ReadError::Refused),

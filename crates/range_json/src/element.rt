@@ -9,17 +9,22 @@ ghost use Rattle.range_json.specs.declared.error.JsonError.TheVariants.{Memory};
 use crate::error::{JsonError, ReadError};
 use crate::json::Json;
 use crate::range::{element_range, pair, range_to_json};
+use json_trees::JsonTree;
 use range_algebra::any::AnyRange;
 use range_store::storage::Item;
 use serde_json::Value;
 use std::alloc::{AllocError, Global};
 
 /// The value of the element at `index`.
-fn value_from_json<V: Json>(alloc: Global, value: &Value, index: usize) -> Result<V, JsonError>
-    ensures read { IfOk result (V.is_read (view value.now)) }
-    ensures sound { OnOk result (value_fault V.reads index (view value.now) ≡ None) }
+fn value_from_json<V: Json, J: JsonTree>(
+    alloc: Global,
+    value: &J,
+    index: usize,
+) -> Result<V, JsonError>
+    ensures read { IfOk result (V.is_read (J.content value.now)) }
+    ensures sound { OnOk result (value_fault V.reads index (J.content value.now) ≡ None) }
     ensures fault { IfErr result
-        (λ e. (e ≡ Memory) ⊎ (value_fault V.reads index (view value.now) ≡ Some e)) }
+        (λ e. (e ≡ Memory) ⊎ (value_fault V.reads index (J.content value.now) ≡ Some e)) }
 {
     match V::from_json(alloc, value) {
         Ok(value) => Ok(value),
@@ -29,16 +34,16 @@ fn value_from_json<V: Json>(alloc: Global, value: &Value, index: usize) -> Resul
 }
 
 /// The range and the value of the element at `index`.
-pub fn element_from_json<K: Json, V: Json>(
+pub fn element_from_json<K: Json, V: Json, J: JsonTree>(
     alloc: Global,
-    value: &Value,
+    value: &J,
     index: usize,
 ) -> Result<Item<AnyRange<K>, V>, JsonError>
-    ensures read { IfOk result (IsElementRead K.is_read V.is_read (view value.now)) }
-    ensures sound { OnOk result (element_fault K.reads V.reads index (view value.now) ≡ None) }
+    ensures read { IfOk result (IsElementRead K.is_read V.is_read (J.content value.now)) }
+    ensures sound { OnOk result (element_fault K.reads V.reads index (J.content value.now) ≡ None) }
     ensures fault { IfErr result
         (λ e. (e ≡ Memory)
-        ⊎ (element_fault K.reads V.reads index (view value.now) ≡ Some e)) }
+        ⊎ (element_fault K.reads V.reads index (J.content value.now) ≡ Some e)) }
 {
     match pair(value) {
         Some((range, value)) => Ok(Item {

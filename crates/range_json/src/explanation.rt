@@ -7,13 +7,14 @@ ghost use Rattle.range_json.specs.ValueSets.{reads_some_values, AreValuesRead};
 ghost use Rattle.range_json.specs.declared.error.JsonError.TheVariants.{Meets};
 
 use crate::array::elements_of_array;
-use crate::bound::{bound_from_json, only_member};
+use crate::bound::bound_from_json;
 use crate::error::JsonError;
 use crate::found::Found;
 use crate::json::Json;
 use crate::meeting::met_earlier;
 use crate::range::pair;
 use crate::version::elements_of_map;
+use json_trees::JsonTree;
 use range_keys::traits::Measure;
 use serde_json::Value;
 use std::collections::BTreeSet;
@@ -75,7 +76,7 @@ impl fmt::Display for Explanation {
 fn faulty_bound<K: Json>(range: &Value) -> Option<&Value> {
     let alloc = *range.as_array()?.allocator();
     let (start, end) = pair(range)?;
-    match bound_from_json::<K>(alloc, start, 0) {
+    match bound_from_json::<K, Value>(alloc, start, 0) {
         Ok(_) => Some(end),
         Err(_) => Some(start),
     }
@@ -86,7 +87,7 @@ fn place_in_range<'a, K: Json>(error: &JsonError, range: &'a Value) -> Option<&'
     match error {
         JsonError::NotBound(_) => faulty_bound::<K>(range),
         JsonError::Key(_) => {
-            let (_name, key) = only_member(faulty_bound::<K>(range)?)?;
+            let (_name, key) = faulty_bound::<K>(range)?.only_member()?;
             Some(key)
         }
         _ => Some(range),

@@ -8,6 +8,7 @@ pub use crate::error::{JsonError, ReadError};
 pub use crate::explanation::Explanation;
 pub use crate::laws::{maps_are_read_back, ranges_are_read_back, read_maps_have_no_fault};
 pub use crate::range::{range_from_json, range_to_json};
+pub use json_trees::JsonTree;
 use serde_json::Value;
 use std::alloc::{AllocError, Global};
 
@@ -35,10 +36,10 @@ pub trait Json: Sized + Drop {
 
     /// The value that the JSON value is read as. `Refused` where it is read as none, `Memory` where
     /// an allocation fails.
-    fn from_json(alloc: Global, value: &Value) -> Result<Self, ReadError>
-        ensures read { IfOk result (is_read (view value.now)) }
-        ensures readable { OnOk result (IsTrue (reads (view value.now))) }
-        ensures refused { IsErrOf result Refused → reads (view value.now) ≡ false }
+    fn from_json<J: JsonTree>(alloc: Global, value: &J) -> Result<Self, ReadError>
+        ensures read { IfOk result (is_read (J.content value.now)) }
+        ensures readable { OnOk result (IsTrue (reads (J.content value.now))) }
+        ensures refused { IsErrOf result Refused → reads (J.content value.now) ≡ false }
         ensures memory { IsErrOf result Memory → ¬ reads_in_place };
 
     /// What a JSON value has to be to be read as such a value, as an explained error says it:

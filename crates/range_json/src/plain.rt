@@ -6,6 +6,7 @@ ghost use Rattle.std.proofs.Common.{rules};
 
 use crate::error::ReadError;
 use crate::json::{Json, ReadsBack};
+use json_trees::JsonTree;
 use serde_json::Value;
 use std::alloc::{AllocError, Global};
 
@@ -24,7 +25,7 @@ impl Json for bool {
         Ok(Value::from(*self))
     }
 
-    fn from_json(_alloc: Global, value: &Value) -> Result<bool, ReadError> {
+    fn from_json<J: JsonTree>(_alloc: Global, value: &J) -> Result<bool, ReadError> {
         match value.as_bool() {
             Some(flag) => Ok(flag),
             None => Err(ReadError::Refused),
@@ -49,7 +50,7 @@ impl Json for String {
         Value::try_from_str(alloc, self.as_str())
     }
 
-    fn from_json(alloc: Global, value: &Value) -> Result<String, ReadError> {
+    fn from_json<J: JsonTree>(alloc: Global, value: &J) -> Result<String, ReadError> {
         match value.as_str() {
             Some(text) => Ok(String::from_str(alloc, text)?),
             None => Err(ReadError::Refused),

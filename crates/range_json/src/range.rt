@@ -9,6 +9,7 @@ ghost use Rattle.range_json.specs.declared.error.JsonError.TheVariants.{Memory};
 use crate::bound::{bound_from_json, bound_to_json};
 use crate::error::JsonError;
 use crate::json::Json;
+use json_trees::JsonTree;
 use range_algebra::any::AnyRange;
 use serde_json::Value;
 use std::alloc::{AllocError, Global};
@@ -26,8 +27,9 @@ pub fn range_to_json<K: Json>(alloc: Global, range: &AnyRange<K>) -> Result<Valu
 }
 
 /// The two elements of an array of two.
-pub(crate) fn pair(value: &Value) -> Option<(&Value, &Value)>
-    ensures { option_map (λ p. (view p.0.now, view p.1.now)) result ≡ pair_of (view value.now) }
+pub(crate) fn pair<J: JsonTree>(value: &J) -> Option<(&J, &J)>
+    ensures { option_map (λ p. (J.content p.0.now, J.content p.1.now)) result
+        ≡ pair_of (J.content value.now) }
 {
     let mut elements = value.as_array()?.iter();
     match (elements.next(), elements.next(), elements.next()) {
@@ -37,15 +39,15 @@ pub(crate) fn pair(value: &Value) -> Option<(&Value, &Value)>
 }
 
 /// The range of the element at `index`.
-pub fn element_range<K: Json>(
+pub fn element_range<K: Json, J: JsonTree>(
     alloc: Global,
-    value: &Value,
+    value: &J,
     index: usize,
 ) -> Result<AnyRange<K>, JsonError>
-    ensures read { IfOk result (IsRangeRead K.is_read (view value.now)) }
-    ensures sound { OnOk result (range_fault K.reads index (view value.now) ≡ None) }
+    ensures read { IfOk result (IsRangeRead K.is_read (J.content value.now)) }
+    ensures sound { OnOk result (range_fault K.reads index (J.content value.now) ≡ None) }
     ensures fault { IfErr result
-        (λ e. (e ≡ Memory) ⊎ (range_fault K.reads index (view value.now) ≡ Some e)) }
+        (λ e. (e ≡ Memory) ⊎ (range_fault K.reads index (J.content value.now) ≡ Some e)) }
     ensures memory { IsErrOf result Memory → ¬ K.reads_in_place }
 {
     match pair(value) {
@@ -63,11 +65,14 @@ pub fn element_range<K: Json>(
 ///
 /// `NotRange` where the value is no array of two; else the fault of the first faulty bound,
 /// `NotBound` or `Key`. All have the index 0. `Memory` where an allocation fails.
-pub fn range_from_json<K: Json>(alloc: Global, value: &Value) -> Result<AnyRange<K>, JsonError>
-    ensures read { IfOk result (IsRangeRead K.is_read (view value.now)) }
-    ensures sound { OnOk result (range_fault K.reads 0 (view value.now) ≡ None) }
+pub fn range_from_json<K: Json, J: JsonTree>(
+    alloc: Global,
+    value: &J,
+) -> Result<AnyRange<K>, JsonError>
+    ensures read { IfOk result (IsRangeRead K.is_read (J.content value.now)) }
+    ensures sound { OnOk result (range_fault K.reads 0 (J.content value.now) ≡ None) }
     ensures fault { IfErr result
-        (λ e. (e ≡ Memory) ⊎ (range_fault K.reads 0 (view value.now) ≡ Some e)) }
+        (λ e. (e ≡ Memory) ⊎ (range_fault K.reads 0 (J.content value.now) ≡ Some e)) }
 {
     element_range(alloc, value, 0)
 }

@@ -1,7 +1,6 @@
 //! The signed integers as JSON numbers.
 ghost use Rattle.std.specs.Prelude.{◌≡◌, ◌≤ℤ◌, pos, unsigned_abs, Some, None, is_some, MatchResult, ⊤};
 ghost use Rattle.std.proofs.Common.{lit<};
-ghost use Rattle.serde_json.specs.View.{view};
 ghost use Rattle.range_keys.specs.Signed.{IsSigned};
 ghost use Rattle.range_json.specs.Keys.{signed_of, signed_shape};
 ghost use Rattle.range_json.specs.ReadBack.{signed_back, told_some, same_integer};
@@ -9,14 +8,15 @@ ghost use Rattle.range_json.specs.declared.error.ReadError.TheVariants.{Refused}
 
 use crate::error::ReadError;
 use crate::json::{Json, ReadsBack};
+use json_trees::JsonTree;
 use serde_json::Value;
 use std::alloc::{AllocError, Global};
 
 /// A whole number from `-top - 1` to `top`.
-fn signed_from_json(value: &Value, top: i64) -> Result<i64, ReadError>
+fn signed_from_json<J: JsonTree>(value: &J, top: i64) -> Result<i64, ReadError>
     requires { pos 0 ≤ℤ top }
-    ensures { MatchResult result (λ z. signed_of (unsigned_abs top) (view value.now) ≡ Some z)
-        (λ e. (e ≡ Refused) × (signed_of (unsigned_abs top) (view value.now) ≡ None)) }
+    ensures { MatchResult result (λ z. signed_of (unsigned_abs top) (J.content value.now) ≡ Some z)
+        (λ e. (e ≡ Refused) × (signed_of (unsigned_abs top) (J.content value.now) ≡ None)) }
 {
     match value.as_i64() {
         Some(number) if -top - 1 <= number && number <= top => Ok(number),
@@ -40,7 +40,7 @@ impl Json for i8 {
         Ok(Value::from(value))
     }
 
-    fn from_json(_alloc: Global, value: &Value) -> Result<i8, ReadError> {
+    fn from_json<J: JsonTree>(_alloc: Global, value: &J) -> Result<i8, ReadError> {
         Ok(signed_from_json(value, i8::MAX as i64)? as i8)
     }
 
@@ -73,7 +73,7 @@ impl Json for i16 {
         Ok(Value::from(value))
     }
 
-    fn from_json(_alloc: Global, value: &Value) -> Result<i16, ReadError> {
+    fn from_json<J: JsonTree>(_alloc: Global, value: &J) -> Result<i16, ReadError> {
         Ok(signed_from_json(value, i16::MAX as i64)? as i16)
     }
 
@@ -106,7 +106,7 @@ impl Json for i32 {
         Ok(Value::from(value))
     }
 
-    fn from_json(_alloc: Global, value: &Value) -> Result<i32, ReadError> {
+    fn from_json<J: JsonTree>(_alloc: Global, value: &J) -> Result<i32, ReadError> {
         Ok(signed_from_json(value, i32::MAX as i64)? as i32)
     }
 
@@ -139,7 +139,7 @@ impl Json for i64 {
         Ok(Value::from(value))
     }
 
-    fn from_json(_alloc: Global, value: &Value) -> Result<i64, ReadError> {
+    fn from_json<J: JsonTree>(_alloc: Global, value: &J) -> Result<i64, ReadError> {
         signed_from_json(value, i64::MAX)
     }
 

@@ -1,19 +1,19 @@
 //! The unsigned integers as JSON numbers.
 ghost use Rattle.std.specs.Prelude.{◌≡◌, ◌≤◌, Some, None, is_some, MatchResult, ⊤};
-ghost use Rattle.serde_json.specs.View.{view};
 ghost use Rattle.range_json.specs.Keys.{unsigned_of, unsigned_shape};
 ghost use Rattle.range_json.specs.ReadBack.{unsigned_back, told_some, same_number};
 ghost use Rattle.range_json.specs.declared.error.ReadError.TheVariants.{Refused};
 
 use crate::error::ReadError;
 use crate::json::{Json, ReadsBack};
+use json_trees::JsonTree;
 use serde_json::Value;
 use std::alloc::{AllocError, Global};
 
 /// A whole number from 0 to `top`.
-fn unsigned_from_json(value: &Value, top: u64) -> Result<u64, ReadError>
-    ensures { MatchResult result (λ n. unsigned_of top (view value.now) ≡ Some n)
-        (λ e. (e ≡ Refused) × (unsigned_of top (view value.now) ≡ None)) }
+fn unsigned_from_json<J: JsonTree>(value: &J, top: u64) -> Result<u64, ReadError>
+    ensures { MatchResult result (λ n. unsigned_of top (J.content value.now) ≡ Some n)
+        (λ e. (e ≡ Refused) × (unsigned_of top (J.content value.now) ≡ None)) }
 {
     match value.as_u64() {
         Some(number) if number <= top => Ok(number),
@@ -37,7 +37,7 @@ impl Json for u8 {
         Ok(Value::from(value))
     }
 
-    fn from_json(_alloc: Global, value: &Value) -> Result<u8, ReadError> {
+    fn from_json<J: JsonTree>(_alloc: Global, value: &J) -> Result<u8, ReadError> {
         Ok(unsigned_from_json(value, u8::MAX as u64)? as u8)
     }
 
@@ -70,7 +70,7 @@ impl Json for u16 {
         Ok(Value::from(value))
     }
 
-    fn from_json(_alloc: Global, value: &Value) -> Result<u16, ReadError> {
+    fn from_json<J: JsonTree>(_alloc: Global, value: &J) -> Result<u16, ReadError> {
         Ok(unsigned_from_json(value, u16::MAX as u64)? as u16)
     }
 
@@ -103,7 +103,7 @@ impl Json for u32 {
         Ok(Value::from(value))
     }
 
-    fn from_json(_alloc: Global, value: &Value) -> Result<u32, ReadError> {
+    fn from_json<J: JsonTree>(_alloc: Global, value: &J) -> Result<u32, ReadError> {
         Ok(unsigned_from_json(value, u32::MAX as u64)? as u32)
     }
 
@@ -136,7 +136,7 @@ impl Json for u64 {
         Ok(Value::from(value))
     }
 
-    fn from_json(_alloc: Global, value: &Value) -> Result<u64, ReadError> {
+    fn from_json<J: JsonTree>(_alloc: Global, value: &J) -> Result<u64, ReadError> {
         unsigned_from_json(value, u64::MAX)
     }
 
@@ -169,7 +169,7 @@ impl Json for usize {
         Ok(Value::from(value))
     }
 
-    fn from_json(_alloc: Global, value: &Value) -> Result<usize, ReadError> {
+    fn from_json<J: JsonTree>(_alloc: Global, value: &J) -> Result<usize, ReadError> {
         Ok(unsigned_from_json(value, usize::MAX as u64)? as usize)
     }
 

@@ -5,6 +5,7 @@ ghost use Rattle.range_json.specs.SetReadBack.{set_written, set_back, one_set};
 use crate::array::elements_of_array;
 use crate::error::ReadError;
 use crate::json::{Json, ReadsBack};
+use json_trees::JsonTree;
 use serde_json::Value;
 use std::alloc::{AllocError, Global};
 use std::collections::BTreeSet;
@@ -29,7 +30,7 @@ impl<V: Json + Ord> Json for BTreeSet<V> {
         Ok(Value::Array(written))
     }
 
-    fn from_json(alloc: Global, value: &Value) -> Result<BTreeSet<V>, ReadError> {
+    fn from_json<J: JsonTree>(alloc: Global, value: &J) -> Result<BTreeSet<V>, ReadError> {
         let Ok(elements) = elements_of_array(value) else {
             return Err(ReadError::Refused);
         };

@@ -1,11 +1,13 @@
 //! The two shapes of a map: an array, or an object with the number of its version.
-ghost use Rattle.std.specs.Prelude.{◌≡◌, Ok, Err, IfOk, IfErr, map};
-ghost use Rattle.serde_json.specs.View.{view, members_view};
-ghost use Rattle.range_json.specs.MapFaults.{are_known, map_elements};
+ghost use Rattle.std.specs.Prelude.{◌≡◌, Ok, Err, IfOk, IfErr, map, codes, option_and_then};
+ghost use Rattle.serde_json.specs.Find.{as_number, as_u64, get};
+ghost use Rattle.serde_json.specs.View.{view};
+ghost use Rattle.range_json.specs.MapFaults.{map_elements};
 ghost use Rattle.range_json.specs.Shapes.{versioned_shape};
 
 use crate::array::elements_of_array;
 use crate::error::JsonError;
+use json_trees::JsonTree;
 use serde_json::{Map, Value};
 use std::alloc::{AllocError, Global};
 
@@ -19,30 +21,25 @@ pub fn versioned(alloc: Global, elements: Vec<Value>) -> Result<Value, AllocErro
     Ok(Value::Object(members))
 }
 
-/// Whether no member has another name than `version` and `items`.
-fn has_known_members(members: &Map<String, Value>) -> bool
-    ensures { result ≡ are_known (members_view members.now.entries) }
+/// The number of the version, where this is an object that has it.
+fn version_of<J: JsonTree>(value: &J) -> Option<u64>
+    ensures { result ≡ option_and_then as_u64
+        (option_and_then as_number (get (codes "version") (J.content value.now))) }
 {
-    let mut entries = members.iter();
-    while let Some((name, _member)) = entries.next() {
-        if name.as_str() != "version" && name.as_str() != "items" {
-            return false;
-        }
-    }
-    true
+    value.get("version")?.as_u64()
 }
 
 /// The elements of a map in either shape.
-pub fn elements_of_map(value: &Value) -> Result<&[Value], JsonError>
-    ensures found { IfOk result (λ vs. map_elements (view value.now) ≡ Ok (map view vs.now)) }
-    ensures fault { IfErr result (λ e. map_elements (view value.now) ≡ Err e) }
+pub fn elements_of_map<J: JsonTree>(value: &J) -> Result<&[J], JsonError>
+    ensures found { IfOk result
+        (λ vs. map_elements (J.content value.now) ≡ Ok (map J.content vs.now)) }
+    ensures fault { IfErr result (λ e. map_elements (J.content value.now) ≡ Err e) }
 {
-    let members = match value.as_object() {
-        Some(members) => members,
+    let is_known = match value.has_members_among("version", "items") {
+        Some(is_known) => is_known,
         None => return elements_of_array(value),
     };
-    let version = value.get("version").and_then(Value::as_u64);
-    if version != Some(2) || !has_known_members(members) {
+    if version_of(value) != Some(2) || !is_known {
         return Err(JsonError::Version);
     }
     match value.get("items") {

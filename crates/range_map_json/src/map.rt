@@ -14,7 +14,7 @@ ghost use Rattle.range_json.specs.declared.error.JsonError.TheVariants.{Memory, 
 use range_algebra::any::AnyRange;
 use range_algebra::inner;
 use range_json::inner::{element_from_json, elements_of_map, pair_to_json, versioned};
-use range_json::json::{Json, JsonError};
+use range_json::json::{Json, JsonError, JsonTree};
 use range_keys::traits::{Measure, PartialEnum};
 use range_map::map::{NotFree, RangeMap};
 use range_store::storage::{Item, Storage};
@@ -90,17 +90,19 @@ pub fn map_to_json<K: Json + PartialEnum, V: Json + Eq, C: Storage<Item<AnyRange
 /// that its range, a bound, a key or its value is none, or that its range meets that of an earlier
 /// element. An empty range meets none. `NotArray` and `Version` where the whole has neither shape.
 /// `Memory` where an allocation fails.
-pub fn map_from_json<K: Json + Measure, V: Json + Eq, C: Storage<Item<AnyRange<K>, V>>>(
-    alloc: Global,
-    value: &Value,
-) -> Result<RangeMap<K, V, C>, JsonError>
+pub fn map_from_json<
+    K: Json + Measure,
+    V: Json + Eq,
+    C: Storage<Item<AnyRange<K>, V>>,
+    J: JsonTree,
+>(alloc: Global, value: &J) -> Result<RangeMap<K, V, C>, JsonError>
     ensures read { IfOk result
-        (λ map. IsMapRead K.order K.reads V.reads K.is_read V.is_read V.eq (view value.now)
+        (λ map. IsMapRead K.order K.reads V.reads K.is_read V.is_read V.eq (J.content value.now)
         (C.items map)) }
     ensures canonical { IfOk result (λ map. IsCanonical K.order V.eq (C.items map)) }
     ensures fault { IfErr result
         (λ e. (e ≡ Memory)
-        ⊎ IsMapFault K.order K.reads V.reads K.is_read V.is_read (view value.now) e) }
+        ⊎ IsMapFault K.order K.reads V.reads K.is_read V.is_read (J.content value.now) e) }
 {
     let elements = elements_of_map(value)?;
     let mut map = RangeMap::new(alloc);

@@ -1,6 +1,5 @@
 //! Maps as JSON values of which the last element counts.
 ghost use Rattle.std.specs.Prelude.{◌≡◌, ◌⊎◌, Some, None, IfOk, OnOk, IfErr};
-ghost use Rattle.serde_json.specs.View.{view};
 ghost use Rattle.range_algebra.specs.Range.{ClonesAreEqual, IsEmptyRange, IsKeyRange};
 ghost use Rattle.range_runs.specs.Bindings.{IsBoundAfter};
 ghost use Rattle.range_runs.specs.Canonical.{IsCanonical};
@@ -11,11 +10,10 @@ ghost use Rattle.range_json.specs.declared.error.JsonError.TheVariants.{Memory};
 use range_algebra::any::AnyRange;
 use range_algebra::inner;
 use range_json::inner::{element_from_json, elements_of_map};
-use range_json::json::{Json, JsonError};
+use range_json::json::{Json, JsonError, JsonTree};
 use range_keys::traits::Measure;
 use range_map::map::{MapError, RangeMap};
 use range_store::storage::{Item, Storage};
-use serde_json::Value;
 use std::alloc::Global;
 
 /// Binds the keys of an element, whether or not they are bound.
@@ -58,16 +56,17 @@ pub fn map_from_json_overwriting<
     K: Json + Measure + Clone,
     V: Json + Eq + Clone,
     C: Storage<Item<AnyRange<K>, V>>,
->(alloc: Global, value: &Value) -> Result<RangeMap<K, V, C>, JsonError>
+    J: JsonTree,
+>(alloc: Global, value: &J) -> Result<RangeMap<K, V, C>, JsonError>
     requires keys { ClonesAreEqual K.is_clone K.eq }
     requires values { ClonesAreEqual V.is_clone V.eq }
     ensures read { IfOk result
-        (λ map. IsMapOverwritten K.order K.is_read V.is_read V.eq (view value.now) (C.items map)) }
+        (λ map. IsMapOverwritten K.order K.is_read V.is_read V.eq (J.content value.now) (C.items map)) }
     ensures canonical { IfOk result (λ map. IsCanonical K.order V.eq (C.items map)) }
-    ensures sound { OnOk result (overwriting_fault K.reads V.reads (view value.now) ≡ None) }
+    ensures sound { OnOk result (overwriting_fault K.reads V.reads (J.content value.now) ≡ None) }
     ensures fault { IfErr result
         (λ e. (e ≡ Memory)
-        ⊎ (overwriting_fault K.reads V.reads (view value.now) ≡ Some e)) }
+        ⊎ (overwriting_fault K.reads V.reads (J.content value.now) ≡ Some e)) }
 {
     let elements = elements_of_map(value)?;
     let mut map = RangeMap::new(alloc);

@@ -5,13 +5,14 @@ use Rattle.std.specs.Option.{ForSome, is_some, unwrap_or}
 use Rattle.range_runs.proofs.Windows.{last_of_run}
 use Rattle.range_reads.proofs.Common.{drop-drop, drop_more, false≢true}
 use Rattle.range_store.specs.ListRanks.{IsAt}
-use Rattle.range_reads.specs.Iteration.{index_behind, IsIterator}
+use Rattle.range_reads.specs.Iteration.{IsIterator}
+use Rattle.range_runs.specs.Window.{index_after}
 
 module _ {T P : Type 0} {items : List T} {is_good : P → Type 0} {rank : P → ℕ} {run : List T}
     {front back : Option P} {left : ℕ} (before : IsIterator items is_good rank run front back left)
     (some : 0 < left) where
   abbrev place : ℕ
-  place = index_behind rank back - left
+  place = index_after rank back - left
 
   -- the next item, with the run and the position that are left
   pub record IsNext (item : T) (rest : List T) (after : Option P) : Type 0 where
@@ -21,10 +22,10 @@ module _ {T P : Type 0} {items : List T} {is_good : P → Type 0} {rank : P → 
 
   pub next_steps : (item : T) (rest : List T) (after : Option P) → IsNext item rest after
       → take left (drop place items)
-      ≡ item ∷ take (left - 1) (drop (index_behind rank back - (left - 1)) items)
+      ≡ item ∷ take (left - 1) (drop (index_after rank back - (left - 1)) items)
   next_steps item rest after is =
       let many : left ≡ suc (left - 1) = omega (arith, some) in
-      let moved : place + 1 ≡ index_behind rank back - (left - 1) =
+      let moved : place + 1 ≡ index_after rank back - (left - 1) =
       omega (arith, some, before.enough) in
       ap (λ n. take n (drop place items)) many ∙ ap (take (suc (left - 1))) is.next
       ∙ ap (λ at. item ∷ take (left - 1) (drop at items)) moved
@@ -32,7 +33,7 @@ module _ {T P : Type 0} {items : List T} {is_good : P → Type 0} {rank : P → 
   pub next_iterator : (item : T) (rest : List T) (after : Option P) → IsNext item rest after
       → IsIterator items is_good rank rest after back (left - 1)
   next_iterator item rest after is =
-      let moved : place + 1 ≡ index_behind rank back - (left - 1) =
+      let moved : place + 1 ≡ index_after rank back - (left - 1) =
       omega (arith, some, before.enough) in
       record {
         last = before.last;
@@ -84,7 +85,7 @@ module _ {T P : Type 0} {items : List T} {is_good : P → Type 0} {rank : P → 
 module _ {T P : Type 0} (items : List T) (is_good : P → Type 0) (rank : P → ℕ) where
   behind_last : (back : Option P)
       → MatchOption back (items ≡ []) (λ p. is_good p × (rank p + 1 ≡ length items))
-      → ForSome back is_good × (index_behind rank back ≡ length items)
+      → ForSome back is_good × (index_after rank back ≡ length items)
   behind_last None none = (λ q is. absurd (false≢true (ap is_some is)), sym (ap length none))
   behind_last (Some p) last =
       (λ q is. subst is_good (ap (λ o. unwrap_or o p) is) last.0, last.1)
@@ -96,7 +97,7 @@ module _ {T P : Type 0} (items : List T) (is_good : P → Type 0) (rank : P → 
       → left ≡ length items → IsIterator items is_good rank [] front back left
   whole_iterator front back left first last many =
       let behind = behind_last back last in
-      let start : 0 ≡ index_behind rank back - left + 0 = omega (arith, behind.1, many) in
+      let start : 0 ≡ index_after rank back - left + 0 = omega (arith, behind.1, many) in
       record {
         last = behind.0;
         in_range = omega (arith, behind.1);
@@ -108,7 +109,7 @@ module _ {T P : Type 0} (items : List T) (is_good : P → Type 0) (rank : P → 
   -- a position before another, or none before the first item
   pub place_of_prev : (p : P) (prev : Option P)
       → MatchOption prev (rank p ≡ 0) (λ q. is_good q × (rank q + 1 ≡ rank p))
-      → index_behind rank prev ≡ rank p
+      → index_after rank prev ≡ rank p
   place_of_prev p None none = sym none
   place_of_prev p (Some q) is = is.1
 
@@ -124,8 +125,8 @@ module _ {T P : Type 0} (items : List T) (is_good : P → Type 0) (rank : P → 
       → MatchOption prev (rank p ≡ 0) (λ q. is_good q × (rank q + 1 ≡ rank p))
       → IsIterator items is_good rank run front prev (left - 1)
   prev_iterator run front back prev p left now some is before =
-      let end : index_behind rank back ≡ rank p + 1 = ap (index_behind rank) is in
-      let start : index_behind rank back - left ≡ index_behind rank prev - (left - 1) =
+      let end : index_after rank back ≡ rank p + 1 = ap (index_after rank) is in
+      let start : index_after rank back - left ≡ index_after rank prev - (left - 1) =
       omega (arith, end, some, now.enough, place_of_prev p prev before) in
       record {
         last = good_prev p prev before;
@@ -138,15 +139,15 @@ module _ {T P : Type 0} (items : List T) (is_good : P → Type 0) (rank : P → 
   -- the last of the items that are left
   pub last_steps : (back prev : Option P) (p : P) (left : ℕ) (item : T) → back ≡ Some p
       → MatchOption prev (rank p ≡ 0) (λ q. is_good q × (rank q + 1 ≡ rank p))
-      → item ≡ get_or items (rank p) item → 0 < left → left ≤ index_behind rank back
-      → index_behind rank back ≤ length items
-      → take left (drop (index_behind rank back - left) items)
-      ≡ take (left - 1) (drop (index_behind rank prev - (left - 1)) items) ++ item ∷ []
+      → item ≡ get_or items (rank p) item → 0 < left → left ≤ index_after rank back
+      → index_after rank back ≤ length items
+      → take left (drop (index_after rank back - left) items)
+      ≡ take (left - 1) (drop (index_after rank prev - (left - 1)) items) ++ item ∷ []
   last_steps back prev p left item is before read some enough within =
-      let end : index_behind rank back ≡ rank p + 1 = ap (index_behind rank) is in
-      let start : index_behind rank back - left ≡ index_behind rank prev - (left - 1) =
+      let end : index_after rank back ≡ rank p + 1 = ap (index_after rank) is in
+      let start : index_after rank back - left ≡ index_after rank prev - (left - 1) =
       omega (arith, end, some, enough, place_of_prev p prev before) in
-      last_of_run items (index_behind rank back - left) left (rank p) item some
+      last_of_run items (index_after rank back - left) left (rank p) item some
       (omega (arith, enough, within)) (omega (arith, end, enough)) read
       ∙ ap (λ place. take (left - 1) (drop place items) ++ item ∷ []) start
 

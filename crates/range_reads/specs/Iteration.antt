@@ -1,27 +1,23 @@
 -- What is left of an iterator over stored items, which takes from both ends.
-use Rattle.std.specs.Prelude.{◌≡◌, ℕ, ◌+◌, ◌-◌, ◌≤◌, List, length, take, drop, Option, Some, None}
+use Rattle.std.specs.Prelude.{◌≡◌, ℕ, ◌+◌, ◌-◌, ◌≤◌, List, length, take, drop, Option}
 use Rattle.std.specs.Option.{ForSome}
 use Rattle.range_algebra.specs.declared.any.AnyRange.{AnyRange}
 use Rattle.range_store.specs.ListRanks.{IsAt}
 use Rattle.range_store.specs.declared.storage.Item.{Item}
 pub use Rattle.range_runs.specs.Runs.{shown_item}
+use Rattle.range_runs.specs.Window.{index_after}
 
 -- the item that a pair is made of
 abbrev pub pair_item : {K V : Type 0} → AnyRange K × V → Item (AnyRange K) V
 pair_item pair = record { key = pair.0; value = pair.1 }
-
--- the index behind a position, or before all items
-abbrev pub index_behind : {P : Type 0} → (P → ℕ) → Option P → ℕ
-index_behind rank None = 0
-index_behind rank (Some p) = rank p + 1
 
 -- the last items up to `back` are left, of which those of the run come first, and then those
 -- from `front` on
 pub record IsIterator {T P : Type 0} (items : List T) (is_good : P → Type 0) (rank : P → ℕ)
     (run : List T) (front back : Option P) (left : ℕ) : Type 0 where
   pub last : ForSome back is_good
-  pub in_range : index_behind rank back ≤ length items
-  pub enough : left ≤ index_behind rank back
-  pub run_is : run ≡ take (length run) (drop (index_behind rank back - left) items)
+  pub in_range : index_after rank back ≤ length items
+  pub enough : left ≤ index_after rank back
+  pub run_is : run ≡ take (length run) (drop (index_after rank back - left) items)
   pub front_at : IsAt is_good rank (length items) front
-      (index_behind rank back - left + length run)
+      (index_after rank back - left + length run)

@@ -27,12 +27,13 @@ impl<'a, K: 'a, V: 'a, C: Storage<Item<AnyRange<K>, V>> + 'a> Model for Iter<'a,
     ghost use Rattle.std.specs.Prelude.{◌-◌, take, drop, List};
     ghost use Rattle.range_algebra.specs.declared.any.AnyRange.{AnyRange};
     ghost use Rattle.range_store.specs.declared.storage.Item.{Item};
-    ghost use Rattle.range_reads.specs.Iteration.{index_behind, IsIterator};
+    ghost use Rattle.range_reads.specs.Iteration.{IsIterator};
+    ghost use Rattle.range_runs.specs.Window.{index_after};
 
     ghost Value = { List (Item (AnyRange K) V) };
 
     ghost view = { λ i. take i.left
-        (drop (index_behind (C.rank i.stored.now) i.back - i.left) (C.items i.stored.now)) };
+        (drop (index_after (C.rank i.stored.now) i.back - i.left) (C.items i.stored.now)) };
 
     ghost invariant = { λ i. IsIterator (C.items i.stored.now) (C.is_good i.stored.now)
         (C.rank i.stored.now) i.run i.front i.back i.left };

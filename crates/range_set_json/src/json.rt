@@ -4,8 +4,8 @@ pub use crate::laws::{multimaps_are_read_back, read_multimaps_have_no_fault, set
 pub use crate::multimap::{multimap_from_json, multimap_to_json};
 pub use crate::set::{set_from_json, set_to_json};
 pub use range_json::json::{
-    Explanation, Json, JsonError, ReadError, ReadsBack, maps_are_read_back, range_from_json,
-    range_to_json, ranges_are_read_back, read_maps_have_no_fault,
+    Explanation, Json, JsonError, JsonTree, ReadError, ReadsBack, maps_are_read_back,
+    range_from_json, range_to_json, ranges_are_read_back, read_maps_have_no_fault,
 };
 pub use range_map_json::map::{map_from_json, map_to_json};
 pub use range_map_json::overwriting::map_from_json_overwriting;

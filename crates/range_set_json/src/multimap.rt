@@ -18,7 +18,7 @@ ghost use Rattle.range_json.specs.declared.error.JsonError.TheVariants.{Memory, 
 use range_algebra::any::AnyRange;
 use range_algebra::inner;
 use range_json::inner::{element_from_json, elements_of_map, pair_to_json, versioned};
-use range_json::json::{Json, JsonError};
+use range_json::json::{Json, JsonError, JsonTree};
 use range_keys::traits::{Measure, PartialEnum};
 use range_map::map::NotFree;
 use range_multimaps::inner::insert_set;
@@ -52,22 +52,22 @@ pub fn multimap_to_json<
 }
 
 /// The range and the nonempty set of the element at `index`.
-fn element_with_values<K: Json, V: Json + Ord + Clone>(
+fn element_with_values<K: Json, V: Json + Ord + Clone, J: JsonTree>(
     alloc: Global,
-    value: &Value,
+    value: &J,
     index: usize,
 ) -> Result<Item<AnyRange<K>, BTreeSet<V>>, JsonError>
     ensures read { IfOk result
-        (IsElementRead K.is_read (AreValuesRead V.cmp V.is_read) (view value.now)) }
+        (IsElementRead K.is_read (AreValuesRead V.cmp V.is_read) (J.content value.now)) }
     ensures nonempty { IfOk result (λ x. ¬ IsEmpty x.value) }
     ensures sound { OnOk result
-        (element_fault K.reads (reads_some_values V.reads) index (view value.now) ≡ None) }
+        (element_fault K.reads (reads_some_values V.reads) index (J.content value.now) ≡ None) }
     ensures fault { IfErr result
         (λ e. (e ≡ Memory)
-        ⊎ (element_fault K.reads (reads_some_values V.reads) index (view value.now)
+        ⊎ (element_fault K.reads (reads_some_values V.reads) index (J.content value.now)
         ≡ Some e)) }
 {
-    let element = element_from_json::<K, BTreeSet<V>>(alloc, value, index)?;
+    let element = element_from_json::<K, BTreeSet<V>, J>(alloc, value, index)?;
     if element.value.is_empty() {
         return Err(JsonError::Value(index));
     }
@@ -126,15 +126,16 @@ pub fn multimap_from_json<
     K: Json + Measure,
     V: Json + Ord + Clone,
     C: Storage<Item<AnyRange<K>, BTreeSet<V>>>,
->(alloc: Global, value: &Value) -> Result<RangeMultiMap<K, BTreeSet<V>, C>, JsonError>
+    J: JsonTree,
+>(alloc: Global, value: &J) -> Result<RangeMultiMap<K, BTreeSet<V>, C>, JsonError>
     ensures read { IfOk result
         (λ map. IsMultimapRead K.order K.reads V.reads K.is_read V.is_read V.cmp V.eq
-        (view value.now) (C.items map)) }
+        (J.content value.now) (C.items map)) }
     ensures canonical { IfOk result (λ map. IsCanonical K.order (same_values V.eq) (C.items map)) }
     ensures nonempty { IfOk result (λ map. HasNoEmptySet IsEmpty (C.items map)) }
     ensures fault { IfErr result
         (λ e. (e ≡ Memory)
-        ⊎ IsMultimapFault K.order K.reads V.reads K.is_read V.is_read V.cmp (view value.now) e) }
+        ⊎ IsMultimapFault K.order K.reads V.reads K.is_read V.is_read V.cmp (J.content value.now) e) }
 {
     let elements = elements_of_map(value)?;
     let mut multimap = RangeMultiMap::new(alloc);

@@ -11,7 +11,7 @@ ghost use Rattle.range_json.specs.declared.error.JsonError.TheVariants.{Memory};
 use range_algebra::any::AnyRange;
 use range_algebra::inner;
 use range_json::inner::{element_range, elements_of_array};
-use range_json::json::{Json, JsonError, range_to_json};
+use range_json::json::{Json, JsonError, JsonTree, range_to_json};
 use range_keys::traits::{Measure, PartialEnum};
 use range_sets::set::RangeSet;
 use range_store::storage::{Item, Storage};
@@ -43,16 +43,16 @@ pub fn set_to_json<T: Json + PartialEnum, C: Storage<Item<AnyRange<T>, ()>>>(
 ///
 /// `NotArray` where the value is no array; else the fault of the first faulty element, with its
 /// index. `Memory` where an allocation fails.
-pub fn set_from_json<T: Json + Measure + Clone, C: Storage<Item<AnyRange<T>, ()>>>(
+pub fn set_from_json<T: Json + Measure + Clone, C: Storage<Item<AnyRange<T>, ()>>, J: JsonTree>(
     alloc: Global,
-    value: &Value,
+    value: &J,
 ) -> Result<RangeSet<T, C>, JsonError>
     requires { ClonesAreEqual T.is_clone T.eq }
-    ensures read { IfOk result (λ set. IsSetRead T.is_read T.order (view value.now) (C.items set)) }
+    ensures read { IfOk result (λ set. IsSetRead T.is_read T.order (J.content value.now) (C.items set)) }
     ensures canonical { IfOk result (λ set. IsCanonicalSet T.order (C.items set)) }
-    ensures sound { OnOk result (set_fault T.reads (view value.now) ≡ None) }
+    ensures sound { OnOk result (set_fault T.reads (J.content value.now) ≡ None) }
     ensures fault { IfErr result
-        (λ e. (e ≡ Memory) ⊎ (set_fault T.reads (view value.now) ≡ Some e)) }
+        (λ e. (e ≡ Memory) ⊎ (set_fault T.reads (J.content value.now) ≡ Some e)) }
 {
     let elements = elements_of_array(value)?;
     let mut set = RangeSet::new(alloc);

@@ -3,7 +3,7 @@
 ghost use Rattle.std.specs.Prelude.{◌≡◌, ◌⊎◌, Some, None, IfOk, IfErr, OnOk, string_bytes};
 ghost use Rattle.std.specs.Io.KnownBytes.{Appends};
 ghost use Rattle.serde_json.specs.Read.{read};
-ghost use Rattle.serde_json.specs.View.{view};
+ghost use Rattle.json_trees.specs.Borrowed.{borrowed_data};
 ghost use Rattle.serde_json.specs.Written.{compact_text};
 ghost use Rattle.btree_range_map.specs.Holding.{box_items};
 ghost use Rattle.btree_range_map.specs.JsonError.TheVariants.{Memory};
@@ -16,7 +16,8 @@ ghost use Rattle.rangerun.specs.declared.saving.LoadError.TheVariants.{NotJson, 
 use crate::number::SpelledKey;
 use btree_range_map::RangeMap;
 use btree_range_map::json::{JsonError, map_from_json, map_to_json};
-use serde_json::Value;
+use json::{Scratch, Value};
+use json_trees::TextError;
 use std::alloc::{AllocError, Global};
 use std::io::{self, Write};
 
@@ -79,15 +80,19 @@ fn write_fault<W: Write>(fault: &JsonError, out: &mut W) -> io::Result<()>
     }
 }
 
-fn json_of(alloc: Global, text: &str) -> Result<Value, LoadError>
-    ensures read { IfOk result (λ value. read text.now ≡ Some (view value)) }
+fn json_of<'a>(
+    alloc: Global,
+    text: &'a str,
+    scratch: &'a mut Scratch,
+) -> Result<Value<'a>, LoadError>
+    ensures read { IfOk result (λ value. read text.now ≡ Some (borrowed_data value)) }
     ensures refused { IfErr result
         (λ e. ((e ≡ NotJson) × (read text.now ≡ None)) ⊎ (e ≡ Faulty Memory)) }
 {
-    match Value::from_str(alloc, text) {
+    match json_trees::parse(alloc, text, scratch) {
         Ok(value) => Ok(value),
-        Err(error) if error.is_memory() => Err(LoadError::Faulty(JsonError::Memory)),
-        Err(_) => Err(LoadError::NotJson),
+        Err(TextError::Memory) => Err(LoadError::Faulty(JsonError::Memory)),
+        Err(TextError::NotJson) => Err(LoadError::NotJson),
     }
 }
 
@@ -96,7 +101,8 @@ fn map_of<K: SpelledKey>(alloc: Global, text: &str) -> Result<RangeMap<K, i64>, 
         (λ map. IsLoaded K.order K.reads K.is_read text.now (box_items map)) }
     ensures refused { IfErr result (λ cause. IsCause K.order K.reads K.is_read text.now cause) }
 {
-    let value = json_of(alloc, text)?;
+    let mut scratch = Scratch::new(alloc);
+    let value = json_of(alloc, text, &mut scratch)?;
     match map_from_json(alloc, &value) {
         Ok(map) => Ok(map),
         Err(fault) => Err(LoadError::Faulty(fault)),

@@ -4,7 +4,7 @@ ghost use Rattle.std.specs.Prelude.{◌≡◌, ◌≤◌, Some, is_some};
 ghost use Rattle.btree_range_map.specs.Keys.{unsigned_of, unsigned_shape};
 
 use btree_range_map::RangeMap;
-use btree_range_map::json::{Json, JsonError, ReadError, map_from_json};
+use btree_range_map::json::{Json, JsonError, JsonTree, ReadError, map_from_json};
 use serde_json::Value;
 use std::alloc::{AllocError, Global};
 
@@ -27,7 +27,7 @@ impl Json for Price {
         self.cents.to_json(alloc)
     }
 
-    fn from_json(alloc: Global, value: &Value) -> Result<Price, ReadError> {
+    fn from_json<J: JsonTree>(alloc: Global, value: &J) -> Result<Price, ReadError> {
         match u32::from_json(alloc, value) {
             Ok(cents) => Ok(Price { cents }),
             Err(error) => Err(error),

@@ -10,7 +10,7 @@ ghost use Rattle.btree_range_map.specs.Shapes.{map_shape};
 
 use crate::blind::Blind;
 use crate::half::Half;
-use btree_range_map::json::{Json, JsonError, ReadError, map_from_json, map_to_json};
+use btree_range_map::json::{Json, JsonError, JsonTree, ReadError, map_from_json, map_to_json};
 use btree_range_map::range::traits::MaybeBounded;
 use btree_range_map::{Measure, RangeMap};
 use serde_json::Value;
@@ -29,7 +29,7 @@ impl Json for Half {
         self.0.to_json(alloc)
     }
 
-    fn from_json(alloc: Global, value: &Value) -> Result<Half, ReadError> {
+    fn from_json<J: JsonTree>(alloc: Global, value: &J) -> Result<Half, ReadError> {
         match u8::from_json(alloc, value) {
             Ok(number) => Ok(Half(number)),
             Err(error) => Err(error),
@@ -50,7 +50,7 @@ impl<T: Json + Copy> Json for Blind<T> {
         self.0.to_json(alloc)
     }
 
-    fn from_json(alloc: Global, value: &Value) -> Result<Blind<T>, ReadError> {
+    fn from_json<J: JsonTree>(alloc: Global, value: &J) -> Result<Blind<T>, ReadError> {
         match T::from_json(alloc, value) {
             Ok(inner) => Ok(Blind(inner)),
             Err(error) => Err(error),

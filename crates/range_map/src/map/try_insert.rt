@@ -15,7 +15,7 @@ use range_algebra::inner;
 use range_algebra::range::IntoRange;
 use range_edit::append::{comes_last, put_apart};
 use range_edit::free::bind_free;
-use range_edit::reach::Reach;
+use range_edit::reach::Ends;
 use range_keys::traits::Measure;
 use range_runs::window::find_window;
 use range_store::storage::{Item, Steps, Storage};
@@ -59,12 +59,12 @@ fn bind_where_free<K: Measure, V: Eq + Drop, C: Storage<Item<AnyRange<K>, V>>>(
     if window.count > 0 {
         return Err(NotFree::Occupied(range, value));
     }
-    let reach = Reach {
+    let ends = Ends {
         window,
         first: None,
         last: None,
     };
-    match bind_free::<K, V, C>(stored, &reach, Item { key: range, value }, &mut steps) {
+    match bind_free::<K, V, C>(stored, &ends, Item { key: range, value }, &mut steps) {
         Ok(()) => Ok(()),
         Err(refused) => {
             let Item { key, value } = refused.value;

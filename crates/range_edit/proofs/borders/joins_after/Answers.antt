@@ -10,5 +10,5 @@ returns-else-eq-clause-joins g c = grind (arith, common_steps, right_other)
 
 pub returns-in-None-clause-joins : goal.returns-in-None-clause-joins
 returns-in-None-clause-joins g c = right_touching g.met.K.PartialEnum.lawful g.met.V.Eq.laws
-    c.requires.window c.args.value.now c.args.reach.now.last _ c.in-None.is
+    c.requires.window c.args.value.now c.args.ends.now.last _ c.in-None.is
     (g.met.C.Storage.good_is_in_range c.args.stored.now) c.joined_after.ensures.joined

@@ -10,5 +10,5 @@ returns-else-eq-clause-joins g c = grind (arith, common_steps, left_other)
 
 pub returns-in-None-clause-joins : goal.returns-in-None-clause-joins
 returns-in-None-clause-joins g c = left_touching g.met.K.PartialEnum.lawful g.met.V.Eq.laws
-    c.requires.window c.args.value.now c.args.reach.now.first _ c.in-None.is
+    c.requires.window c.args.value.now c.args.ends.now.first _ c.in-None.is
     c.joined_before.ensures.joined

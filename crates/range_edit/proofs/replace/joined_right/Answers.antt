@@ -19,7 +19,7 @@ returns g c =
       c.in-Some.item.now,
       ap option_copied c.in-Some.is,
       both lawful _ _ (past_le g.K.MaybeBounded.order lawful c.in-Some.item.now.key.end
-          c.args.range.now.end c.known.ensures.1 c.requires.reach.window.known.1 within.ends)
+          c.args.range.now.end c.known.ensures.1 c.requires.ends.window.known.1 within.ends)
           (not_lt lawful _ _ (λ l. false≢true (c.if-ends_after.ensures.1 l))),
       c.joins_after.ensures.joins,
     )

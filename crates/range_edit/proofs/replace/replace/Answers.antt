@@ -11,25 +11,25 @@ use Rattle.range_edit.proofs.replace.replace.Goals as goal
 
 -- how the run is divided between the items that join and those that are cut
 plan_is_replacement : (g : Over) (c : After-run_start g) {size : ℕ}
-    → size ≡ run_length c.args.reach.now (record { before = c.joined_left-before.result; after = c.joined_right-after.result })
+    → size ≡ run_length c.args.ends.now (record { before = c.joined_left-before.result; after = c.joined_right-after.result })
     → IsPlan g.K.MaybeBounded.order g.V.PartialEq.eq g.met.K.PartialEnum.lawful g.met.V.Eq.laws
     (g.C.Storage.is_good c.args.stored.now) (g.C.Storage.rank c.args.stored.now)
     (g.C.Storage.items c.args.stored.now) c.args.range (rank_or_len
     (g.C.Storage.rank c.args.stored.now) (length (g.C.Storage.items c.args.stored.now))
-    c.args.reach.now.window.from) c.args.reach.now.window.count c.args.middle.items
-    c.args.reach.now.first c.args.reach.now.last (seam_border c.joined_left-before.result
-    c.args.reach.now.first (flipped_bound c.args.range.start)) (seam_border
-    c.joined_right-after.result c.args.reach.now.last (flipped_bound c.args.range.end))
+    c.args.ends.now.window.from) c.args.ends.now.window.count c.args.middle.items
+    c.args.ends.now.first c.args.ends.now.last (seam_border c.joined_left-before.result
+    c.args.ends.now.first (flipped_bound c.args.range.start)) (seam_border
+    c.joined_right-after.result c.args.ends.now.last (flipped_bound c.args.range.end))
     c.run_start.result size
 plan_is_replacement g c size =
     let order = g.K.MaybeBounded.order in
     let lawful = g.met.K.PartialEnum.lawful in
-    let known = c.requires.reach.window.known in
+    let known = c.requires.ends.window.known in
     let is_first = c.first.ensures.value ∙ ap (λ xs. slice_get xs 0) c.deref.ensures.value in
     let is_last = c.last.ensures.value ∙ ap (λ xs. slice_get xs (length xs - 1))
     c.deref-2.ensures.value in
     plan_run lawful g.met.V.Eq.laws (g.met.C.Storage.good_is_in_range c.args.stored.now)
-    c.requires.reach c.requires.apart (seam_stands order _ _ c.args.range.start lawful known.0 refl)
+    c.requires.ends (seam_stands order _ _ c.args.range.start lawful known.0 refl)
     (seam_stands order _ _ c.args.range.end lawful known.1 refl) c.run_start.ensures size
     c.requires.middle c.requires.within (rw is_first at c.joined_left-before.ensures)
     (rw is_last at c.joined_right-after.ensures)
@@ -75,12 +75,12 @@ returns g c =
     plan.joined) in
     let new = g.C.Storage.items c.change_to.new.stored in
     let made = rw c.reserve.ensures.list at done in
-    let window = c.requires.reach.window in
+    let window = c.requires.ends.window in
     let lawful = g.met.K.PartialEnum.lawful in
     let equal = g.met.V.Eq.laws in
     record {
       ok = replaced lawful equal window left.side right.side new made c.requires.middle;
-      spelled = replaced_keeps_spelling lawful equal window.stored c.requires.reach
+      spelled = replaced_keeps_spelling lawful equal window.stored c.requires.ends
           (g.met.C.Storage.good_is_in_range c.args.stored.now) c.joined_left-before.result
           c.joined_right-after.result plan new made;
       refused = tt;

@@ -9,7 +9,7 @@ returns g c =
     let lawful = g.met.K.PartialEnum.lawful in
     let equal = g.met.V.Eq.laws in
     let plan = plan_none lawful equal (g.met.C.Storage.good_is_in_range c.args.stored.now)
-    c.requires.reach c.requires.apart (rw c.start.ensures at c.in_ok-left.ensures.seam)
+    c.requires.ends (rw c.start.ensures at c.in_ok-left.ensures.seam)
     (rw c.end.ensures at c.in_ok-right.ensures.seam) c.run_start.ensures c.run_length.ensures refl
     refl in
     let fit = planned_fits plan {is_good' = g.C.Storage.is_good c.args.stored.now}
@@ -19,9 +19,9 @@ returns g c =
     let done = c.change.ensures.list left.at right.end left.rest right.rest left.start right.finish
     fit.on_left fit.on_right plan.joined in
     record {
-      ok = removed lawful equal c.requires.reach.window left.side right.side _
+      ok = removed lawful equal c.requires.ends.window left.side right.side _
           (rw (none_inside {V = g.row.V.Denot} left.start right.finish) done) refl;
-      few = omega (arith, c.requires.some, planned_size plan c.requires.reach c.requires.apart _ _ done);
+      few = omega (arith, c.requires.some, planned_size plan c.requires.ends _ _ done);
       refused = tt;
       space = c.change.ensures.space;
       succeeds = λ keys. refl;

@@ -10,10 +10,10 @@ returns-clause-removed g c =
     let storage = g.C.Storage in
     let items = storage.items c.args.stored.now in
     let new = storage.items c.remove_rest.new.stored in
-    let window = c.requires.reach.window in
+    let window = c.requires.ends.window in
     let place = rank_or_len (storage.rank c.args.stored.now) (length items)
-    c.args.reach.now.window.from in
-    let end = place + c.args.reach.now.window.count in
+    c.args.ends.now.window.from in
+    let end = place + c.args.ends.now.window.count in
     let done : new ≡ take place items ++ [] ++ [] ++ [] ++ drop end items = rw (
       append-nil (take place items),
       append-nil (take place items),
@@ -22,9 +22,9 @@ returns-clause-removed g c =
     let nothing : IsStored g.K.MaybeBounded.order g.V.PartialEq.eq [] =
     record { known = tt; nonempty = tt; rising = tt } in
     let left = left_side_whole lawful equal window nothing tt
-    (rw c.requires.first at c.requires.reach.first) (λ m is. absurd (cc)) in
+    (rw c.requires.first at c.requires.ends.first) (λ m is. absurd (cc)) in
     removed lawful equal window left (right_side_whole lawful equal window nothing tt left
-    (rw c.requires.last at c.requires.reach.last) (λ m is. absurd (cc))) new done refl
+    (rw c.requires.last at c.requires.ends.last) (λ m is. absurd (cc))) new done refl
 
 pub returns-clause-few : goal.returns-clause-few
 returns-clause-few g c = grind (arith, common_steps)

@@ -60,7 +60,7 @@ returns-then-meet-clause-first g c one =
       e = view v;
       rest = map view rest;
       split = sym (ap (map view) all) ∙ map-append view (take n vs) (v ∷ rest);
-      place = same_length (take n vs) ∙ length-take-le n vs (omega (arith, within));
+      place = same_length view (take n vs) ∙ length-take-le n vs (omega (arith, within));
       none = c.loop-index.invariant one;
       met = always_meet order is_read g.met.K.PartialEnum.lawful one (view v) d r s
           c.in_ok-range_again.ensures.read c.in_ok-range.ensures.read

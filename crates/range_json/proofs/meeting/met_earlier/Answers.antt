@@ -49,7 +49,7 @@ returns-clause-found g c in_place one met =
     let split : map view vs ≡ map view (take n vs) ++ view v ∷ map view rest =
     sym (ap (map view) all) ∙ map-append view (take n vs) (v ∷ rest) in
     let size : length (map view (take n vs)) ≡ n =
-    same_length (take n vs) ∙ length-take-le n vs (omega (arith, within)) in
+    same_length view (take n vs) ∙ length-take-le n vs (omega (arith, within)) in
     let same =
     same_parts (map view (take n vs)) met.front (view v) met.d (map view rest) met.rest
     (sym split ∙ same_elements _ _ _ c.in-Ok.ensures.found met.elements)

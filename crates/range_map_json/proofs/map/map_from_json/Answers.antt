@@ -1,5 +1,4 @@
 use Rattle.std.proofs.Common.{refl, rules, map, arith}
-use Rattle.serde_json.specs.View.{view}
 use Rattle.range_map.proofs.StoredLists.{stored_canonical}
 use Rattle.range_map_json.proofs.BoundElements.{none_bound, one_more_alike}
 use Rattle.range_map_json.proofs.ElementLoop.{one_read, reading_begun, reading_ended}
@@ -31,7 +30,7 @@ loop-index-preserved g c =
 
 pub returns-in_err-item-clause-fault : goal.returns-in_err-item-clause-fault
 returns-in_err-item-clause-fault g c =
-    map_fails g.K.Json.reads g.V.Json.reads g.V.Json.is_read (view c.args.value.now)
+    map_fails g.K.Json.reads g.V.Json.reads g.V.Json.is_read (g.J.JsonTree.content c.args.value.now)
     c.in_ok-elements.elements.now c.loop-index.index c.index-elements-index.result
     (omega (arith, c.loop-index-test.true, c.loop-index.auto.index-end)) c.index-elements-index.is
     c.loop-index.invariant c.in_ok-elements.ensures.found c.from_residual-in_err-item.result
@@ -39,7 +38,7 @@ returns-in_err-item-clause-fault g c =
 
 pub returns-in_err-insert_element-clause-fault : goal.returns-in_err-insert_element-clause-fault
 returns-in_err-insert_element-clause-fault g c =
-    map_meets g.K.Json.reads g.V.Json.reads g.V.Json.is_read (view c.args.value.now)
+    map_meets g.K.Json.reads g.V.Json.reads g.V.Json.is_read (g.J.JsonTree.content c.args.value.now)
     c.in_ok-elements.elements.now c.loop-index.index c.index-elements-index.result
     (omega (arith, c.loop-index-test.true, c.loop-index.auto.index-end)) c.index-elements-index.is
     c.loop-index.invariant c.in_ok-elements.ensures.found
@@ -54,7 +53,7 @@ returns g c =
     reading_ended vs c.loop-index.index c.loop-index-test.false c.loop-index.invariant in
     record {
       read = record {
-        ds = map view vs;
+        ds = map g.J.JsonTree.content vs;
         elements = whole.elements;
         whole = c.in_ok-elements.ensures.found;
         read = are_read whole;

@@ -1,5 +1,4 @@
 use Rattle.std.proofs.Common.{refl, ap, ◌∙◌, map, arith, []}
-use Rattle.serde_json.specs.View.{view}
 use Rattle.range_map.proofs.ExtendedLists.{none_bound_after, one_bound_after}
 use Rattle.range_map.proofs.StoredLists.{stored_canonical}
 use Rattle.range_map_json.specs.Overwriting.{fault_of_elements}
@@ -44,7 +43,7 @@ returns g c =
     reading_ended vs c.loop-index.index c.loop-index-test.false c.loop-index.invariant in
     record {
       read = record {
-        ds = map view vs;
+        ds = map g.J.JsonTree.content vs;
         elements = whole.elements;
         whole = c.in_ok-elements.ensures.found;
         read = whole.read;

@@ -1,7 +1,6 @@
 use Rattle.std.proofs.Common.{arith, inr, ap, length}
 use Rattle.std.proofs.lemmas.List.{nil_from_length}
 use Rattle.std.specs.BTreeSet.{IsEmpty}
-use Rattle.serde_json.specs.View.{view}
 use Rattle.range_set_json.proofs.Multimaps.{fault_too, empty_fault, full_sound}
 use Rattle.range_set_json.proofs.multimap.element_with_values.Goals as goal
 
@@ -11,7 +10,7 @@ returns-in_err-element-clause-fault g c =
       arith,
       c.in_err-element.ensures.fault,
       c.from_residual.ensures,
-      fault_too g.K.Json.reads g.V.Json.reads c.args.index (view c.args.value.now),
+      fault_too g.K.Json.reads g.V.Json.reads c.args.index (g.J.JsonTree.content c.args.value.now),
     )
 
 pub returns-then-is_empty-clause-fault : goal.returns-then-is_empty-clause-fault
@@ -21,7 +20,7 @@ returns-then-is_empty-clause-fault g c =
     nil_from_length x.value.keys (c.is_empty.ensures.0 c.if-is_empty.true) in
     inr (empty_fault g.K.Json.reads g.V.Json.reads c.args.index g.V.Ord.cmp g.met.V.Ord.total
     g.K.Json.is_read g.V.Json.is_read
-    (view c.args.value.now) x c.in_ok-element.ensures.sound c.in_ok-element.ensures.read empty)
+    (g.J.JsonTree.content c.args.value.now) x c.in_ok-element.ensures.sound c.in_ok-element.ensures.read empty)
 
 pub returns-clause-sound : goal.returns-clause-sound
 returns-clause-sound g c =
@@ -30,4 +29,4 @@ returns-clause-sound g c =
     c.if-is_empty.false in absurd cc in
     full_sound g.K.Json.reads g.V.Json.reads c.args.index g.V.Ord.cmp g.met.V.Ord.total
     g.K.Json.is_read g.V.Json.is_read
-    (view c.args.value.now) x c.in_ok-element.ensures.sound c.in_ok-element.ensures.read full
+    (g.J.JsonTree.content c.args.value.now) x c.in_ok-element.ensures.sound c.in_ok-element.ensures.read full

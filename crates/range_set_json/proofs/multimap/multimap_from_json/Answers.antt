@@ -1,7 +1,6 @@
 use Rattle.std.proofs.Common.{refl, rules, map, arith}
 use Rattle.std.specs.Cmp.{on_equiv}
 use Rattle.std.specs.Cmp.Lexicographic.{lists_equiv}
-use Rattle.serde_json.specs.View.{view}
 use Rattle.range_json.specs.ValueSets.{reads_some_values, same_values, AreValuesRead}
 use Rattle.range_map.proofs.StoredLists.{stored_canonical}
 use Rattle.range_map_json.proofs.BoundElements.{none_bound, one_more_alike}
@@ -38,7 +37,7 @@ loop-index-preserved g c =
 pub returns-in_err-item-clause-fault : goal.returns-in_err-item-clause-fault
 returns-in_err-item-clause-fault g c =
     map_fails g.K.Json.reads (reads_some_values g.V.Json.reads)
-    (AreValuesRead g.V.Ord.cmp g.V.Json.is_read) (view c.args.value.now)
+    (AreValuesRead g.V.Ord.cmp g.V.Json.is_read) (g.J.JsonTree.content c.args.value.now)
     c.in_ok-elements.elements.now c.loop-index.index c.index-elements-index.result
     (omega (arith, c.loop-index-test.true, c.loop-index.auto.index-end)) c.index-elements-index.is
     c.loop-index.invariant c.in_ok-elements.ensures.found c.from_residual-in_err-item.result
@@ -47,7 +46,7 @@ returns-in_err-item-clause-fault g c =
 pub returns-in_err-insert_values-clause-fault : goal.returns-in_err-insert_values-clause-fault
 returns-in_err-insert_values-clause-fault g c =
     map_meets g.K.Json.reads (reads_some_values g.V.Json.reads)
-    (AreValuesRead g.V.Ord.cmp g.V.Json.is_read) (view c.args.value.now)
+    (AreValuesRead g.V.Ord.cmp g.V.Json.is_read) (g.J.JsonTree.content c.args.value.now)
     c.in_ok-elements.elements.now c.loop-index.index c.index-elements-index.result
     (omega (arith, c.loop-index-test.true, c.loop-index.auto.index-end)) c.index-elements-index.is
     c.loop-index.invariant c.in_ok-elements.ensures.found
@@ -61,7 +60,7 @@ returns-clause-read g c =
     let whole =
     reading_ended vs c.loop-index.index c.loop-index-test.false c.loop-index.invariant in
     record {
-      ds = map view vs;
+      ds = map g.J.JsonTree.content vs;
       elements = whole.elements;
       whole = c.in_ok-elements.ensures.found;
       read = are_read whole;

@@ -1,6 +1,5 @@
 use Rattle.std.proofs.Common.{refl, ap, ◌∙◌, List, ◌∷◌, [], map, inl, inr, arith}
 use Rattle.std.proofs.lemmas.List.{map-append}
-use Rattle.serde_json.specs.View.{view}
 use Rattle.range_map.proofs.StoredLists.{stored_canonical}
 use Rattle.range_sets.proofs.Filling.{all_equal}
 use Rattle.range_keys.specs.Order.{KeyOrder}
@@ -45,7 +44,7 @@ returns g c =
     let array = c.in_ok-elements.ensures.found in
     record {
       read = record {
-        ds = map view vs;
+        ds = map g.J.JsonTree.content vs;
         ranges = whole.elements;
         whole = array;
         read = whole.read;

@@ -7,7 +7,7 @@ use Rattle.range_set_json.proofs.set.set_from_json.Given as goal
 -- the list holds just the keys of the ranges
 abbrev pub invariant-loop-index : goal.invariant-loop-index
 invariant-loop-index g l =
-    IsReadSoFar g.T.MaybeBounded.order (λ _ _. true) range_items
+    IsReadSoFar g.J.JsonTree.content g.T.MaybeBounded.order (λ _ _. true) range_items
     (λ r. record { key = r; value = tt }) (range_fault g.T.Json.reads)
     (IsRangeRead g.T.Json.is_read) (HoldsAllAlso g.T.MaybeBounded.order []) (take l.index l.elements)
     (g.C.Storage.items l.set)

@@ -2,8 +2,9 @@ use Rattle.std.proofs.Common.{◌≡◌, refl, ◌*◌, ◌/◌, ◌<◌, get_or
 use Rattle.std.proofs.Math.Logic.{∥∥₁_elim, ∥∥₁_prop}
 use Rattle.std.proofs.Props.{props}
 use Rattle.std.proofs.lemmas.Str.{IsCharBoundary-start}
-use Rattle.lexing.proofs.Furthest.{reading_none, reading_more, reading_byte, byte_goes, byte_stands, leads_by_ascii, cut_behind, token_at_end, token_when_stuck}
+use Rattle.lexing.proofs.Furthest.{reading_none, reading_more, reading_byte, byte_goes, byte_stands, leads_by_ascii, cut_behind, nowhere_of_reading, token_at_end, token_when_stuck}
 use Rattle.lexing.proofs.Running.{next_within, some_state}
+use Rattle.lexing.proofs.Settled.{settled_at_end, settled_when_stuck}
 use Rattle.lexing.proofs.machine.Machine.furthest_match.Goals as goal
 
 pub loop-at-init : goal.loop-at-init
@@ -64,15 +65,30 @@ returns-then-byte-lt128 c =
     let one =
     byte_stands machine text c.utf8.text first at was.first was.state was.cut c.loop-at-test.true
     byte is fits step c.index.ensures ascii in
-    token_when_stuck machine text c.utf8.text (first / 256) at was.reading c.match_in.result
-    c.match_in.ensures.some c.match_in.ensures.len c.match_in.ensures.rule byte one goes
+    record {
+      token = token_when_stuck machine text c.utf8.text (first / 256) at was.reading
+          c.match_in.result c.match_in.ensures.some c.match_in.ensures.len c.match_in.ensures.rule
+          byte one goes;
+      settled = settled_when_stuck machine.lexer text c.match_in.result
+          (nowhere_of_reading machine text (first / 256) at was.reading byte one goes);
+    }
 
 pub returns-in_default-next : goal.returns-in_default-next
 returns-in_default-next c =
+    let machine = c.args.self.now in
+    let text = c.args.text.now in
     let told = c.match_in-in_default-next in
-    token_when_stuck c.args.self.now c.args.text.now c.utf8.text (c.loop-at.first / 256) c.loop-at.at
-    c.loop-at.invariant.reading told.result told.ensures.some told.ensures.len told.ensures.rule
-    c.character_at-c.result c.character_at-c.ensures.one c.in_default-next.ensures.goes
+    let state = c.loop-at.first / 256 in
+    let at = c.loop-at.at in
+    let reading = c.loop-at.invariant.reading in
+    let one = c.character_at-c.ensures.one in
+    let goes = c.in_default-next.ensures.goes in
+    record {
+      token = token_when_stuck machine text c.utf8.text state at reading told.result
+          told.ensures.some told.ensures.len told.ensures.rule c.character_at-c.result one goes;
+      settled = settled_when_stuck machine.lexer text told.result
+          (nowhere_of_reading machine text state at reading c.character_at-c.result one goes);
+    }
 
 pub loop-at-preserved : goal.loop-at-preserved
 loop-at-preserved c =
@@ -97,7 +113,14 @@ loop-at-preserved c =
 
 pub returns : goal.returns
 returns c =
+    let machine = c.args.self.now in
+    let text = c.args.text.now in
     let told = c.match_in-2 in
-    token_at_end c.args.self.now c.args.text.now c.utf8.text (c.loop-at.first / 256) c.loop-at.at
-    c.loop-at.invariant.reading told.result told.ensures.some told.ensures.len told.ensures.rule
-    c.loop-at-test.false
+    let at = c.loop-at.at in
+    record {
+      token = token_at_end machine text c.utf8.text (c.loop-at.first / 256) at
+          c.loop-at.invariant.reading told.result told.ensures.some told.ensures.len
+          told.ensures.rule c.loop-at-test.false;
+      settled = settled_at_end machine.lexer text at told.result c.loop-at-test.false
+          told.ensures.len;
+    }

@@ -1,0 +1,3 @@
+pub mod Seen
+mod Numbers
+mod Texts

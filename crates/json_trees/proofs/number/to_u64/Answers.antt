@@ -1,0 +1,24 @@
+use Rattle.std.proofs.Common.{◌≡◌, drop, get_or, true, false, ◌==◌, sym, ap, ◌∙◌, option_and_then}
+use Rattle.fast_float.specs.Text.{scan}
+use Rattle.serde_json.specs.Read.{number_of, number_from}
+use Rattle.serde_json.specs.Find.{as_u64}
+use Rattle.json_trees.proofs.Numbers.{no_natural}
+use Rattle.json_trees.proofs.number.to_u64.Goals as goal
+
+pub returns-then-has_minus : goal.returns-then-has_minus
+unfolding number_of
+returns-then-has_minus c =
+    let s = c.as_bytes-bytes.result.now in
+    let signed : (get_or s 0 0 == 45) ≡ true = sym c.if-has_minus.ensures.value in
+    let read : number_from true (scan (drop 1 s)) ≡ number_of s = rw signed in
+    no_natural (scan (drop 1 s))
+    ∙ ap (λ n. option_and_then as_u64 n) (read ∙ ap number_of c.as_bytes-bytes.ensures.value)
+
+pub returns-else-has_minus : goal.returns-else-has_minus
+unfolding number_of
+returns-else-has_minus c =
+    let s = c.as_bytes-bytes.result.now in
+    let unsigned : (get_or s 0 0 == 45) ≡ false = sym c.if-has_minus.ensures.value in
+    let read : number_from false (scan s) ≡ number_of s = rw unsigned in
+    c.unsigned_of.ensures
+    ∙ ap (λ n. option_and_then as_u64 n) (ap (number_from false) c.scan.ensures.parts ∙ read ∙ ap number_of c.as_bytes-bytes.ensures.value)
