@@ -10,6 +10,7 @@ whose sum changed is tried again.
 
 import collections
 import concurrent.futures
+import contextlib
 import dataclasses
 import os
 import pathlib
@@ -18,8 +19,8 @@ import shutil
 import sys
 import tempfile
 
-from tools import records
-from tools.repository import CRATES, PROVED, TOP, Counts, below, crates, lanes, run
+from tools import kept, records
+from tools.repository import CRATES, TOP, Counts, crates, lanes, run
 from tools.source import Function, functions, heading
 
 GOAL = re.compile(r"(?:note: |\./)*(src|proofs)/(\S+?)\.(?:rt|antt):(\d+):\d+: (?:error: `([^`]+)`|.*\(`([^`]+)`\))")
@@ -28,6 +29,8 @@ HEAD = "# Where ./check mutants saw each mutant refused, after a sum of what tha
 ENTRY = re.compile(r"  ([0-9a-f]{12}|-|\?) (.+?)(?: \(\d+\))?: (.*)")
 # Stands in a record for the sum of a mutant that waits: what it rests on changed, and it is to be tried again.
 WAITS = "?"
+# As many checks run side by side as there are processors, so each takes one.
+ONE_JOB = ["--jobs", "1"]
 UNREAD = re.compile(r"\berror\[[\w-]+\]|^(\./)?src/\S+: error: [^`]", re.M)
 
 
@@ -77,22 +80,36 @@ def linked(source, target):
     shutil.copytree(source, target, symlinks=True, copy_function=copy)
 
 
-def check(crate, texts):
-    """Returns what a check says of a copy of the crate with these texts, over what is kept of the crate."""
-    with tempfile.TemporaryDirectory(dir=TOP.parent) as room:
-        room, used = pathlib.Path(room), below(crates(), crate.name)
-        shutil.copy2(TOP / "HANDLES", room)
-        lines = PROVED.read_text().splitlines(keepends=True)
-        (room / "crates.txt").write_text("".join(it for it in lines if re.match(r"\w*", it)[0] in used))
-        for other in (CRATES / it for it in used):
-            names = ["src", "specs", "proofs", "out/rlib", *(["out/incremental"] if other == crate else [])]
-            for name in names:
-                if (other / name).is_dir():
-                    linked(other / name, room / "crates" / other.name / name)
-        folder = room / "crates" / crate.name
-        for path, text in texts.items():
-            (folder / path).write_text(text)
-        return run(["rt", "check", "--jobs", "1"], folder).stdout
+class Checker:
+    """Checks a crate with other texts, over the libraries below it as `rt ci` proved them and a copy of what checks of the crate keep.
+
+    It calls the kit's checker itself: `rt check` would first sum the files of all crates below, each time."""
+
+    def __init__(self, crate, of_kit):
+        self.crate, self.of_kit, self.work = crate, of_kit, crate / "out" / "incremental"
+
+    def prove(self):
+        """Proves the crate as it stands, and keeps what trials begin with."""
+        self.work.mkdir(parents=True, exist_ok=True)
+        ended = kept.toolchain().checked(self.of_kit, {}, ONE_JOB, str(self.work))
+        if ended.returncode:
+            sys.exit(f"{ended.stdout[-3000:]}\n{self.crate.name}: is not proved as it stands")
+
+    def check(self, texts):
+        """Returns what a check says of the crate with these texts."""
+        with tempfile.TemporaryDirectory(dir=TOP.parent) as room:
+            linked(self.work, f"{room}/work")
+            return kept.toolchain().checked(self.of_kit, texts, ONE_JOB, f"{room}/work").stdout
+
+
+@contextlib.contextmanager
+def checkers(names):
+    """Gives what checks each of the crates, once they and those below them are proved."""
+    ended = run(["rt", "ci", *names])
+    if ended.returncode:
+        sys.exit(f"{ended.stdout[-3000:]}\n{' '.join(names)}: not proved as they stand")
+    with kept.taken() as (every, _):
+        yield {it: Checker(CRATES / it, every[it]) for it in names}
 
 
 def refused(said, turned):
@@ -245,47 +262,49 @@ def write_record(crate, entries):
     record_of(crate).write_text("\n".join(lines) + "\n")
 
 
-def try_edit(crate, edit, wanted=None):
+def try_edit(checker, edit, wanted=None):
     """Returns the goals of each mutated function of the edit, of all or of those that are wanted, none where it is not refused."""
-    texts, changes = read_edit(crate, edit)
+    texts, changes = read_edit(checker.crate, edit)
     turned = by_function(texts, changes)
     common = turned.pop(None, [])
     goals = {it: {} for it in turned if wanted is None or it in wanted}
     left, seen = list(goals), None
     while left and left != seen:
         chosen = {id(it) for function in left for it in [*turned[function], *common]}
-        said = check(crate, changed(texts, [it for it in changes if id(it) in chosen]))
+        said = checker.check(changed(texts, [it for it in changes if id(it) in chosen]))
         if UNREAD.search(said):
-            sys.exit(f"{said[-3000:]}\n{crate.name}/{edit.stem}: cannot be read")
+            sys.exit(f"{said[-3000:]}\n{checker.crate.name}/{edit.stem}: cannot be read")
         for function, names in refused(said, left)[0].items():
             goals[function] |= names
         left, seen = [it for it in left if not goals[it]], left
     found = {it: ", ".join(names) for it, names in goals.items()}
-    return found | {it: tried_alone(crate, changed(texts, [*common, *turned[it]]), it) for it in left}
+    return found | {it: tried_alone(checker, changed(texts, [*common, *turned[it]]), it) for it in left}
 
 
-def tried_alone(crate, texts, function):
+def tried_alone(checker, texts, function):
     """Returns the goals of a mutated function, tried alone. Answers that name what the mutant took away are left out."""
     left_out = {}
     while True:
-        said = check(crate, texts)
+        said = checker.check(texts)
         goals, unread = (it[function] for it in refused(said, [function]))
         if goals or not unread:
             break
         for (path, line), name in unread.items():
-            texts = texts | {path: without_answer(texts.get(path) or (crate / path).read_text(), line)}
+            texts = texts | {path: without_answer(texts.get(path) or (checker.crate / path).read_text(), line)}
             left_out[name] = None
     if not goals and "logic=not-proved" in said:
         goals = {f"elsewhere: {next(filter(GOAL.match, said.splitlines()), '')[:100]}": None}
     return ", ".join(goals) + (f"; without {', '.join(left_out)}, which name what it took away" if goals and left_out else "")
 
 
-def try_crate(crate, chosen, every, pool):
+def try_crate(checker, chosen, every, pool):
     """Tries mutants of a crate, writes where each is refused, and returns their counts."""
-    known, tasks = recorded(crate), {}
+    crate, tasks = checker.crate, {}
+    known = recorded(crate)
+    pool.submit(checker.prove).result()
     for edit in sorted({it.edit for it in chosen}):
         wanted = {it.function for it in chosen if it.edit == edit}
-        tasks[edit] = pool.submit(try_edit, crate, crate / "mutants" / f"{edit}.edit", wanted)
+        tasks[edit] = pool.submit(try_edit, checker, crate / "mutants" / f"{edit}.edit", wanted)
     found = {it.key: (it.sum, tasks[it.edit].result()[it.function]) for it in chosen}
     tried = {key: (sum_, goals) if goals else ("-", "NOT REFUSED") for key, (sum_, goals) in found.items()}
     write_record(crate, [(it, (known | tried)[it.key]) for it in every])
@@ -294,17 +313,11 @@ def try_crate(crate, chosen, every, pool):
     return Counts(len(found) - missed, missed)
 
 
-def prove(crate):
-    ended = run(["rt", "check", "--jobs", "1"], crate)
-    if ended.returncode:
-        sys.exit(f"{ended.stdout[-3000:]}\n{crate.name}: is not proved as it stands")
-
-
-def try_alone(crate, edit):
+def try_alone(checker, edit):
     """Tries a single edit of mutants/ or must-fail/, and prints its goals."""
-    prove(crate)
-    (path,) = crate.glob(f"*/{edit}.edit")
-    goals = try_edit(crate, path)
+    checker.prove()
+    (path,) = checker.crate.glob(f"*/{edit}.edit")
+    goals = try_edit(checker, path)
     for function, names in goals.items():
         print(f"{function.file}: {function}: {names or 'NOT REFUSED'}")
     missed = sum(not names for names in goals.values())
@@ -313,16 +326,15 @@ def try_alone(crate, edit):
 
 def try_all(names):
     """Tries the mutants of crates whose records are stale, the edits of all of them side by side; a single edit as CRATE/EDIT."""
-    sources, tasks = records.Sources(TOP), []
-    for crate in (CRATES / it for it in crates() if it in names):
-        every, known = mutants_of(crate, sources), recorded(crate)
-        tasks.append((crate, [it for it in every if known.get(it.key, "")[:1] != (it.sum,)], every))
-    for crate, chosen, _ in tasks:
-        if chosen:
-            prove(crate)
-    with concurrent.futures.ThreadPoolExecutor(lanes()) as pool, concurrent.futures.ThreadPoolExecutor(max(1, len(tasks))) as ends:
-        counts = [*ends.map(lambda it: try_crate(*it, pool), tasks)]
-    for name in names:
-        crate, _, edit = name.partition("/")
-        counts += [try_alone(CRATES / crate, edit)] if edit else []
-    return counts
+    sources, tasks, alone = records.Sources(TOP), [], [it.split("/") for it in names if "/" in it]
+    for name in (it for it in crates() if it in names):
+        every, known = mutants_of(CRATES / name, sources), recorded(CRATES / name)
+        chosen = [it for it in every if known.get(it.key, "")[:1] != (it.sum,)]
+        tasks += [(name, chosen, every)] * bool(chosen)
+    wanted = {it for it, *_ in [*tasks, *alone]}
+    if not wanted:
+        return []
+    with checkers(sorted(wanted)) as found, concurrent.futures.ThreadPoolExecutor(lanes()) as pool:
+        with concurrent.futures.ThreadPoolExecutor(max(1, len(tasks))) as ends:
+            counts = [*ends.map(lambda it: try_crate(found[it[0]], *it[1:], pool), tasks)]
+        return counts + [try_alone(found[name], edit) for name, edit in alone]
