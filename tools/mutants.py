@@ -108,6 +108,8 @@ def checkers(names):
     ended = run(["rt", "ci", *names])
     if ended.returncode:
         sys.exit(f"{ended.stdout[-3000:]}\n{' '.join(names)}: not proved as they stand")
+    # Its first call sets a signal's handler, which only the main thread may.
+    kept.toolchain().rtlib.guarded()
     with kept.taken() as (every, _):
         yield {it: Checker(CRATES / it, every[it]) for it in names}
 
