@@ -85,6 +85,8 @@ pub use Rattle.range_sets.specs.SetOrder
 pub use Rattle.range_sets.specs.SetTexts
 pub use Rattle.range_sets.specs.TwoSets
 pub use Rattle.range_commands.specs.Tagged
+pub use Rattle.json_trees.specs.Borrowed
+pub use Rattle.json_trees.specs.LookUps as JsonLookUps
 pub use Rattle.range_set_json.specs.Faults
 pub use Rattle.range_json.specs.Keys
 pub use Rattle.range_set_json.specs.Laws
@@ -113,6 +115,7 @@ pub use Rattle.range_map.specs.declared.map.try_insert.NotFree
 pub use Rattle.range_sets.specs.declared.set.try_insert.NotAdded
 pub use Rattle.range_commands.specs.declared.command.Command
 pub use Rattle.range_commands.specs.declared.command.Reply
+pub use Rattle.json_trees.specs.declared.text.TextError
 pub use Rattle.range_json.specs.declared.error.JsonError
 pub use Rattle.range_json.specs.declared.error.ReadError
 -- The least and the greatest number of items of a node.

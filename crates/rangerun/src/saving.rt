@@ -3,7 +3,7 @@
 ghost use Rattle.std.specs.Prelude.{◌≡◌, ◌⊎◌, Some, None, IfOk, IfErr, OnOk, string_bytes};
 ghost use Rattle.std.specs.Io.KnownBytes.{Appends};
 ghost use Rattle.serde_json.specs.Read.{read};
-ghost use Rattle.json_trees.specs.Borrowed.{borrowed_data};
+ghost use Rattle.btree_range_map.specs.Borrowed.{borrowed_data};
 ghost use Rattle.serde_json.specs.Written.{compact_text};
 ghost use Rattle.btree_range_map.specs.Holding.{box_items};
 ghost use Rattle.btree_range_map.specs.JsonError.TheVariants.{Memory};
@@ -15,9 +15,8 @@ ghost use Rattle.rangerun.specs.declared.saving.LoadError.TheVariants.{NotJson, 
 
 use crate::number::SpelledKey;
 use btree_range_map::RangeMap;
-use btree_range_map::json::{JsonError, map_from_json, map_to_json};
+use btree_range_map::json::{JsonError, TextError, map_from_json, map_to_json, parse};
 use json::{Scratch, Value};
-use json_trees::TextError;
 use std::alloc::{AllocError, Global};
 use std::io::{self, Write};
 
@@ -89,7 +88,7 @@ fn json_of<'a>(
     ensures refused { IfErr result
         (λ e. ((e ≡ NotJson) × (read text.now ≡ None)) ⊎ (e ≡ Faulty Memory)) }
 {
-    match json_trees::parse(alloc, text, scratch) {
+    match parse(alloc, text, scratch) {
         Ok(value) => Ok(value),
         Err(TextError::Memory) => Err(LoadError::Faulty(JsonError::Memory)),
         Err(TextError::NotJson) => Err(LoadError::NotJson),
