@@ -15,9 +15,7 @@ ghost use Rattle.rangerun.specs.declared.saving.LoadError.TheVariants.{NotJson, 
 
 use crate::number::SpelledKey;
 use btree_range_map::RangeMap;
-use btree_range_map::json::{
-    JsonError, Scratch, TextError, map_from_json, map_to_json, parse,
-};
+use btree_range_map::json::{JsonError, Scratch, TextError, map_from_json, map_to_json, parse};
 use json::Value;
 use std::alloc::{AllocError, Global};
 use std::io::{self, Write};
