@@ -14,5 +14,6 @@ mod number;
 mod text;
 mod tree;
 
+pub use json::Scratch;
 pub use text::{TextError, parse};
 pub use tree::JsonTree;
