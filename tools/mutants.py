@@ -1,7 +1,7 @@
 """Mutants: wrong bodies of functions, each seen refused at a goal of its own function.
 
-The mutants of an edit of crates/CRATE/mutants/ are tried in one check, over what `rt check` keeps of
-the crate, and the edits side by side. One that is not seen refused among the others is tried again
+The mutants of an edit of crates/CRATE/mutants/ are tried in one check, of the modules of their functions
+alone, and those of several crates side by side. One that is not seen refused among the others is tried again
 without those that were, and at last alone. A refusal is a goal that is open or false, and not an answer
 which names what the mutant took away: such answers are left out then. Where each is refused stands in
 crates/CRATE/mutants/refused.txt, after a sum of what that rests on (tools/records.py). Only a mutant
@@ -12,6 +12,7 @@ import collections
 import concurrent.futures
 import contextlib
 import dataclasses
+import itertools
 import os
 import pathlib
 import re
@@ -29,8 +30,9 @@ HEAD = "# Where ./check mutants saw each mutant refused, after a sum of what tha
 ENTRY = re.compile(r"  ([0-9a-f]{12}|-|\?) (.+?)(?: \(\d+\))?: (.*)")
 # Stands in a record for the sum of a mutant that waits: what it rests on changed, and it is to be tried again.
 WAITS = "?"
-# As many checks run side by side as there are processors, so each takes one.
+# As many crates are tried side by side as there are processors, so a check takes one.
 ONE_JOB = ["--jobs", "1"]
+NOT_PROVED = re.compile(r"^logic=not-proved|^only=(\d+) proved=(?!\1$)", re.M)
 UNREAD = re.compile(r"\berror\[[\w-]+\]|^(\./)?src/\S+: error: [^`]", re.M)
 
 
@@ -81,25 +83,30 @@ def linked(source, target):
 
 
 class Checker:
-    """Checks a crate with other texts, over the libraries below it as `rt ci` proved them and a copy of what checks of the crate keep.
+    """Checks functions of a crate with other texts, over the libraries below it as `rt ci` proved them.
 
-    It calls the kit's checker itself: `rt check` would first sum the files of all crates below, each time."""
+    It calls the kit's checker itself, since `rt check` would first sum the files of all crates below, each time. It asks for the modules
+    of the functions that were turned, and what one trial checks is kept for the next."""
 
-    def __init__(self, crate, of_kit):
-        self.crate, self.of_kit, self.work = crate, of_kit, crate / "out" / "incremental"
+    def __init__(self, crate, of_kit, work):
+        self.crate, self.of_kit, self.work = crate, of_kit, work
+        kept_before = crate / "out" / "incremental"
+        if kept_before.is_dir():
+            linked(kept_before, work)
+        else:
+            work.mkdir()
 
-    def prove(self):
-        """Proves the crate as it stands, and keeps what trials begin with."""
-        self.work.mkdir(parents=True, exist_ok=True)
-        ended = kept.toolchain().checked(self.of_kit, {}, ONE_JOB, str(self.work))
-        if ended.returncode:
-            sys.exit(f"{ended.stdout[-3000:]}\n{self.crate.name}: is not proved as it stands")
+    def check(self, texts, turned):
+        """Returns what a check says of the modules of the functions, with these texts."""
+        modules = {module_of(it.file) for it in turned}
+        only = [] if "" in modules else [word for it in sorted(modules) for word in ("--only", it)]
+        return kept.toolchain().checked(self.of_kit, texts, [*ONE_JOB, *only], str(self.work)).stdout
 
-    def check(self, texts):
-        """Returns what a check says of the crate with these texts."""
-        with tempfile.TemporaryDirectory(dir=TOP.parent) as room:
-            linked(self.work, f"{room}/work")
-            return kept.toolchain().checked(self.of_kit, texts, ONE_JOB, f"{room}/work").stdout
+
+def module_of(file):
+    """Returns the path of a file's module below the crate, none for the root's."""
+    path = file[len("src/") : -len(".rt")].removesuffix("/mod")
+    return "" if path in ("lib", "main") else path.replace("/", "::")
 
 
 @contextlib.contextmanager
@@ -110,8 +117,8 @@ def checkers(names):
         sys.exit(f"{ended.stdout[-3000:]}\n{' '.join(names)}: not proved as they stand")
     # Its first call sets a signal's handler, which only the main thread may.
     kept.toolchain().rtlib.guarded()
-    with kept.taken() as (every, _):
-        yield {it: Checker(CRATES / it, every[it]) for it in names}
+    with kept.taken() as (every, _), tempfile.TemporaryDirectory(dir=TOP.parent) as room:
+        yield {it: Checker(CRATES / it, every[it], pathlib.Path(room, it)) for it in names}
 
 
 def refused(said, turned):
@@ -273,7 +280,7 @@ def try_edit(checker, edit, wanted=None):
     left, seen = list(goals), None
     while left and left != seen:
         chosen = {id(it) for function in left for it in [*turned[function], *common]}
-        said = checker.check(changed(texts, [it for it in changes if id(it) in chosen]))
+        said = checker.check(changed(texts, [it for it in changes if id(it) in chosen]), left)
         if UNREAD.search(said):
             sys.exit(f"{said[-3000:]}\n{checker.crate.name}/{edit.stem}: cannot be read")
         for function, names in refused(said, left)[0].items():
@@ -287,27 +294,26 @@ def tried_alone(checker, texts, function):
     """Returns the goals of a mutated function, tried alone. Answers that name what the mutant took away are left out."""
     left_out = {}
     while True:
-        said = checker.check(texts)
+        said = checker.check(texts, [function])
         goals, unread = (it[function] for it in refused(said, [function]))
         if goals or not unread:
             break
         for (path, line), name in unread.items():
             texts = texts | {path: without_answer(texts.get(path) or (checker.crate / path).read_text(), line)}
             left_out[name] = None
-    if not goals and "logic=not-proved" in said:
+    if not goals and NOT_PROVED.search(said):
         goals = {f"elsewhere: {next(filter(GOAL.match, said.splitlines()), '')[:100]}": None}
     return ", ".join(goals) + (f"; without {', '.join(left_out)}, which name what it took away" if goals and left_out else "")
 
 
-def try_crate(checker, chosen, every, pool):
+def try_crate(checker, chosen, every):
     """Tries mutants of a crate, writes where each is refused, and returns their counts."""
-    crate, tasks = checker.crate, {}
+    crate, found = checker.crate, {}
     known = recorded(crate)
-    pool.submit(checker.prove).result()
-    for edit in sorted({it.edit for it in chosen}):
-        wanted = {it.function for it in chosen if it.edit == edit}
-        tasks[edit] = pool.submit(try_edit, checker, crate / "mutants" / f"{edit}.edit", wanted)
-    found = {it.key: (it.sum, tasks[it.edit].result()[it.function]) for it in chosen}
+    for edit, of_edit in itertools.groupby(chosen, lambda it: it.edit):
+        of_edit = list(of_edit)
+        goals = try_edit(checker, crate / "mutants" / f"{edit}.edit", {it.function for it in of_edit})
+        found |= {it.key: (it.sum, goals[it.function]) for it in of_edit}
     tried = {key: (sum_, goals) if goals else ("-", "NOT REFUSED") for key, (sum_, goals) in found.items()}
     write_record(crate, [(it, (known | tried)[it.key]) for it in every])
     missed = sum(not goals for _, goals in found.values())
@@ -317,7 +323,6 @@ def try_crate(checker, chosen, every, pool):
 
 def try_alone(checker, edit):
     """Tries a single edit of mutants/ or must-fail/, and prints its goals."""
-    checker.prove()
     (path,) = checker.crate.glob(f"*/{edit}.edit")
     goals = try_edit(checker, path)
     for function, names in goals.items():
@@ -327,7 +332,7 @@ def try_alone(checker, edit):
 
 
 def try_all(names):
-    """Tries the mutants of crates whose records are stale, the edits of all of them side by side; a single edit as CRATE/EDIT."""
+    """Tries the mutants of crates whose records are stale, the crates side by side; a single edit as CRATE/EDIT."""
     sources, tasks, alone = records.Sources(TOP), [], [it.split("/") for it in names if "/" in it]
     for name in (it for it in crates() if it in names):
         every, known = mutants_of(CRATES / name, sources), recorded(CRATES / name)
@@ -337,6 +342,5 @@ def try_all(names):
     if not wanted:
         return []
     with checkers(sorted(wanted)) as found, concurrent.futures.ThreadPoolExecutor(lanes()) as pool:
-        with concurrent.futures.ThreadPoolExecutor(max(1, len(tasks))) as ends:
-            counts = [*ends.map(lambda it: try_crate(found[it[0]], *it[1:], pool), tasks)]
+        counts = [*pool.map(lambda it: try_crate(found[it[0]], *it[1:]), tasks)]
         return counts + [try_alone(found[name], edit) for name, edit in alone]
