@@ -1,8 +1,10 @@
--- Starts of lines that are bad, whatever comes next.
-use Rattle.std.specs.Prelude.{◌≡◌, ℕ, ◌||◌, ◌==◌, Bool, not, List, ◌++◌, take}
+-- Starts of lines that tell all that counts, whatever comes next.
+use Rattle.std.specs.Prelude.{◌≡◌, ℕ, ◌||◌, ◌==◌, Bool, false, not, List, [], ◌∷◌, ◌++◌, take}
 use Rattle.std.specs.Char.{is_ascii_whitespace}
+use Rattle.std.specs.List.{list_any}
 use Rattle.address_text.specs.Faults.{IsFault}
 use Rattle.address_text.specs.Lines.{Says, content, is_dash, is_hash, is_slash}
+use Rattle.address_text.specs.Places.{ends_line}
 use Rattle.address_text.specs.declared.fault.Expected.{Expected}
 use Rattle.address_text.specs.declared.fault.Expected.TheVariants.{Address}
 use Rattle.address_text.specs.declared.line.Line.{Line}
@@ -26,3 +28,12 @@ HasOneFault start = (column : ℕ) (expected : Expected) → IsFault start colum
 
 abbrev pub IsBadStart : List ℕ → Type 0
 IsBadStart start = (rest : List ℕ) → IsBad start rest
+
+-- a byte with which a comment, the next line or JSON begins
+abbrev pub ends_text : ℕ → Bool
+ends_text byte = is_hash byte || ends_line byte || (byte == 123)
+
+-- the start of a line has its comment sign at its end, so whatever comes next is comment
+abbrev pub OpensComment : List ℕ → Type 0
+OpensComment start =
+    (text : List ℕ) × (start ≡ text ++ 35 ∷ []) × (list_any ends_text text ≡ false)
