@@ -3,7 +3,7 @@ use Rattle.std.specs.Prelude.{◌≡◌, ◌≢◌, ℕ, ◌+◌, ◌-◌, ◌�
 use Rattle.std.specs.Io.BufRead.{drop_through, take_through}
 use Rattle.address_text.specs.Faults.{IsFault}
 use Rattle.std.specs.List.{list_all}
-use Rattle.address_text.specs.Starts.{HasOneFault, IsBadStart, is_plain}
+use Rattle.address_text.specs.Starts.{HasOneFault, IsBadStart, OpensComment, is_plain}
 use Rattle.address_text.specs.Lines.{AreAddresses, Says, SaysAddress, content}
 use Rattle.address_text.specs.declared.family.Family.{Family}
 use Rattle.address_text.specs.declared.line.Line.{Line}
@@ -22,15 +22,25 @@ IsFoundAt line column found = found ≡ take 40 (content (drop (column - 1) line
 abbrev pub MayFail : Type 0
 MayFail = Unit {0}
 
--- the text is a line, or its start, which is bad whatever comes next
+-- the text is bad whatever comes next
+abbrev pub IsHopeless : List ℕ → Type 0
+IsHopeless text = (text ≢ []) × (list_all is_plain text ≡ true) × HasOneFault text
+    × IsBadStart text
+
+-- the text is a line, or its start, which is bad whatever comes next, or has its comment sign
 abbrev pub IsShown : List ℕ → List ℕ → Type 0
-IsShown text line = (text ≡ line) ⊎ ((rest : List ℕ) × (line ≡ text ++ rest) × (text ≢ [])
-    × (list_all is_plain text ≡ true) × HasOneFault text × IsBadStart text)
+IsShown text line = (text ≡ line)
+    ⊎ ((rest : List ℕ) × (line ≡ text ++ rest) × (IsHopeless text ⊎ OpensComment text))
 
 -- the text shows the first line of the bytes, and these are left behind it
 abbrev pub IsNextShown : List ℕ → Option (List ℕ) → List ℕ → Type 0
 IsNextShown bytes later text = (bytes ≢ []) × (later ≡ Some (drop_through 10 bytes))
     × IsShown text (take_through 10 bytes)
+
+-- the text is the start of each line that begins so, and shows it
+abbrev pub ShowsEach : List ℕ → Type 0
+ShowsEach text = (text ≢ [])
+    × ((rest : List ℕ) → IsShown text (take_through 10 (text ++ rest)))
 
 module _ (strict : Bool) where
   -- what a line says, or that it says nothing known

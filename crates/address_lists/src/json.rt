@@ -162,7 +162,7 @@ fn is_reversed_value<A: Address + Json>(alloc: Global, value: &Value) -> Result<
     ensures in_order { result ≡ Ok false
         → IsInOrder A.is_read A.number A.reads (view value.now) }
 {
-    match range_from_json::<A>(alloc, value) {
+    match range_from_json::<A, _>(alloc, value) {
         Ok(range) => Ok(is_reversed(&range)),
         Err(JsonError::Memory) => Err(AllocError),
         Err(_) => Ok(false),

@@ -1,10 +1,11 @@
 //! Reading a list.
 
 ghost use Rattle.std.specs.Prelude.{◌⊎◌, ◌≡◌, ◌≢◌, ◌++◌, ◌+◌, ◌≤◌, ◌<◌, ◌^◌, List, [], None, Err, Ok, IfErr, IfOk, IfSome, IsOk, OnOk, Some, false, true};
+ghost use Rattle.std.specs.Io.{StartsWith};
 ghost use Rattle.address_text.specs.declared.line.Line.{Line};
 ghost use Rattle.address_lists.specs.Lists.{AreAdded, AreGood, Has, HasJust, IsListed};
 ghost use Rattle.address_lists.specs.Waiting.{HasSoFar};
-ghost use Rattle.address_lists.specs.Reading.{HasFault, HasFaultFrom, IsBad, IsBadLine, IsFound, IsNextShown, IsSaid};
+ghost use Rattle.address_lists.specs.Reading.{HasFault, HasFaultFrom, IsBad, IsBadLine, IsFound, IsNextShown, IsSaid, ShowsEach};
 ghost use Rattle.address_lists.specs.declared.read.BadLines.TheVariants.{Refused, Skipped};
 ghost use Rattle.address_lists.specs.declared.read.Found.TheVariants.{Other};
 ghost use Rattle.address_lists.specs.declared.read.ListError.TheVariants.{Memory, Unread};
@@ -13,7 +14,9 @@ use crate::addresses::Addresses;
 use crate::json::JsonFault;
 use crate::spans::Waiting;
 use address_text::fault::fault_of;
-use address_text::{Excerpt, Expected, Line, START_BYTES, excerpt_at, is_bad_start, line_of};
+use address_text::{
+    Excerpt, Expected, Line, START_BYTES, commented_start, excerpt_at, is_bad_start, line_of,
+};
 use line_program::read::{LineRead, ReadError};
 use std::alloc::Global;
 use std::fmt;
@@ -127,8 +130,20 @@ pub(crate) fn keep(kept: &mut Vec<u8>, text: &[u8]) -> Result<(), ListError>
     }
 }
 
-/// Reads the next line, of one that is bad whatever comes next the start alone. Returns whether
-/// there was one.
+/// What tells enough of a line that begins so, whatever comes next: the start of one that is bad,
+/// or has its comment sign there. `None` where the whole line is needed.
+fn shown_of(start: &[u8]) -> Option<&[u8]>
+    ensures first { IfSome result (λ text. StartsWith start.now text.now) }
+    ensures shown { IfSome result (λ text. ShowsEach text.now) }
+{
+    if is_bad_start(start) {
+        return Some(start);
+    }
+    commented_start(start)
+}
+
+/// Reads the next line, of one with a long comment, or that is bad whatever comes next, the start
+/// alone. Returns whether there was one.
 pub(crate) fn next_line<R: LineRead>(line: &mut Vec<u8>, input: &mut R) -> Result<bool, ListError>
     ensures ended { result ≡ Ok false → IfSome (R.remaining input.old)
         (λ bytes. (bytes ≡ []) × (R.remaining input.new ≡ Some [])) }
@@ -138,10 +153,12 @@ pub(crate) fn next_line<R: LineRead>(line: &mut Vec<u8>, input: &mut R) -> Resul
     ensures unread { result ≡ Err Unread → R.fails }
 {
     let mut start = [0; START_BYTES];
-    if input.next_bytes(&mut start)? && is_bad_start(&start) {
+    if input.next_bytes(&mut start)?
+        && let Some(shown) = shown_of(&start)
+    {
         input.skip_line()?;
         line.clear();
-        keep(line, &start)?;
+        keep(line, shown)?;
         return Ok(true);
     }
     Ok(input.next_line(line)?)
@@ -216,9 +233,9 @@ pub(crate) fn read_all<R: LineRead>(
 /// that is known: it is left out, or ends the reading. After an error some addresses are added.
 /// `Unread` is answered where a read of the input failed, and nowhere else.
 ///
-/// One buffer holds a line, but of one that begins with more bytes than an address has the start
-/// alone. Ranges that do not follow each other are sorted before they are added,
-/// up to 8 MiB of either family at a time.
+/// One buffer holds a line. Of one that begins with more bytes than an address has, and of one whose
+/// comment begins within so many, it holds the start alone. Ranges that do not follow each other
+/// are sorted before they are added, up to 8 MiB of either family at a time.
 ///
 /// ```
 /// let mut list = Addresses::new(rt.alloc());

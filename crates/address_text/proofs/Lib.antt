@@ -1,5 +1,6 @@
 -- Lemmas.
 mod Blocks
+pub mod Comments
 mod Excerpts
 pub mod Faults
 mod Masks

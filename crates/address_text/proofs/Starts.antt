@@ -255,6 +255,9 @@ module _ (start : List ℕ) (long : 80 ≤ length start) (plain : list_all is_pl
     bad_start rest =
         let (others, is) = content_from rest in record {
           nothing = λ strict said. says_nothing_known rest strict said;
+          unwritten =
+              λ family n written. not_written start long others family n
+              (subst (λ t. IsAddressText family t n) is written);
           fault =
               let blanks = no_blanks start rest plain (omega (arith, long)) in
               (0, omega (arith, blanks), expected (content (start ++ rest)) others is);

@@ -7,9 +7,6 @@ use crate::line::content_of;
 use std::fmt;
 use std::marker::Model;
 
-/// A text of UTF-8 may begin with this mark, which is no part of a list.
-const MARK: &[u8] = b"\xef\xbb\xbf";
-
 /// The first bytes of a text, up to 40, as a message shows them. A contract sees these bytes.
 #[derive(Debug, Drop)]
 pub struct Excerpt {
@@ -44,6 +41,15 @@ impl Excerpt {
     }
 }
 
+/// The byte order mark that a text begins with, as a message names it. A list has none.
+fn byte_order_mark(text: &[u8]) -> Option<&'static str> {
+    match text {
+        [0xef, 0xbb, 0xbf, ..] => Some("a byte order mark"),
+        [0xff, 0xfe, ..] | [0xfe, 0xff, ..] => Some("a UTF-16 byte order mark"),
+        _ => None,
+    }
+}
+
 /// Writes a byte as itself where it is printable ASCII, and else by its number, as `\xff`.
 fn write_byte<W: fmt::Write>(byte: u8, f: &mut fmt::Formatter<W>) -> fmt::Result {
     match byte {
@@ -67,8 +73,8 @@ impl fmt::Display for Excerpt {
         if text.is_empty() {
             return write!(f, "nothing");
         }
-        if text.starts_with(MARK) {
-            return write!(f, "a byte order mark");
+        if let Some(mark) = byte_order_mark(text) {
+            return write!(f, "{mark}");
         }
         write_bytes(text, f)?;
         if self.is_whole {

@@ -7,7 +7,7 @@
 //!
 //! - what a line of a list says: `src/line.rt`, `specs/Lines.antt`; what is wrong with one that
 //!   says nothing: `src/fault.rt`, `specs/Faults.antt`; what stands there: `src/excerpt.rt`; starts
-//!   of lines that are bad whatever comes next: `src/start.rt`, `specs/Starts.antt`
+//!   of lines that tell all that counts: `src/start.rt`, `specs/Starts.antt`
 //! - a line and a column of a text: `src/place.rt`, `specs/Places.antt`
 //! - an address, prefix or range as it is printed: `src/write.rt`, `specs/Texts.antt`
 #![tactic(auto)]
@@ -25,4 +25,4 @@ pub use family::Family;
 pub use fault::{Expected, Fault};
 pub use line::{Line, content_of, line_of};
 pub use place::place_in;
-pub use start::{START_BYTES, is_bad_start};
+pub use start::{START_BYTES, commented_start, is_bad_start};
