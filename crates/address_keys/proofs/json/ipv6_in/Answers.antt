@@ -4,22 +4,23 @@ use Rattle.std.specs.Net.Grammar.{IsColonHex}
 use Rattle.std.specs.Net.Reader.{read_ipv6}
 use Rattle.std.proofs.NetLemmas.Ipv6.{read_ipv6_sound}
 use Rattle.serde_json.specs.Find.{as_str}
-use Rattle.serde_json.specs.View.{view}
 use Rattle.address_keys.proofs.Reading.{ipv6_complete, reads_none, reads_some}
 use Rattle.address_keys.proofs.json.ipv6_in.Goals as goal
 
 pub returns-in-Ok : goal.returns-in-Ok
-returns-in-Ok c =
+returns-in-Ok g c =
+    let d = g.J.JsonTree.content c.args.value.now in
     let text = c.in_ok-text.text.now in
-    let is : as_str (view c.args.value.now) ≡ Some text = grind (arith, common_steps) in (
+    let is : as_str d ≡ Some text = grind (arith, common_steps) in (
       (text, is, c.in-Ok.address, c.in-Ok.ensures.value, c.to_bits.ensures),
-      reads_some read_ipv6 IsColonHex ipv6_complete read_ipv6_sound (view c.args.value.now) text
+      reads_some read_ipv6 IsColonHex ipv6_complete read_ipv6_sound d text
           c.in-Ok.address.segments is c.in-Ok.ensures.value,
     )
 
 pub returns-in-Err : goal.returns-in-Err
-returns-in-Err c =
+returns-in-Err g c =
+    let d = g.J.JsonTree.content c.args.value.now in
     let text = c.in_ok-text.text.now in
-    let is : as_str (view c.args.value.now) ≡ Some text = grind (arith, common_steps) in
-    reads_none read_ipv6 IsColonHex ipv6_complete read_ipv6_sound (view c.args.value.now) text is
+    let is : as_str d ≡ Some text = grind (arith, common_steps) in
+    reads_none read_ipv6 IsColonHex ipv6_complete read_ipv6_sound d text is
     (λ numbers. c.in-Err.ensures.value (record { segments = numbers }))
