@@ -7,7 +7,7 @@ use Rattle.address_text.specs.declared.family.Family.{Family}
 use Rattle.address_text.specs.declared.line.Line.{Line}
 use Rattle.line_program.specs.Lines.{IsNextLine}
 use Rattle.address_lists.proofs.Lines.{any_append}
-use Rattle.address_lists.proofs.Shown.{shown_bad, shown_says}
+use Rattle.address_lists.proofs.Shown.{shown_bad, shown_nothing, shown_says}
 use Rattle.address_lists.specs.Lists.{AreAdded, AreGood, AreSaid, Has, HasJust, IsListed, SaysNothingKnown}
 use Rattle.address_lists.specs.Lists.AreGood.{Ended, Other, Said}
 use Rattle.address_lists.specs.Reading.{HasFaultFrom, IsBad, IsBadLine, IsNextShown}
@@ -229,6 +229,17 @@ module _ (strict : Bool) (first : ℕ) where
     later_is,
     shown_says strict text (take_through 10 bytes) line shown
         (subst (λ t. Says strict t line) same says),
+  )
+
+  pub nothing_found : (left later : Option (List ℕ)) (text seen : List ℕ) → seen ≡ text
+      → IfSome left (λ bytes. IsNextShown bytes later text) → SaysNothingKnown strict seen
+      → IsNextLine left later (SaysNothingKnown strict)
+  nothing_found None later text seen same read nothing = tt
+  nothing_found (Some bytes) later text seen same (some, later_is, shown) nothing = (
+    some,
+    later_is,
+    shown_nothing strict text (take_through 10 bytes) shown
+        (subst (SaysNothingKnown strict) same nothing),
   )
 
   -- all lines before a bad one were good
