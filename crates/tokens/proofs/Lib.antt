@@ -1,3 +1,4 @@
+pub mod Advancing
 pub mod CountLines
 pub mod Counting
 pub mod Escapes

@@ -23,7 +23,7 @@ use Rattle.tokens.specs.Counts.{rules_in}
 use Rattle.tokens.specs.Printing.{AreTokensOf, IsLine, IsNameIn, Next, are_tokens, is_token}
 
 -- a line more
-spells_more : {X : Type 0} (S : X → List ℕ → Type 0) (xs : List X) (x : X) (text line : List ℕ)
+pub spells_more : {X : Type 0} (S : X → List ℕ → Type 0) (xs : List X) (x : X) (text line : List ℕ)
     → SpellsEach S xs text → S x line → SpellsEach S (xs ++ x ∷ []) (text ++ line)
 spells_more S [] x text line is one = rw is (line, [], one, refl, sym (append_nil line))
 spells_more S (y ∷ xs) x text line (first, rest, one, more, is) last = (

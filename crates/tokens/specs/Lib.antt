@@ -5,8 +5,10 @@ pub mod Faults
 pub mod Heads
 pub mod Lines
 pub mod Printing
+pub mod Progress
 pub mod Reading
 pub mod Rules
+pub mod Serving
 pub mod TableTexts
 pub mod Tails
 pub mod Texts

@@ -1,7 +1,8 @@
 -- What is printed of a text.
-use Rattle.std.specs.Prelude.{◌≡◌, ℕ, ◌-◌, Bool, true, false, ◌&&◌, List, [], ◌∷◌, drop, take, Result, Ok, Err}
+use Rattle.std.specs.Prelude.{◌≡◌, ℕ, ◌-◌, ◌≤◌, Bool, length, true, false, ◌&&◌, List, [], ◌∷◌, drop, take, Result, Ok, Err}
 use Rattle.line_program.specs.Listing.{SpellsEach}
 use Rattle.lexing.specs.declared.machine.Machine.{Machine}
+use Rattle.lexing.specs.declared.place.Place.{Place}
 use Rattle.lexing.specs.Lexers.{IsNameOf}
 use Rattle.lexing.specs.MachineSteps.{lexer_of}
 use Rattle.lexing.specs.Places.{place_at}
@@ -37,6 +38,12 @@ module _ (modes : Modes Machine) where
   abbrev pub IsNameIn : ModeToken → List ℕ → Type 0
   IsNameIn found name = (machine : Machine) × IsScannerOf modes found.mode machine
       × IsNameOf (lexer_of machine) found.token.rule name
+
+  -- the line of a token at the place, with which the text begins
+  abbrev pub IsLineAt : Form → Place → List ℕ → ModeToken → List ℕ → Type 0
+  IsLineAt form place text found line = (name : List ℕ) × IsNameIn found name
+      × (found.token.end ≤ length text)
+      × (line ≡ token_line form place name (take found.token.end text))
 
   module _ (form : Form) (text : List ℕ) where
     -- the line of a token: its place, the name of its rule, and its text

@@ -42,6 +42,7 @@ mod heads;
 mod language;
 mod lines;
 mod printing;
+mod progress;
 mod rules;
 mod serve;
 mod tables;

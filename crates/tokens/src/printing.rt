@@ -1,13 +1,15 @@
 //! The tokens of a text, one after the other, written.
-ghost use Rattle.std.specs.Prelude.{◌≡◌, ◌&&◌, Ok, true, IfOk, IfSome, OnOk};
+ghost use Rattle.std.specs.Prelude.{◌≡◌, ◌<◌, ◌≤◌, ◌&&◌, List, ℕ, Ok, Option, false, true, ◌++◌, drop, length, IfOk, IfSome, OnOk};
 ghost use Rattle.line_program.specs.Listing.{Writes};
-ghost use Rattle.lexing.specs.Places.{place_at};
-ghost use Rattle.tokens.specs.Printing.{IsLine, IsNameIn, IsPrinted, IsTokenLine, is_token};
+ghost use Rattle.line_program.specs.Pieces.{MayFollow};
+ghost use Rattle.tokens.specs.Printing.{IsLineAt, IsNameIn, IsPrinted};
+ghost use Rattle.tokens.specs.Progress.{IsAsFar};
 
 use crate::fault::show_fault;
 use crate::form::{Form, write_token};
-use lexing::{Machine, Place, Token};
-use lexing_modes::{ModeToken, Modes, TokenError};
+use crate::progress::Progress;
+use lexing::{Machine, Place};
+use lexing_modes::{ModeToken, Modes, Taken, TokenError};
 use std::alloc::Global;
 use std::io::{self, ErrorKind, Write};
 
@@ -29,20 +31,18 @@ fn name_of(modes: &Modes<Machine>, found: ModeToken) -> Option<&str>
     }
 }
 
-/// Writes a token of the text.
+/// Writes a token at the place, with which the rest of the text begins.
 fn print_token<W: Write>(
     printer: &Printer,
-    text: &str,
+    rest: &str,
     found: ModeToken,
     place: Place,
     out: &mut W,
 ) -> io::Result<()>
-    requires here { place ≡ place_at text.now found.token.start }
     ensures { OnOk result (Writes (W.contents out.old) (W.contents out.new)
-        (IsTokenLine printer.now.modes.now printer.now.form text.now found)) }
+        (IsLineAt printer.now.modes.now printer.now.form place rest.now found)) }
 {
-    let Token { start, end, .. } = found.token;
-    match (name_of(printer.modes, found), text.get(start..end)) {
+    match (name_of(printer.modes, found), rest.get(..found.token.end)) {
         (Some(name), Some(piece)) => {
             write_token(printer.alloc, printer.form, place, name, piece, out)
         }
@@ -50,20 +50,18 @@ fn print_token<W: Write>(
     }
 }
 
-/// Says why there is no token at this byte of the text, which is at the place.
+/// Says why there is no token at the place, between the two parts of the text.
 fn show_error<E: Write>(
     path: &str,
-    text: &str,
+    front: &str,
+    rest: &str,
     error: TokenError,
     place: Place,
     err: &mut E,
 ) -> io::Result<()> {
     let Place { line, column } = place;
     match error {
-        TokenError::NoToken { place: at, .. } => match (text.get(..at), text.get(at..)) {
-            (Some(front), Some(rest)) => show_fault(path, place, front, rest, err),
-            _ => Err(io::Error::from(ErrorKind::InvalidData)),
-        },
+        TokenError::NoToken { .. } => show_fault(path, place, front, rest, err),
         TokenError::NothingPushed { .. } => {
             writeln!(
                 err,
@@ -74,56 +72,84 @@ fn show_error<E: Write>(
     }
 }
 
-/// Prints the token, or says why there is none; whether there is one.
+/// Prints what stands next in the piece, and returns whether anything was taken of it: nothing where
+/// that needs more of the text, or the line of a fault does.
 fn print_next<W: Write, E: Write>(
     printer: &Printer,
     path: &str,
     text: &str,
-    next: Result<ModeToken, TokenError>,
-    place: Place,
+    is_last: bool,
+    progress: &mut Progress,
     out: &mut W,
     err: &mut E,
 ) -> io::Result<bool>
-    requires here { IfOk next (λ found. place ≡ place_at text.now found.token.start) }
-    ensures printed { IfOk result (λ is_one. (is_one ≡ is_token next)
-        × Writes (W.contents out.old) (W.contents out.new)
-        (IsLine printer.now.modes.now printer.now.form text.now next)) }
-    ensures silent { result ≡ Ok true → err.new ≡ err.old }
+    requires some { progress.old.at < length text.now }
+    ensures far { (all : List ℕ) (done : ℕ) (more : List ℕ) (before : Option (List ℕ))
+        → drop done all ≡ text.now ++ more → MayFollow is_last more
+        → IsAsFar printer.now.modes.now printer.now.form all done progress.old before
+        (W.contents out.old)
+        → OnOk result (IsAsFar printer.now.modes.now printer.now.form all done progress.new before
+        (W.contents out.new)) }
+    ensures within { OnOk result (progress.new.at ≤ length text.now) }
+    ensures further { result ≡ Ok true → progress.old.at < progress.new.at }
+    ensures last { result ≡ Ok false → is_last ≡ false }
+    ensures silent { OnOk result (progress.new.is_whole ≡ true
+        → (progress.old.is_whole ≡ true) × (err.new ≡ err.old)) }
 {
-    match next {
-        Ok(found) => {
-            print_token(printer, text, found, place, out)?;
-            Ok(true)
+    let (Some(front), Some(rest)) = (text.get(..progress.at), text.get(progress.at..)) else {
+        return Err(io::Error::from(ErrorKind::InvalidData));
+    };
+    match progress.cutter.take(rest, is_last) {
+        Taken::Open => return Ok(false),
+        Taken::Skipped(found) => progress.pass(rest, found.token.end)?,
+        Taken::Given(found) => {
+            print_token(printer, rest, found, progress.place, out)?;
+            progress.pass(rest, found.token.end)?;
         }
-        Err(error) => {
-            show_error(path, text, error, place, err)?;
-            Ok(false)
+        Taken::Failed(TokenError::Memory, _) => {
+            return Err(io::Error::from(ErrorKind::OutOfMemory));
+        }
+        Taken::Failed(error, end) => {
+            if !is_last && !rest.contains('\n') {
+                return Ok(false);
+            }
+            show_error(path, front, rest, error, progress.place, err)?;
+            progress.is_whole = false;
+            progress.pass(rest, end)?;
         }
     }
+    Ok(true)
 }
 
-/// The byte at which the token begins, or there is none. Where memory ran out, that is the error.
-fn start_of(next: Result<ModeToken, TokenError>) -> io::Result<usize>
-    ensures { IfOk result (λ start. IfOk next (λ found. start ≡ found.token.start)) }
+/// Prints the tokens of a piece of a text, as far as they are the same whatever follows, which is to
+/// its end where it is the last.
+pub(crate) fn print_piece<W: Write, E: Write>(
+    printer: &Printer,
+    path: &str,
+    text: &str,
+    is_last: bool,
+    progress: &mut Progress,
+    out: &mut W,
+    err: &mut E,
+) -> io::Result<()>
+    requires within { progress.old.at ≤ length text.now }
+    ensures far { (all : List ℕ) (done : ℕ) (more : List ℕ) (before : Option (List ℕ))
+        → drop done all ≡ text.now ++ more → MayFollow is_last more
+        → IsAsFar printer.now.modes.now printer.now.form all done progress.old before
+        (W.contents out.old)
+        → OnOk result (IsAsFar printer.now.modes.now printer.now.form all done progress.new before
+        (W.contents out.new)) }
+    ensures within { OnOk result (progress.new.at ≤ length text.now) }
+    ensures last { is_last ≡ true → OnOk result (progress.new.at ≡ length text.now) }
+    ensures silent { OnOk result (progress.new.is_whole ≡ true
+        → (progress.old.is_whole ≡ true) × (err.new ≡ err.old)) }
 {
-    match next {
-        Ok(found) => Ok(found.token.start),
-        Err(TokenError::NoToken { place, .. } | TokenError::NothingPushed { place, .. }) => Ok(
-            place,
-        ),
-        Err(TokenError::Memory) => Err(io::Error::from(ErrorKind::OutOfMemory)),
+    while progress.at < text.len() {
+        if !print_next(printer, path, text, is_last, progress, out, err)? {
+            break;
+        }
     }
-}
-
-/// The place of a byte further on in the text.
-fn further(text: &str, place: Place, from: usize, to: usize) -> io::Result<Place>
-    requires here { place ≡ place_at text.now from }
-    ensures { IfOk result (λ further. further ≡ place_at text.now to) }
-{
-    match text.as_bytes().get(from..to) {
-        Some(passed) => Ok(place.behind(passed)),
-        None => Err(io::Error::from(ErrorKind::InvalidData)),
-    }
+    Ok(())
 }
 
 pub(crate) fn both(one: bool, other: bool) -> bool
@@ -144,15 +170,7 @@ pub(crate) fn print_tokens<W: Write, E: Write>(
         (IsPrinted printer.now.modes.now printer.now.form text.now is_whole)) }
     ensures silent { result ≡ Ok true → err.new ≡ err.old }
 {
-    let mut is_whole = true;
-    let mut at = 0;
-    let mut place = Place::first();
-    for next in printer.modes.tokens(text) {
-        let start = start_of(next)?;
-        place = further(text, place, at, start)?;
-        at = start;
-        let is_one = print_next(printer, path, text, next, place, out, err)?;
-        is_whole = both(is_whole, is_one);
-    }
-    Ok(is_whole)
+    let mut progress = Progress::new(printer.modes);
+    print_piece(printer, path, text, true, &mut progress, out, err)?;
+    Ok(progress.is_whole)
 }
