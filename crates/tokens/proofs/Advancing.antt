@@ -4,23 +4,25 @@ use Rattle.std.proofs.Math.Bool.{and-true}
 use Rattle.std.specs.Io.KnownBytes.{Appends}
 use Rattle.std.specs.Str.{chars}
 use Rattle.std.proofs.lemmas.Grind.{common_steps}
-use Rattle.std.proofs.lemmas.List.{length-drop, take-append-le}
+use Rattle.std.proofs.lemmas.List.{append-nil, drop-append-le, length-drop, take-append-le}
 use Rattle.line_program.specs.Listing.{SpellsEach, Writes}
 use Rattle.line_program.proofs.Listing.{append_nil, appends_none, appends_then}
 use Rattle.lexing.specs.declared.machine.Machine.{Machine}
 use Rattle.lexing.specs.declared.place.Place.{Place}
 use Rattle.lexing.specs.declared.token.Token.{Token}
 use Rattle.lexing.specs.MachineSteps.{lexer_of}
-use Rattle.lexing.specs.Places.{place_after, place_at}
+use Rattle.lexing.specs.Places.{first_place, place_after, place_at}
 use Rattle.lexing.specs.Runs.{IsBehindOne}
 use Rattle.lexing.proofs.Places.{place_further}
 use Rattle.lexing_modes.specs.declared.change.ModeChange.{ModeChange}
 use Rattle.lexing_modes.specs.declared.change.ModeChange.TheVariants.{Stay, Enter, Push, Pop}
+use Rattle.lexing_modes.specs.declared.cutter.Taken.{Taken}
+use Rattle.lexing_modes.specs.declared.cutter.Taken.TheVariants.{Given, Skipped, Failed, Open}
 use Rattle.lexing_modes.specs.declared.error.TokenError.{TokenError}
 use Rattle.lexing_modes.specs.declared.error.TokenError.TheVariants.{NoToken, NothingPushed, Memory}
 use Rattle.lexing_modes.specs.declared.modes.Modes.{Modes}
 use Rattle.lexing_modes.specs.declared.token.ModeToken.{ModeToken}
-use Rattle.lexing_modes.specs.Cutting.{FailsUpTo, at_place, cutter_modes, cutter_state}
+use Rattle.lexing_modes.specs.Cutting.{FailsUpTo, IsTaken, at_place, cutter_modes, cutter_state}
 use Rattle.lexing_modes.specs.Given.{AreGiven, At_end, Given_error, Given_token, IsLeftOut, Skipped_token}
 use Rattle.lexing_modes.specs.Modes.{change_after}
 use Rattle.lexing_modes.specs.Runs.{Fails, IsStuckIn, IsTokenOf, Takes}
@@ -28,7 +30,7 @@ use Rattle.lexing_modes.specs.States.{LeadsTo, State, first_state}
 use Rattle.tokens.specs.declared.form.Form.{Form}
 use Rattle.tokens.specs.Printing.{AreTokensOf, IsLine, IsLineAt, IsPrinted, Next, are_tokens}
 use Rattle.tokens.specs.declared.progress.Progress.{Progress}
-use Rattle.tokens.specs.Progress.{IsAsFar, IsPrintedTo, Passes, state_behind}
+use Rattle.tokens.specs.Progress.{IsAsFar, IsPrintedTo, KeepsAsFar, Passes, state_behind}
 use Rattle.tokens.proofs.Written.{all_more, spells_more}
 
 -- a change of the mode has nothing to do with places
@@ -47,6 +49,49 @@ and_false false = refl
 drop_on : (all : List ℕ) (p n : ℕ) → drop n (drop p all) ≡ drop (p + n) all
 drop_on all p n = grind (arith, common_steps)
 
+-- the modes of a state, and equal states
+of_mode : State → ℕ
+of_mode state = state.mode
+
+of_below : State → List ℕ
+of_below state = state.below
+
+abbrev was_same : State → State → Type 0
+was_same before after = (after.mode ≡ before.mode) × (after.below ≡ before.below)
+
+abbrev state_with : ℕ → ℕ → List ℕ → State
+state_with place mode below = record { place = place; mode = mode; below = below }
+
+same_state : (p q : ℕ) (a b : State) → p ≡ q → a.mode ≡ b.mode → a.below ≡ b.below
+    → at_place p a ≡ at_place q b
+same_state p q a b place mode below =
+    ap (λ n. state_with n a.mode a.below) place ∙ ap (λ m. state_with q m a.below) mode
+    ∙ ap (λ l. state_with q b.mode l) below
+
+take_none : (xs : List ℕ) → [] ≡ take 0 xs
+take_none xs = grind (arith, common_steps)
+
+drop_none : (xs : List ℕ) → drop 0 xs ≡ xs ++ []
+drop_none xs = grind (arith, common_steps, append-nil)
+
+-- a failure leaves the modes as they were
+same_when_failed : (modes : Modes Machine) (text : List ℕ) (before after : State)
+    (error : TokenError) (end : ℕ) → error ≢ Memory
+    → FailsUpTo lexer_of modes text (λ machine. ⊥) (at_place 0 before) error (at_place end after)
+    → was_same before after
+same_when_failed modes text before after (NoToken mode at) end other (same, here, stuck, one, kept) =
+    kept
+same_when_failed modes text before after (NothingPushed mode at) end other (same, here, none, token, kept) =
+    kept
+same_when_failed modes text before after Memory end other fails = absurd (other refl)
+
+printed_as : (modes : Modes Machine) (form : Form) (all : List ℕ) (to from : State)
+    (after before : Bool) (printed : List ℕ) → to ≡ from → after ≡ before
+    → IsPrintedTo modes form all from before printed → IsPrintedTo modes form all to after printed
+printed_as modes form all to from after before printed state whole was =
+    subst (λ s. IsPrintedTo modes form all s after printed) (sym state)
+    (subst (λ b. IsPrintedTo modes form all from b printed) (sym whole) was)
+
 module _ (modes : Modes Machine) (all : List ℕ) (p : ℕ) where
   -- a token of what stands behind the place, in the text
   abbrev moved : ModeToken → ModeToken
@@ -59,7 +104,7 @@ module _ (modes : Modes Machine) (all : List ℕ) (p : ℕ) where
     };
   }
 
-  moved_error : TokenError → TokenError
+  abbrev moved_error : TokenError → TokenError
   moved_error (NoToken mode place) = NoToken mode (p + place)
   moved_error (NothingPushed mode place) = NothingPushed mode (p + place)
   moved_error Memory = Memory
@@ -120,7 +165,7 @@ module _ (modes : Modes Machine) (all : List ℕ) (p : ℕ) where
   fails_on before after Memory end other fails = absurd (other refl)
 
   module _ (form : Form) where
-    pub printed_skipped : (before after : State) (is_whole : Bool) (printed : List ℕ)
+    printed_skipped : (before after : State) (is_whole : Bool) (printed : List ℕ)
         (found : ModeToken) → IsPrintedTo modes form all (at_place p before) is_whole printed
         → Takes lexer_of modes (drop p all) (at_place 0 before) found
         (at_place found.token.end after)
@@ -149,7 +194,7 @@ module _ (modes : Modes Machine) (all : List ℕ) (p : ℕ) where
         let size : (p + found.token.end) - p ≡ found.token.end = omega arith in
         (name, named, rw (begin, size, ← here, front) written)
 
-    pub printed_given : (before after : State) (is_whole : Bool) (printed line : List ℕ)
+    printed_given : (before after : State) (is_whole : Bool) (printed line : List ℕ)
         (found : ModeToken) → IsPrintedTo modes form all (at_place p before) is_whole printed
         → Takes lexer_of modes (drop p all) (at_place 0 before) found
         (at_place found.token.end after)
@@ -169,7 +214,7 @@ module _ (modes : Modes Machine) (all : List ℕ) (p : ℕ) where
           was.spells is;
     }
 
-    pub printed_failed : (before after : State) (is_whole : Bool) (printed : List ℕ)
+    printed_failed : (before after : State) (is_whole : Bool) (printed : List ℕ)
         (error : TokenError) (end : ℕ) → error ≢ Memory
         → IsPrintedTo modes form all (at_place p before) is_whole printed
         → FailsUpTo lexer_of modes (drop p all) (λ machine. ⊥) (at_place 0 before) error
@@ -190,7 +235,7 @@ module _ (modes : Modes Machine) (all : List ℕ) (p : ℕ) where
 
 -- nothing is printed at the start, and all is at the end
 module _ (modes : Modes Machine) (form : Form) (all : List ℕ) where
-  pub printed_start : IsPrintedTo modes form all first_state true []
+  printed_start : IsPrintedTo modes form all first_state true []
   printed_start = record {
     items = [];
     goes_on = λ more given. given;
@@ -198,40 +243,228 @@ module _ (modes : Modes Machine) (form : Form) (all : List ℕ) where
     spells = refl;
   }
 
-  pub printed_end : (state : State) (is_whole : Bool) (printed : List ℕ)
+  pub far_start : (progress : Progress) (known : Option (List ℕ))
+      → cutter_modes progress.cutter ≡ modes → cutter_state progress.cutter ≡ first_state
+      → progress.at ≡ 0 → progress.place ≡ first_place → progress.is_whole ≡ true
+      → IsAsFar modes form all 0 progress known known
+  far_start progress known same start at place whole =
+      let here : 0 + progress.at ≡ 0 = omega (arith, at) in
+      record {
+        same = same;
+        place = place ∙ ap (place_after first_place) (take_none all)
+            ∙ ap (place_at all) (sym here);
+        printed = (
+          [],
+          printed_as modes form all _ _ _ _ [] (same_state _ _ _ _ here (ap of_mode start) (ap of_below start)) whole printed_start,
+          appends_none known,
+        );
+      }
+
+  printed_end : (state : State) (is_whole : Bool) (printed : List ℕ)
       → state.place ≡ length all → IsPrintedTo modes form all state is_whole printed
       → IsPrinted modes form all is_whole printed
   printed_end state is_whole printed end was = (
     was.items,
-    rw append_nil' at (was.goes_on [] (At_end state end)),
+    subst (AreTokensOf modes all) (append_nil' was.items) (was.goes_on [] (At_end state end)),
     was.whole,
     was.spells,
   )
     where
-      append_nil' : was.items ++ [] ≡ was.items
-      append_nil' = grind (arith, common_steps)
+      append_nil' : (items : List Next) → items ++ [] ≡ items
+      append_nil' items = grind (arith, append-nil)
 
--- bytes of what is left of the piece are passed over, and what is printed is as far
-module _ (modes : Modes Machine) (form : Form) (all : List ℕ) (done : ℕ) (old mid new : Progress)
-    (rest more : List ℕ) (count : ℕ) where
-  pub far_on : drop (done + old.at) all ≡ rest ++ more
-      → old.place ≡ place_at all (done + old.at) → mid.at ≡ old.at → mid.place ≡ old.place
-      → cutter_modes mid.cutter ≡ modes → Passes mid new rest count
-      → (before after : Option (List ℕ))
-      → Writes before after (IsPrintedTo modes form all
+  -- the text is printed to its end
+  pub far_end : (done : ℕ) (progress : Progress) (before now : Option (List ℕ))
+      → done + progress.at ≡ length all → IsAsFar modes form all done progress before now
+      → Writes before now (IsPrinted modes form all progress.is_whole)
+  far_end done progress before now end far =
+      let (printed, is, appended) = far.printed in
+      (printed, printed_end (state_behind done progress) progress.is_whole printed end is, appended)
+
+  pub far_whole : (old new : Progress) (before now : Option (List ℕ))
+      → KeepsAsFar modes form all true old new before now
+      → IsAsFar modes form all 0 old before before → new.at ≡ length all
+      → Writes before now (IsPrinted modes form all new.is_whole)
+  far_whole old new before now keeps far end =
+      far_end 0 new before now (omega (arith, end))
+      (keeps all 0 [] before (drop_none all) (λ last. refl) far)
+
+  -- bytes before the piece are others, and the place in the text is the same
+  pub far_moved : (done past : ℕ) (old new : Progress) (before now : Option (List ℕ))
+      → past + new.at ≡ done + old.at → new.cutter ≡ old.cutter → new.place ≡ old.place
+      → new.is_whole ≡ old.is_whole → IsAsFar modes form all done old before now
+      → IsAsFar modes form all past new before now
+  far_moved done past old new before now at cutter place whole far =
+      let (printed, is, appended) = far.printed in
+      record {
+        same = ap cutter_modes cutter ∙ far.same;
+        place = place ∙ far.place ∙ ap (place_at all) (sym at);
+        printed = (
+          printed,
+          printed_as modes form all _ _ _ _ printed
+              (same_state _ _ _ _ at (ap (λ c. of_mode (cutter_state c)) cutter) (ap (λ c. of_below (cutter_state c)) cutter))
+              whole is,
+          appended,
+        );
+      }
+
+-- what is taken of the rest of a piece, whatever follows the piece
+pub record HasTaken (piece rest : List ℕ) (is_last : Bool) (old mid : Progress) (taken : Taken)
+    : Type 0 where
+  pub part : rest ≡ drop old.at piece
+  pub within : old.at ≤ length piece
+  pub at : mid.at ≡ old.at
+  pub place : mid.place ≡ old.place
+  pub modes : cutter_modes mid.cutter ≡ cutter_modes old.cutter
+  pub gives : (more : List ℕ) → (is_last ≡ true → more ≡ [])
+      → IsTaken lexer_of (cutter_modes old.cutter) (rest ++ more) (λ machine. ⊥)
+      (at_place 0 (cutter_state old.cutter)) taken (cutter_state mid.cutter)
+
+-- it is taken of the text
+taken_in : (own modes : Modes Machine) (text part : List ℕ) (before after : State) (taken : Taken)
+    → own ≡ modes → text ≡ part
+    → IsTaken lexer_of own text (λ machine. ⊥) before taken after
+    → IsTaken lexer_of modes part (λ machine. ⊥) before taken after
+taken_in own modes text part before after taken same is =
+    λ was. subst (λ m. IsTaken lexer_of m part (λ machine. ⊥) before taken after) same
+    (subst (λ t. IsTaken lexer_of own t (λ machine. ⊥) before taken after) is was)
+
+module _ (modes : Modes Machine) (form : Form) (piece rest : List ℕ) (is_last : Bool)
+    (old mid : Progress) (taken : Taken) (has : HasTaken piece rest is_last old mid taken)
+    (all : List ℕ) (done : ℕ) (more : List ℕ) (before was : Option (List ℕ))
+    (goes : drop done all ≡ piece ++ more) (last : is_last ≡ true → more ≡ [])
+    (far : IsAsFar modes form all done old before was) where
+  -- the rest of the text
+  split : drop (done + old.at) all ≡ rest ++ more
+  split = sym (drop_on all done old.at) ∙ ap (drop old.at) goes
+      ∙ drop-append-le old.at piece more has.within ∙ ap (λ part. part ++ more) (sym has.part)
+
+  of_text : IsTaken lexer_of modes (drop (done + old.at) all) (λ machine. ⊥)
+      (at_place 0 (cutter_state old.cutter)) taken (cutter_state mid.cutter)
+  of_text = taken_in (cutter_modes old.cutter) modes (rest ++ more) (drop (done + old.at) all)
+      (at_place 0 (cutter_state old.cutter)) (cutter_state mid.cutter) taken far.same (sym split)
+      (has.gives more last)
+
+  -- bytes of what is left of the piece are passed over, and what is printed is as far
+  far_on : (new : Progress) (count : ℕ) (now : Option (List ℕ)) → Passes mid new rest count
+      → Writes before now (IsPrintedTo modes form all
       (at_place (done + old.at + count) (cutter_state mid.cutter)) mid.is_whole)
-      → IsAsFar modes form all done new before after
-  far_on split here same_at same_place same passed before after (printed, is, appended) =
+      → IsAsFar modes form all done new before now
+  far_on new count now passed (printed, is, appended) =
       let from = done + old.at in
       let front : take count (drop from all) ≡ take count rest =
       ap (take count) split ∙ take-append-le count rest more passed.within in
       let size : (from + count) - from ≡ count = omega arith in
       let further = rw (size, front) at (place_further all from (from + count) (omega arith)) in
-      let there : from + count ≡ done + new.at = omega (arith, passed.at, same_at) in
+      let there : done + new.at ≡ from + count = omega (arith, passed.at, has.at) in
       record {
-        modes = rw passed.cutter same;
+        same = ap cutter_modes passed.cutter ∙ has.modes ∙ far.same;
         place = passed.place
-            ∙ ap (λ place. place_after place (take count rest)) (same_place ∙ here) ∙ further
-            ∙ ap (place_at all) there;
-        printed = (printed, rw (passed.cutter, passed.is_whole, ← there) is, appended);
+            ∙ ap (λ place. place_after place (take count rest)) (has.place ∙ far.place) ∙ further
+            ∙ ap (place_at all) (sym there);
+        printed = (
+          printed,
+          printed_as modes form all _ _ _ _ printed
+              (same_state _ _ _ _ there (ap (λ c. of_mode (cutter_state c)) passed.cutter)
+              (ap (λ c. of_below (cutter_state c)) passed.cutter))
+              passed.is_whole is,
+          appended,
+        );
       }
+
+  -- nothing is taken, and the modes are as they were
+  far_kept : was_same (cutter_state old.cutter) (cutter_state mid.cutter)
+      → mid.is_whole ≡ old.is_whole → IsAsFar modes form all done mid before was
+  far_kept (mode, below) whole =
+      let (printed, is, appended) = far.printed in
+      let there : done + mid.at ≡ done + old.at = ap (λ n. done + n) has.at in
+      record {
+        same = has.modes ∙ far.same;
+        place = has.place ∙ far.place ∙ ap (place_at all) (sym there);
+        printed = (
+          printed,
+          printed_as modes form all _ _ _ _ printed (same_state _ _ _ _ there mode below) whole is,
+          appended,
+        );
+      }
+
+module _ (modes : Modes Machine) (form : Form) (piece rest : List ℕ) (is_last : Bool)
+    (old mid : Progress) where
+  pub keeps_open : HasTaken piece rest is_last old mid Open → mid.is_whole ≡ old.is_whole
+      → (known : Option (List ℕ)) → KeepsAsFar modes form piece is_last old mid known known
+  keeps_open has whole known all done more before goes last far =
+      far_kept modes form piece rest is_last old mid Open has all done more before known goes last far
+      (of_text modes form piece rest is_last old mid Open has all done more before known goes last far)
+      whole
+
+  -- nor is anything taken of what begins with no token
+  pub keeps_stuck : (error : TokenError) (end : ℕ) → error ≢ Memory
+      → HasTaken piece rest is_last old mid (Failed error end) → mid.is_whole ≡ old.is_whole
+      → (known : Option (List ℕ)) → KeepsAsFar modes form piece is_last old mid known known
+  keeps_stuck error end other has whole known all done more before goes last far =
+      far_kept modes form piece rest is_last old mid (Failed error end) has all done more before
+      known goes last far
+      (same_when_failed modes (drop (done + old.at) all) (cutter_state old.cutter)
+      (cutter_state mid.cutter) error end other
+      (of_text modes form piece rest is_last old mid (Failed error end) has all done more before
+      known goes last far))
+      whole
+
+  pub keeps_skipped : (new : Progress) (found : ModeToken)
+      → HasTaken piece rest is_last old mid (Skipped found) → mid.is_whole ≡ old.is_whole
+      → Passes mid new rest found.token.end
+      → (known : Option (List ℕ)) → KeepsAsFar modes form piece is_last old new known known
+  keeps_skipped new found has whole passed known all done more before goes last far =
+      let (takes, left) = of_text modes form piece rest is_last old mid (Skipped found) has all
+      done more before known goes last far in
+      let (printed, is, appended) = far.printed in
+      far_on modes form piece rest is_last old mid (Skipped found) has all done more before known
+      goes last far new found.token.end known passed (
+        printed,
+        subst (λ b. IsPrintedTo modes form all (at_place (done + old.at + found.token.end)
+            (cutter_state mid.cutter)) b printed) (sym whole)
+            (printed_skipped modes all (done + old.at) form (cutter_state old.cutter)
+            (cutter_state mid.cutter) old.is_whole printed found is takes left),
+        appended,
+      )
+
+  pub keeps_given : (new : Progress) (found : ModeToken)
+      → HasTaken piece rest is_last old mid (Given found) → mid.is_whole ≡ old.is_whole
+      → Passes mid new rest found.token.end → (known now : Option (List ℕ))
+      → Writes known now (IsLineAt modes form old.place rest found)
+      → KeepsAsFar modes form piece is_last old new known now
+  keeps_given new found has whole passed known now (line, is_line, more_written) all done more before goes last far =
+      let (takes, kept) = of_text modes form piece rest is_last old mid (Given found) has all
+      done more before known goes last far in
+      let (printed, is, appended) = far.printed in
+      let of_line = line_on modes all (done + old.at) form rest more found old.place line
+      (cutter_state old.cutter).mode
+      (split modes form piece rest is_last old mid (Given found) has all done more before known
+      goes last far) far.place takes.token is_line in
+      far_on modes form piece rest is_last old mid (Given found) has all done more before known
+      goes last far new found.token.end now passed (
+        printed ++ line,
+        subst (λ b. IsPrintedTo modes form all (at_place (done + old.at + found.token.end)
+            (cutter_state mid.cutter)) b (printed ++ line)) (sym whole)
+            (printed_given modes all (done + old.at) form (cutter_state old.cutter)
+            (cutter_state mid.cutter) old.is_whole printed line found is takes kept of_line),
+        appends_then before known now printed line appended more_written,
+      )
+
+  pub keeps_failed : (new : Progress) (error : TokenError) (end : ℕ) → error ≢ Memory
+      → HasTaken piece rest is_last old mid (Failed error end) → mid.is_whole ≡ false
+      → Passes mid new rest end
+      → (known : Option (List ℕ)) → KeepsAsFar modes form piece is_last old new known known
+  keeps_failed new error end other has whole passed known all done more before goes last far =
+      let fails = of_text modes form piece rest is_last old mid (Failed error end) has all
+      done more before known goes last far in
+      let (printed, is, appended) = far.printed in
+      far_on modes form piece rest is_last old mid (Failed error end) has all done more before known
+      goes last far new end known passed (
+        printed,
+        subst (λ b. IsPrintedTo modes form all (at_place (done + old.at + end)
+            (cutter_state mid.cutter)) b printed) (sym whole)
+            (printed_failed modes all (done + old.at) form (cutter_state old.cutter)
+            (cutter_state mid.cutter) old.is_whole printed error end other is fails),
+        appended,
+      )

@@ -7,6 +7,7 @@ pub mod Lists
 pub mod Machines
 pub mod ModeNames
 pub mod RuleLines
+pub mod Served
 pub mod TableLines
 pub mod Warned
 pub mod Written

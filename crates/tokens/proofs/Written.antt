@@ -1,26 +1,22 @@
 -- What is written of tokens, one after the other.
 use Rattle.std.proofs.Common.{◌≡◌, refl, sym, ap, subst, ◌∙◌, ℕ, Bool, true, false, ◌&&◌, cond, ◌==◌, List, [], ◌∷◌, ◌++◌, Option, Some, None, Ok, Err, append_assoc}
 use Rattle.std.proofs.Math.Bool.{and_assoc, and-true}
-use Rattle.std.specs.Io.KnownBytes.{Appends}
-use Rattle.line_program.specs.Listing.{SpellsEach, Writes}
-use Rattle.line_program.proofs.Listing.{append_nil, appends_none, appends_then}
-use Rattle.std.specs.Prelude.{◌≤◌, IfOk, IfSome, MatchOption}
+use Rattle.line_program.specs.Listing.{SpellsEach}
+use Rattle.line_program.proofs.Listing.{append_nil}
+use Rattle.std.specs.Prelude.{◌≤◌, IfSome, MatchOption}
 use Rattle.std.specs.Borrow.{Bor}
 use Rattle.std.specs.Iterator.{YieldsThen}
 use Rattle.lexing.specs.declared.lexer.Lexer.{Lexer}
 use Rattle.lexing.specs.declared.machine.Machine.{Machine}
-use Rattle.lexing.specs.declared.place.Place.{Place}
 use Rattle.lexing.specs.Lexers.{IsNameOf, rule_count}
 use Rattle.lexing.specs.MachineSteps.{lexer_of}
-use Rattle.lexing.specs.Places.{place_at}
 use Rattle.lexing_modes.specs.declared.modes.Modes.{Modes}
 use Rattle.lexing_modes.specs.declared.token.ModeToken.{ModeToken}
 use Rattle.lexing_modes.specs.declared.tokens.ModeTokens.{ModeTokens}
 use Rattle.lexing_modes.specs.Left.{GivesNext}
 use Rattle.lexing_modes.specs.Modes.{IsScannerOf}
-use Rattle.tokens.specs.declared.form.Form.{Form}
 use Rattle.tokens.specs.Counts.{rules_in}
-use Rattle.tokens.specs.Printing.{AreTokensOf, IsLine, IsNameIn, Next, are_tokens, is_token}
+use Rattle.tokens.specs.Printing.{AreTokensOf, IsNameIn, Next, are_tokens, is_token}
 
 -- a line more
 pub spells_more : {X : Type 0} (S : X → List ℕ → Type 0) (xs : List X) (x : X) (text line : List ℕ)
@@ -55,40 +51,6 @@ rules_more mode (Ok found ∷ items) next = rw (rules_more mode items next) (pul
     pulled true = refl
     pulled false = refl
 rules_more mode (Err error ∷ items) next = rules_more mode items next
-
-module _ (modes : Modes Machine) (form : Form) (text : List ℕ) where
-  -- the lines of these are written, and so it is whether all of them are tokens
-  pub record HasPrinted (is_whole : Bool) (items : List Next) (before now : Option (List ℕ))
-      : Type 0 where
-    pub written : List ℕ
-    pub appended : Appends before now written
-    pub whole : is_whole ≡ are_tokens items
-    pub spells : SpellsEach (IsLine modes form text) items written
-
-  pub printed_none : (known : Option (List ℕ)) → HasPrinted true [] known known
-  printed_none known =
-      record { written = []; appended = appends_none known; whole = refl; spells = refl }
-
-  pub printed_more : (is_whole is_one both : Bool) (items : List Next) (next : Next)
-      (before now after : Option (List ℕ)) → HasPrinted is_whole items before now
-      → both ≡ (is_whole && is_one) → is_one ≡ is_token next
-      → Writes now after (IsLine modes form text next)
-      → HasPrinted both (items ++ next ∷ []) before after
-  printed_more is_whole is_one both items next before now after was joined one (line, is, more) =
-      record {
-        written = was.written ++ line;
-        appended = appends_then before now after was.written line was.appended more;
-        whole = joined ∙ ap (λ b. b && is_one) was.whole ∙ ap (λ b. are_tokens items && b) one
-            ∙ sym (all_more items next);
-        spells = spells_more (IsLine modes form text) items next was.written line was.spells is;
-      }
-
--- a token begins at this place
-pub begins_here : (text : List ℕ) (next : Next) (start : ℕ) (place : Place)
-    → IfOk next (λ found. start ≡ found.token.start) → place ≡ place_at text start
-    → IfOk next (λ found. place ≡ place_at text found.token.start)
-begins_here text (Ok found) start place is here = here ∙ ap (place_at text) is
-begins_here text (Err error) start place is here = tt
 
 -- a name that a lexer has is that of the rule in the mode
 pub name_found : (modes : Modes Machine) (found : ModeToken) (machine : Machine) (lexer : Lexer)

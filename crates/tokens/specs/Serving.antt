@@ -14,6 +14,6 @@ pub record IsServed (modes : Modes Machine) (form : Form) (text : List ℕ) (pro
   pub front : List ℕ
   pub rest : List ℕ
   pub whole : text ≡ front ++ (bytes ++ rest)
-  pub left : left ≡ Some rest
+  pub known : left ≡ Some rest
   pub is_text : IsUtf8 front
   pub far : IsAsFar modes form text (length front) progress before now

@@ -1,5 +1,5 @@
 //! How many tokens each rule has.
-ghost use Rattle.std.specs.Prelude.{◌≡◌, ◌∷◌, [], ◌++◌, List, Ok, true, length, IfOk, IfErr, IfSome, OnOk, ℕ};
+ghost use Rattle.std.specs.Prelude.{◌≡◌, ◌&&◌, ◌∷◌, [], ◌++◌, List, Ok, true, length, IfOk, IfErr, IfSome, OnOk, ℕ};
 ghost use Rattle.line_program.specs.Listing.{Writes};
 ghost use Rattle.lexing.specs.Lexers.{rule_count};
 ghost use Rattle.tokens.specs.declared.form.Form.TheVariants.{Silent};
@@ -7,7 +7,7 @@ ghost use Rattle.tokens.specs.Printing.{Next, is_token};
 ghost use Rattle.tokens.specs.Counts.{AreCountLines, AreCounts, HasNumbersIn, IsCounted, IsModeCounted, WritesCount, rules_in};
 ghost use Rattle.tokens.specs.Texts.{TellsFault};
 
-use crate::printing::{Printer, both, print_tokens};
+use crate::printing::{Printer, print_tokens};
 use crate::texts::{Stop, bytes_of, text_in};
 use lexing::Lexer;
 use lexing_modes::{ModeToken, TokenError};
@@ -50,6 +50,12 @@ fn add_next(
         Err(TokenError::Memory) => Err(io::Error::from(ErrorKind::OutOfMemory)),
         Err(_) => Ok(false),
     }
+}
+
+fn both(one: bool, other: bool) -> bool
+    ensures { result ≡ (one && other) }
+{
+    one && other
 }
 
 /// Counts the tokens of the mode by their rules, and returns whether tokens are all of the text.

@@ -16,6 +16,8 @@
 //!
 //! - what is printed, by rules: `src/{serve,printing}.rt`, `specs/Printing.antt`,
 //!   `proofs/Written.antt`
+//! - how far a file that is read in pieces is printed: `src/progress.rt`,
+//!   `specs/{Progress,Serving}.antt`, `proofs/{Advancing,Served}.antt`
 //! - how a token is written: `src/{form,escaping}.rt`, `specs/{Lines,Escaping}.antt`
 //! - the words of a command line: `src/arguments.rt`; bytes that are no text: `src/texts.rt`
 //! - files of rules: `src/rules.rt`, `proofs/Machines.antt`; their lines: `src/lines.rt`,

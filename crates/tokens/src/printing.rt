@@ -1,9 +1,8 @@
 //! The tokens of a text, one after the other, written.
-ghost use Rattle.std.specs.Prelude.{◌≡◌, ◌<◌, ◌≤◌, ◌&&◌, List, ℕ, Ok, Option, false, true, ◌++◌, drop, length, IfOk, IfSome, OnOk};
+ghost use Rattle.std.specs.Prelude.{◌≡◌, ◌≢◌, ◌<◌, ◌≤◌, Ok, false, true, length, IfOk, IfSome, OnOk};
 ghost use Rattle.line_program.specs.Listing.{Writes};
-ghost use Rattle.line_program.specs.Pieces.{MayFollow};
 ghost use Rattle.tokens.specs.Printing.{IsLineAt, IsNameIn, IsPrinted};
-ghost use Rattle.tokens.specs.Progress.{IsAsFar};
+ghost use Rattle.tokens.specs.Progress.{KeepsAsFar};
 
 use crate::fault::show_fault;
 use crate::form::{Form, write_token};
@@ -83,13 +82,9 @@ fn print_next<W: Write, E: Write>(
     out: &mut W,
     err: &mut E,
 ) -> io::Result<bool>
-    requires some { progress.old.at < length text.now }
-    ensures far { (all : List ℕ) (done : ℕ) (more : List ℕ) (before : Option (List ℕ))
-        → drop done all ≡ text.now ++ more → MayFollow is_last more
-        → IsAsFar printer.now.modes.now printer.now.form all done progress.old before
-        (W.contents out.old)
-        → OnOk result (IsAsFar printer.now.modes.now printer.now.form all done progress.new before
-        (W.contents out.new)) }
+    requires some { progress.old.at ≢ length text.now }
+    ensures far { OnOk result (KeepsAsFar printer.now.modes.now printer.now.form text.now is_last
+        progress.old progress.new (W.contents out.old) (W.contents out.new)) }
     ensures within { OnOk result (progress.new.at ≤ length text.now) }
     ensures further { result ≡ Ok true → progress.old.at < progress.new.at }
     ensures last { result ≡ Ok false → is_last ≡ false }
@@ -100,15 +95,17 @@ fn print_next<W: Write, E: Write>(
         return Err(io::Error::from(ErrorKind::InvalidData));
     };
     match progress.cutter.take(rest, is_last) {
-        Taken::Open => return Ok(false),
-        Taken::Skipped(found) => progress.pass(rest, found.token.end)?,
+        Taken::Open => Ok(false),
+        Taken::Skipped(found) => {
+            progress.pass(rest, found.token.end)?;
+            Ok(true)
+        }
         Taken::Given(found) => {
             print_token(printer, rest, found, progress.place, out)?;
             progress.pass(rest, found.token.end)?;
+            Ok(true)
         }
-        Taken::Failed(TokenError::Memory, _) => {
-            return Err(io::Error::from(ErrorKind::OutOfMemory));
-        }
+        Taken::Failed(TokenError::Memory, _) => Err(io::Error::from(ErrorKind::OutOfMemory)),
         Taken::Failed(error, end) => {
             if !is_last && !rest.contains('\n') {
                 return Ok(false);
@@ -116,9 +113,9 @@ fn print_next<W: Write, E: Write>(
             show_error(path, front, rest, error, progress.place, err)?;
             progress.is_whole = false;
             progress.pass(rest, end)?;
+            Ok(true)
         }
     }
-    Ok(true)
 }
 
 /// Prints the tokens of a piece of a text, as far as they are the same whatever follows, which is to
@@ -132,30 +129,19 @@ pub(crate) fn print_piece<W: Write, E: Write>(
     out: &mut W,
     err: &mut E,
 ) -> io::Result<()>
-    requires within { progress.old.at ≤ length text.now }
-    ensures far { (all : List ℕ) (done : ℕ) (more : List ℕ) (before : Option (List ℕ))
-        → drop done all ≡ text.now ++ more → MayFollow is_last more
-        → IsAsFar printer.now.modes.now printer.now.form all done progress.old before
-        (W.contents out.old)
-        → OnOk result (IsAsFar printer.now.modes.now printer.now.form all done progress.new before
-        (W.contents out.new)) }
+    ensures far { OnOk result (KeepsAsFar printer.now.modes.now printer.now.form text.now is_last
+        progress.old progress.new (W.contents out.old) (W.contents out.new)) }
     ensures within { OnOk result (progress.new.at ≤ length text.now) }
     ensures last { is_last ≡ true → OnOk result (progress.new.at ≡ length text.now) }
     ensures silent { OnOk result (progress.new.is_whole ≡ true
         → (progress.old.is_whole ≡ true) × (err.new ≡ err.old)) }
 {
-    while progress.at < text.len() {
+    while progress.at != text.len() {
         if !print_next(printer, path, text, is_last, progress, out, err)? {
-            break;
+            return Ok(());
         }
     }
     Ok(())
-}
-
-pub(crate) fn both(one: bool, other: bool) -> bool
-    ensures { result ≡ (one && other) }
-{
-    one && other
 }
 
 /// Prints the tokens of a text, and returns whether they are all of it.

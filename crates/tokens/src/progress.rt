@@ -20,9 +20,10 @@ pub(crate) struct Progress<'a> {
 }
 
 impl<'a> Progress<'a> {
-    ghost use Rattle.std.specs.Prelude.{◌≡◌, List, ℕ, Option, true, OnOk};
+    ghost use Rattle.std.specs.Prelude.{◌≡◌, List, ℕ, Option, true, IfSome, OnOk};
+    ghost use Rattle.lexing.specs.Places.{place_after};
     ghost use Rattle.tokens.specs.declared.form.Form.{Form};
-    ghost use Rattle.tokens.specs.Progress.{IsAsFar, Passes};
+    ghost use Rattle.tokens.specs.Progress.{IsAsFar, IsMoved, Passes};
 
     /// At the start of a text.
     pub(crate) fn new(modes: &'a Modes<Machine>) -> Progress<'a>
@@ -39,17 +40,38 @@ impl<'a> Progress<'a> {
         }
     }
 
+    /// The place behind the bytes, which begin where it is; none where that is too far.
+    pub(crate) fn behind(&self, passed: &[u8]) -> Option<Place>
+        ensures { IfSome result (λ place. place ≡ place_after self.now.place passed.now) }
+    {
+        if self.place.line < FAR && self.place.column < FAR {
+            Some(self.place.behind(passed))
+        } else {
+            None
+        }
+    }
+
+    /// Where it is behind so many bytes of the rest of the piece: the byte, and its place.
+    fn moved(&self, rest: &str, count: usize) -> Option<(usize, Place)>
+        ensures { IfSome result (λ moved. IsMoved self.now rest.now count moved.0 moved.1) }
+    {
+        let passed = rest.as_bytes().get(..count)?;
+        let at = self.at.checked_add(count)?;
+        let place = self.behind(passed)?;
+        Some((at, place))
+    }
+
     /// Passes over so many bytes of the rest of the piece.
     pub(crate) fn pass(&mut self, rest: &str, count: usize) -> io::Result<()>
         ensures { OnOk result (Passes self.old self.new rest.now count) }
     {
-        match (rest.as_bytes().get(..count), self.at.checked_add(count)) {
-            (Some(passed), Some(at)) if self.place.line < FAR && self.place.column < FAR => {
-                self.place = self.place.behind(passed);
+        match self.moved(rest, count) {
+            Some((at, place)) => {
                 self.at = at;
+                self.place = place;
                 Ok(())
             }
-            _ => Err(io::Error::from(ErrorKind::InvalidData)),
+            None => Err(io::Error::from(ErrorKind::InvalidData)),
         }
     }
 }

@@ -1,14 +1,18 @@
 //! The tokens of what a reader gives, over any reader and writers.
-ghost use Rattle.std.specs.Prelude.{◌≡◌, ◌<◌, ◌≤◌, List, ℕ, Ok, Option, false, true, length, IfOk, IfErr, IfSome, OnOk};
+ghost use Rattle.std.specs.Prelude.{◌≡◌, ◌+◌, ◌<◌, ◌≤◌, ◌++◌, List, ℕ, Ok, Option, false, true, length, IfOk, IfErr, IfSome, OnOk};
 ghost use Rattle.std.specs.Io.{StartsWith};
+ghost use Rattle.std.specs.Str.{IsUtf8, IsValidUpTo};
 ghost use Rattle.line_program.specs.Listing.{Writes};
+ghost use Rattle.lexing.specs.Places.{place_at};
 ghost use Rattle.tokens.specs.Printing.{IsPrinted};
+ghost use Rattle.tokens.specs.Progress.{IsBehindIn};
 ghost use Rattle.tokens.specs.Serving.{IsServed};
 ghost use Rattle.tokens.specs.Texts.{TellsFault};
 
 use crate::printing::{Printer, print_piece};
 use crate::progress::Progress;
 use crate::texts::Stop;
+use lexing::Place;
 use line_program::pieces::{let_go, piece_in, read_on};
 use std::io::{self, ErrorKind, Read, Write};
 
@@ -20,17 +24,30 @@ fn lines_before(text: &str, at: usize) -> &str
     ensures begins { StartsWith text.now result.now }
     ensures within { length result.now ≤ at }
 {
-    let front = text.get(..at).unwrap_or("");
-    match front.rfind('\n') {
-        Some(end) => front.get(..end + 1).unwrap_or(""),
-        None => "",
-    }
+    let Some(front) = text.get(..at) else {
+        return "";
+    };
+    let Some(end) = front.rfind('\n') else {
+        return "";
+    };
+    front.get(..end + 1).unwrap_or("")
 }
 
-/// The place of the first byte that is no UTF-8, which stands so far in the piece.
-fn fault_at(bytes: &[u8], valid: usize, progress: &Progress) -> Stop {
-    match bytes.get(progress.at..valid) {
-        Some(passed) => Stop::NoText(progress.place.behind(passed)),
+/// The place of the byte of the piece, which comes not before that to which it is cut.
+fn place_in(bytes: &[u8], at: usize, progress: &Progress) -> Option<Place>
+    ensures { IfSome result (λ place. IsBehindIn bytes.now at progress.now place) }
+{
+    progress.behind(bytes.get(progress.at..at)?)
+}
+
+/// Tells the place of the first byte that is no UTF-8.
+fn fault_at(bytes: &[u8], valid: usize, progress: &Progress) -> Stop
+    ensures { (text front rest : List ℕ) → text ≡ front ++ (bytes.now ++ rest) → IsUtf8 front
+        → progress.now.place ≡ place_at text (length front + progress.now.at)
+        → IsValidUpTo (bytes.now ++ rest) valid → TellsFault text result }
+{
+    match place_in(bytes, valid, progress) {
+        Some(place) => Stop::NoText(place),
         None => Stop::Unwritable(io::Error::from(ErrorKind::InvalidData)),
     }
 }
