@@ -4,7 +4,7 @@ use Rattle.std.proofs.Math.Bool.{and-true}
 use Rattle.std.specs.Io.KnownBytes.{Appends}
 use Rattle.std.specs.Str.{chars}
 use Rattle.std.proofs.lemmas.Grind.{common_steps}
-use Rattle.std.proofs.lemmas.List.{append-nil, drop-append-le, length-drop, take-append-le}
+use Rattle.std.proofs.lemmas.List.{append-nil, drop-append-le, length-drop, take-append-le, take_all}
 use Rattle.line_program.specs.Listing.{SpellsEach, Writes}
 use Rattle.line_program.proofs.Listing.{append_nil, appends_none, appends_then}
 use Rattle.lexing.specs.declared.machine.Machine.{Machine}
@@ -73,6 +73,16 @@ take_none xs = grind (arith, common_steps)
 
 drop_none : (xs : List ℕ) → drop 0 xs ≡ xs ++ []
 drop_none xs = grind (arith, common_steps, append-nil)
+
+-- what `get` gives of the front and of the back of a text
+pub slice_front : (xs : List ℕ) (end : ℕ) (piece : List ℕ) → piece ≡ take (end - 0) (drop 0 xs)
+    → piece ≡ take end xs
+slice_front xs end piece is = grind (arith, common_steps, is)
+
+pub slice_back : (xs : List ℕ) (at : ℕ) (piece : List ℕ)
+    → piece ≡ take (length xs - at) (drop at xs) → piece ≡ drop at xs
+slice_back xs at piece is =
+    is ∙ take_all (length xs - at) (drop at xs) (omega (arith, length-drop at xs))
 
 -- a failure leaves the modes as they were
 same_when_failed : (modes : Modes Machine) (text : List ℕ) (before after : State)
