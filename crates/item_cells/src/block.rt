@@ -117,8 +117,9 @@ impl<T> Block<T> {
         ensures left { cell self.new start ≡ None }
         ensures others { SameOutside self.old self.new start (suc end) }
     {
-        for count in 0..end - start {
-            let at = end - 1 - count;
+        let mut at = end;
+        while at > start {
+            at -= 1;
             let item = self.take(at);
             self.put(at + 1, item);
         }
