@@ -67,22 +67,21 @@ fn count_many<T, P: Probe<T>>(items: &[T], first: usize, probe: &mut P) -> usize
     ask_ahead(items, low, low + 1, probe)
 }
 
-// How many of the items that an ask may come to are marked, where the first ask is of the item before
-// `first`. It reads them all, so that the lines of memory in which they lie come together, and not
-// one after the other as they are asked.
+// Whether an item is marked that an ask may come to, where the first ask is of the item before
+// `first` and the second of the last but three. So a processor reads them all at once.
 #[inline(always)]
-fn count_marked<T, P: Probe<T>>(items: &[T], first: usize, probe: &P) -> usize
+fn is_any_marked<T, P: Probe<T>>(items: &[T], first: usize, probe: &P) -> bool
     requires { first + 4 ≤ length items.now }
 {
     let len = items.len();
-    usize::from(probe.mark(&items[0]))
-        + usize::from(probe.mark(&items[1]))
-        + usize::from(probe.mark(&items[first]))
-        + usize::from(probe.mark(&items[first + 1]))
-        + usize::from(probe.mark(&items[first + 2]))
-        + usize::from(probe.mark(&items[len - 3]))
-        + usize::from(probe.mark(&items[len - 2]))
-        + usize::from(probe.mark(&items[len - 1]))
+    probe.mark(&items[0])
+        | probe.mark(&items[1])
+        | probe.mark(&items[first])
+        | probe.mark(&items[first + 1])
+        | probe.mark(&items[first + 2])
+        | probe.mark(&items[len - 3])
+        | probe.mark(&items[len - 2])
+        | probe.mark(&items[len - 1])
 }
 
 // How many of the items of a node pass. Of many, the first ask may be of one of several items: the
@@ -100,8 +99,8 @@ pub fn count_passing<T, P: Probe<T>>(items: &[T], probe: &mut P) -> usize
     if len < MIN_LEN {
         return count_few(items, probe);
     }
-    let first = len.max(8) - 7;
-    if count_marked(items, first, probe) > 4 {
+    let first = (len - 3) / 2;
+    if is_any_marked(items, first, probe) {
         return count_many(items, len.min(8) - 4, probe);
     }
     count_many(items, first, probe)
