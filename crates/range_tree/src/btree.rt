@@ -57,6 +57,22 @@ impl<T> BoxStorage<T> {
 impl<T: Drop> BoxStorage<T> {
     ghost use Rattle.range_tree.specs.Holding.{box_items, IsBoxEdge, IsGood, box_rank_or_len, edge_or_end};
 
+    // Makes nodes for so many further items, of which the tree has too few. Out of line, since it is
+    // rarely called.
+    #[inline(never)]
+    fn add_nodes(&mut self, n: usize) -> Result<(), AllocError>
+        requires fits { length (box_items self.old) + n ≤ MAX_LEN }
+        requires too_few { MIN_LEN * self.old.nodes.capacity < length (box_items self.old) + n }
+        ensures list { box_items self.new ≡ box_items self.old }
+        ensures ok { OnOk result (n ≤ box_room self.new) }
+        ensures space { box_room self.old ≤ box_room self.new }
+        ensures positions { (q : Edge) → IsGood self.old q
+            → IsGood self.new q × (box_rank self.new q ≡ box_rank self.old q) }
+    {
+        let wanted = (self.len + n).div_ceil(MIN_LEN);
+        self.nodes.reserve(self.alloc, wanted - self.nodes.len())
+    }
+
     // The edge before an item, or at the end of the list, if the list has items.
     fn edge_at(&self, before: Option<Edge>) -> Option<Edge>
         requires { ForSome before (IsGood self.now) }
@@ -173,16 +189,16 @@ impl<T: Drop> Storage<T> for BoxStorage<T> {
         self.edge_after_passing(probe)
     }
 
+    #[inline]
     fn reserve(&mut self, n: usize) -> Result<(), AllocError> {
         // A path has no digits for a tree of more items.
         if n > MAX_LEN - self.len {
             return Err(AllocError);
         }
-        let wanted = (self.len + n).div_ceil(MIN_LEN);
-        if wanted <= self.nodes.capacity() {
+        if self.len + n <= self.nodes.capacity().saturating_mul(MIN_LEN) {
             return Ok(());
         }
-        self.nodes.reserve(self.alloc, wanted - self.nodes.len())
+        self.add_nodes(n)
     }
 
     fn insert_at(&mut self, before: Option<Edge>, item: T) -> Edge
