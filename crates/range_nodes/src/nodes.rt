@@ -304,6 +304,20 @@ impl<T: Drop> Nodes<T> {
         self.put(right, 0, down, 0, child);
     }
 
+    /// Moves so many items from the leaf after the item at `index` of a node to the one before it.
+    pub fn pass_left(&mut self, number: usize, index: usize, many: usize) {
+        let left = self.child_at(number, index);
+        let right = self.child_at(number, index + 1);
+        self.rows.pass_left(left, number, index, right, many);
+    }
+
+    /// Moves so many items from the leaf before the item at `index` of a node to the one after it.
+    pub fn pass_right(&mut self, number: usize, index: usize, many: usize) {
+        let left = self.child_at(number, index);
+        let right = self.child_at(number, index + 1);
+        self.rows.pass_right(left, number, index, right, many);
+    }
+
     /// Makes one node of the children around the item at `index` of a node, with that between.
     pub fn merge(&mut self, number: usize, index: usize)
         requires pair { HasPair self.old number index }

@@ -8,6 +8,7 @@ use crate::nodes::{CAPACITY, HALF};
 use crate::segment::{ROWS, Segment};
 use std::alloc::{AllocError, Global};
 use std::marker::Model;
+use std::mem;
 use std::vec::IntoIter;
 
 /// Up to `CAPACITY` items under each number from 0 on.
@@ -163,6 +164,27 @@ impl<T: Drop> Rows<T> {
             let item = self.take(from, left - 1);
             self.put(to, end, item);
             left -= 1;
+        }
+    }
+
+    /// Moves so many items from the end of a row to the front of another, over the one between.
+    pub fn pass_right(&mut self, left: usize, number: usize, index: usize, right: usize, many: usize) {
+        for _ in 0..many {
+            let last = self.row_len(left) - 1;
+            let up = self.take(left, last);
+            let down = mem::replace(self.item_mut(number, index), up);
+            self.put(right, 0, down);
+        }
+    }
+
+    /// Moves so many items from the front of a row to the end of another, over the one between.
+    pub fn pass_left(&mut self, left: usize, number: usize, index: usize, right: usize, many: usize) {
+        let mut end = self.row_len(left);
+        for _ in 0..many {
+            let up = self.take(right, 0);
+            let down = mem::replace(self.item_mut(number, index), up);
+            self.put(left, end, down);
+            end += 1;
         }
     }
 

@@ -19,16 +19,16 @@ fn fill_before<T: Drop>(nodes: &mut Nodes<T>, number: usize, edge: Edge) -> Edge
     ensures offset { offset nodes.new 1 number result ≡ offset nodes.old 1 number edge }
 {
     let index = first_turn(edge) - 1;
-    let before = nodes.child_at(number, index);
-    if edge.index <= MIN_LEN || nodes.item_count(before) == CAPACITY {
+    let before = nodes.item_count(nodes.child_at(number, index));
+    let many = (CAPACITY - before).min(edge.index - edge.index.min(MIN_LEN));
+    if many == 0 {
         return edge;
     }
-    nodes.rotate_left(number, index);
-    let earlier = Edge {
-        index: edge.index - 1,
+    nodes.pass_left(number, index, many);
+    Edge {
+        index: edge.index - many,
         ..edge
-    };
-    fill_before(nodes, number, earlier)
+    }
 }
 
 // Moves up to so many items from the leaf of an edge to the one after it, until that is full. Those
@@ -44,13 +44,12 @@ fn fill_behind<T: Drop>(nodes: &mut Nodes<T>, number: usize, edge: Edge, most: u
     ensures offset { offset nodes.new 1 number edge ≡ offset nodes.old 1 number edge }
 {
     let index = first_turn(edge);
-    let behind = nodes.child_at(number, index + 1);
-    let many = nodes.item_count(edge.leaf);
-    if most == 0 || many <= MIN_LEN || nodes.item_count(behind) == CAPACITY {
-        return;
+    let behind = nodes.item_count(nodes.child_at(number, index + 1));
+    let own = nodes.item_count(edge.leaf);
+    let many = (CAPACITY - behind).min(most).min(own - own.min(MIN_LEN));
+    if many > 0 {
+        nodes.pass_right(number, index, many);
     }
-    nodes.rotate_right(number, index);
-    fill_behind(nodes, number, edge, most - 1);
 }
 
 // Moves items from the leaf of an edge to the one before it under the same node, or from the first
