@@ -160,16 +160,19 @@ pub fn bind_in_order<K: Measure + Clone, V: Eq + Clone, C: Storage<Item<AnyRange
     ensures succeeds { ClonesNeverFail K.is_infallible → ClonesNeverFail V.is_infallible
         → 2 ≤ C.room stored.old → IsOk result }
 {
-    if comes_last::<K, V, C>(stored, &range) {
-        put_apart::<K, V, C>(stored, None, Item { key: range, value })?;
-        return Ok(());
-    }
-    if let Some(first) = comes_first::<K, V, C>(stored, &range) {
-        put_apart::<K, V, C>(stored, Some(first), Item { key: range, value })?;
-        return Ok(());
-    }
     let mut steps = Steps::new();
     if let Some(window) = outer_window::<K, V, C>(stored, &range) {
+        let is_last = window.from.is_none();
+        if is_last && comes_last::<K, V, C>(stored, &range) {
+            put_apart::<K, V, C>(stored, None, Item { key: range, value })?;
+            return Ok(());
+        }
+        if !is_last {
+            if let Some(first) = comes_first::<K, V, C>(stored, &range) {
+                put_apart::<K, V, C>(stored, Some(first), Item { key: range, value })?;
+                return Ok(());
+            }
+        }
         let ends = Ends {
             window,
             first: None,
