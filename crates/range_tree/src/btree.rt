@@ -1,5 +1,5 @@
 //! A container kept as a B-tree.
-ghost use Rattle.std.specs.Prelude.{◌≡◌, ◌+◌, ◌-◌, ◌*◌, ◌^◌, ◌<◌, ◌≤◌, ◌++◌, [], length, insert, MatchOption, Some, None};
+ghost use Rattle.std.specs.Prelude.{◌≡◌, ◌+◌, ◌-◌, ◌*◌, ◌^◌, ◌<◌, ◌≤◌, ◌++◌, [], length, insert, MatchOption, OnOk, Some, None};
 ghost use Rattle.std.specs.Option.{ForSome};
 ghost use Rattle.range_tree.specs.Depth.{HasLevels};
 ghost use Rattle.range_tree.specs.EndLeaves.{HasEndLeaves, HasEndLeaves-prop};
@@ -55,7 +55,7 @@ impl<T> BoxStorage<T> {
 }
 
 impl<T: Drop> BoxStorage<T> {
-    ghost use Rattle.range_tree.specs.Holding.{box_items, IsBoxEdge, IsGood, box_rank_or_len, edge_or_end};
+    ghost use Rattle.range_tree.specs.Holding.{box_items, box_rank, box_room, IsBoxEdge, IsGood, box_rank_or_len, edge_or_end};
 
     // Makes nodes for so many further items, of which the tree has too few. Out of line, since it is
     // rarely called.
