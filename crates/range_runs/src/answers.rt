@@ -75,10 +75,13 @@ pub fn put<K: PartialEnum + Clone, V: Eq + Drop>(
     }
     let start = clone_of(part.start)?;
     known_bound(&start);
-    items.push(Item {
+    if items.len() >= items.capacity() {
+        items.reserve(1)?;
+    }
+    items.push_reserved(Item {
         key: AnyRange { start, end },
         value,
-    })?;
+    });
     Ok(())
 }
 

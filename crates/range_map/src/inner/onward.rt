@@ -83,6 +83,15 @@ impl<'a, K: 'a, V: 'a, C: Storage<Item<AnyRange<K>, V>> + 'a> Onward<'a, K, V, C
     }
 }
 
+/// All stored ranges with their values. Allocates nothing.
+pub fn onward<K: PartialEnum, V: Eq + Drop, C: Storage<Item<AnyRange<K>, V>>>(
+    map: &RangeMap<K, V, C>,
+) -> Onward<'_, K, V, C>
+    ensures { result ≡ C.items map.now }
+{
+    Onward::new(&map.stored, map.stored.first())
+}
+
 /// The stored ranges from the first that ends at or after the key on, with their values.
 ///
 /// They are those that `iter_from` shows. Costs one search, and no comparison for a range that is

@@ -7,8 +7,9 @@ ghost use Rattle.range_runs.specs.declared.error.UpdateError.TheVariants.{Closur
 ghost use Rattle.range_merge.specs.Combining.{MayAnswerBoth, MayBeAskedOfBoth, AreCombined, IsCombination, MayFailOnBoth, MayGiveValueOnBoth};
 
 use crate::inner::build::map_of;
+use crate::inner::onward::onward;
 use crate::map::RangeMap;
-use crate::map::parts::{next_part, refilled};
+use crate::map::parts::{next_onward, refilled};
 use range_algebra::any::AnyRange;
 use range_keys::traits::PartialEnum;
 use range_merge::asking::ask_first;
@@ -50,10 +51,10 @@ fn gather_both<
     map.in_form();
     other.in_form();
     let mut answers = Vec::new(map.alloc);
-    let mut items = map.iter();
-    let mut others = other.iter();
-    let mut left = next_part(&mut items);
-    let mut right = next_part(&mut others);
+    let mut items = onward(map);
+    let mut others = onward(other);
+    let mut left = next_onward(&mut items);
+    let mut right = next_onward(&mut others);
     while let Some(rests) = ask_first(&mut answers, left, right, f)? {
         left = refilled(rests.left, &mut items);
         right = refilled(rests.right, &mut others);

@@ -4,6 +4,7 @@ ghost use Rattle.std.specs.Option.{option_map};
 ghost use Rattle.range_runs.specs.Window.{option_items};
 ghost use Rattle.range_merge.specs.Merged.{part_item};
 
+use crate::inner::onward::Onward;
 use crate::map::Iter;
 use range_algebra::any::AnyRange;
 use range_keys::traits::PartialEnum;
@@ -28,11 +29,28 @@ where
     })
 }
 
+/// The next stored range with its value.
+#[inline(always)]
+pub(crate) fn next_onward<'a, K, V, C>(items: &mut Onward<'a, K, V, C>) -> Option<Part<'a, K, V>>
+where
+    K: PartialEnum,
+    C: Storage<Item<AnyRange<K>, V>>,
+    ensures items { option_items (option_map part_item result) ++ items.new ≡ items.old }
+    ensures last { result ≡ None → items.new ≡ [] }
+{
+    let item = items.next()?;
+    Some(Part {
+        start: item.key.start_bound(),
+        range: &item.key,
+        value: &item.value,
+    })
+}
+
 /// What is left of a stored range, or the next one where nothing is.
 #[inline(always)]
 pub(crate) fn refilled<'a, K, V, C>(
     rest: Option<Part<'a, K, V>>,
-    items: &mut Iter<'a, K, V, C>,
+    items: &mut Onward<'a, K, V, C>,
 ) -> Option<Part<'a, K, V>>
 where
     K: PartialEnum,
@@ -43,6 +61,6 @@ where
 {
     match rest {
         Some(part) => Some(part),
-        None => next_part(items),
+        None => next_onward(items),
     }
 }
