@@ -17,6 +17,10 @@ pub(crate) fn starts_by<T: PartialEnum>(start: Bound<&T>, other: Bound<&T>) -> b
 {
     match (start, other) {
         (Bound::Included(first), Bound::Included(other_first)) => first.cmp(other_first).is_le(),
+        (Bound::Included(first), Bound::Excluded(before)) => match before.succ() {
+            Some(next) => first.cmp(&next).is_le(),
+            None => first.cmp(before).is_le(),
+        },
         _ => Directed::Start(start) <= Directed::Start(other),
     }
 }

@@ -9,9 +9,10 @@ ghost use Rattle.range_sets.specs.TwoSets.{HoldsBoth};
 
 use super::RangeSet;
 use crate::set::comparing::{ends_before, starts_by, starts_by_end};
-use crate::set::union::push_clone;
+use crate::set::union::{next_range, push_clone};
 use range_algebra::any::AnyRange;
 use range_keys::traits::PartialEnum;
+use range_map::inner::onward::onward;
 use range_store::storage::{Item, Storage};
 use std::alloc::AllocError;
 use std::ops::{Bound, RangeBounds};
@@ -87,17 +88,17 @@ where
         (HoldsBoth T.order (C.items set.now) (D.items other.now) ranges.new.items) }
     ensures form { OnOk result (IsStoredSet T.order ranges.new.items) }
 {
-    let mut items = set.iter();
-    let mut others = other.iter();
-    let mut left = items.next();
-    let mut right = others.next();
+    let mut items = onward(&set.map);
+    let mut others = onward(&other.map);
+    let mut left = next_range(&mut items);
+    let mut right = next_range(&mut others);
     while let Some((range, other_range)) = left.zip(right) {
         let (shared, is_first) = common(range, other_range);
         push_unless_empty(ranges, shared)?;
         if is_first {
-            left = items.next();
+            left = next_range(&mut items);
         } else {
-            right = others.next();
+            right = next_range(&mut others);
         }
     }
     Ok(())

@@ -12,11 +12,12 @@ ghost use Rattle.range_set_extend.specs.KeySets.{IsStoredSet};
 ghost use Rattle.range_sets.specs.Subtracting.{IsFront, IsFrontPushed, IsRest};
 ghost use Rattle.range_sets.specs.TwoSets.{HoldsFirstAlone};
 
-use super::{Iter, RangeSet};
+use super::RangeSet;
 use crate::set::comparing::{ends_before, starts_by, starts_by_end};
-use crate::set::union::push_clone;
+use crate::set::union::{next_range, push_clone};
 use range_algebra::any::AnyRange;
 use range_keys::traits::PartialEnum;
+use range_map::inner::onward::{Onward, onward};
 use range_runs::bounds::flip;
 use range_store::storage::{Item, Storage};
 use std::alloc::AllocError;
@@ -25,12 +26,12 @@ use std::ops::RangeBounds;
 /// The next range, as one over references.
 #[inline(always)]
 fn next_whole<'a, T: PartialEnum, C: Storage<Item<AnyRange<T>, ()>>>(
-    items: &mut Iter<'a, T, C>,
+    items: &mut Onward<'a, T, (), C>,
 ) -> Option<AnyRange<&'a T>>
     ensures ranges { option_items (option_map range_of result) ++ items.new ≡ items.old }
     ensures last { result ≡ None → items.new ≡ [] }
 {
-    let range = items.next()?;
+    let range = next_range(items)?;
     Some(AnyRange {
         start: range.start_bound(),
         end: range.end_bound(),
@@ -123,10 +124,10 @@ where
         (HoldsFirstAlone T.order (C.items set.now) (D.items other.now) ranges.new.items) }
     ensures form { OnOk result (IsStoredSet T.order ranges.new.items) }
 {
-    let mut items = set.iter();
-    let mut others = other.iter();
+    let mut items = onward(&set.map);
+    let mut others = onward(&other.map);
     let mut left = next_whole(&mut items);
-    let mut right = others.next();
+    let mut right = next_range(&mut others);
     while let Some(range) = left {
         match right {
             None => {
@@ -137,7 +138,7 @@ where
                 push_front(ranges, range, other)?;
                 if ends_before(other.end_bound(), range.end) {
                     left = Some(rest_past(range, other));
-                    right = others.next();
+                    right = next_range(&mut others);
                 } else {
                     left = next_whole(&mut items);
                 }

@@ -15,10 +15,22 @@ use range_algebra::any::AnyRange;
 use range_algebra::inner;
 use range_keys::bound::Directed;
 use range_keys::traits::PartialEnum;
+use range_map::inner::onward::{Onward, onward};
 use range_runs::bounds::flip;
 use range_store::storage::{Item, Storage};
 use std::alloc::AllocError;
 use std::ops::{Bound, RangeBounds};
+
+/// The next range.
+#[inline(always)]
+pub(crate) fn next_range<'a, T: PartialEnum, C: Storage<Item<AnyRange<T>, ()>>>(
+    items: &mut Onward<'a, T, (), C>,
+) -> Option<&'a AnyRange<T>> {
+    match items.next() {
+        Some(item) => Some(&item.key),
+        None => None,
+    }
+}
 
 /// The one of two ranges that starts first, and whether it is the one on the left.
 #[inline(always)]
@@ -82,7 +94,10 @@ pub(crate) fn push_clone<T: PartialEnum + Clone>(
 {
     let key = range.cloned()?;
     inner::known(&key);
-    ranges.push(Item { key, value: () })?;
+    if ranges.len() >= ranges.capacity() {
+        ranges.reserve(1)?;
+    }
+    ranges.push_reserved(Item { key, value: () });
     Ok(())
 }
 
@@ -129,10 +144,10 @@ where
         (HoldsEither T.order (C.items set.now) (D.items other.now) ranges.new.items) }
     ensures form { OnOk result (IsStoredSet T.order ranges.new.items) }
 {
-    let mut items = set.iter();
-    let mut others = other.iter();
-    let mut left = items.next();
-    let mut right = others.next();
+    let mut items = onward(&set.map);
+    let mut others = onward(&other.map);
+    let mut left = next_range(&mut items);
+    let mut right = next_range(&mut others);
     let mut last = match first_of(left, right) {
         Some((first, _)) => AnyRange {
             start: first.start_bound(),
@@ -143,9 +158,9 @@ where
     while let Some((range, is_left)) = first_of(left, right) {
         last = add(ranges, last, range)?;
         if is_left {
-            left = items.next();
+            left = next_range(&mut items);
         } else {
-            right = others.next();
+            right = next_range(&mut others);
         }
     }
     push_clone::<T>(ranges, last)
