@@ -4,24 +4,27 @@ ghost use Rattle.range_algebra.specs.Range.{ClonesAreEqual, IsKeyRange};
 ghost use Rattle.range_reads.specs.ListOrder.{IsCopyOf};
 ghost use Rattle.range_runs.specs.Canonical.{IsCanonical};
 
+use crate::inner::build::map_of;
+use crate::inner::onward::onward;
 use crate::map::RangeMap;
 use range_algebra::any::AnyRange;
 use range_algebra::inner;
 use range_keys::traits::PartialEnum;
 use range_store::storage::{Item, Storage};
 use std::alloc::{AllocError, Global};
-use std::marker::PhantomData;
 
-/// Goes over the items, and promises that their bounds are keys: a clone of a key promises no such
-/// thing.
-fn known_items<K: PartialEnum, V, C: Storage<Item<AnyRange<K>, V>>>(stored: &C)
-    ensures { All (λ i. IsKeyRange K.order i.key) (C.items stored.now) }
-{
-    let mut at = stored.first();
-    while let Some(p) = at {
-        inner::known(&stored.get(p).key);
-        at = stored.next(p);
+/// Clones of the items, as one list.
+fn clones_of<K: PartialEnum + Clone, V: Eq + Clone, C: Storage<Item<AnyRange<K>, V>>>(
+    map: &RangeMap<K, V, C>,
+) -> Result<Vec<Item<AnyRange<K>, V>>, AllocError> {
+    let mut copies = Vec::with_capacity(map.alloc, map.range_count())?;
+    let mut items = onward(map);
+    while let Some(item) = items.next() {
+        let copy = item.clone()?;
+        inner::known(&copy.key);
+        copies.push(copy)?;
     }
+    Ok(copies)
 }
 
 impl<K: PartialEnum, V: Eq + Drop, C: Storage<Item<AnyRange<K>, V>>> RangeMap<K, V, C> {
@@ -55,12 +58,6 @@ impl<K: PartialEnum + Clone, V: Eq + Clone, C: Storage<Item<AnyRange<K>, V>>> Ra
         ensures canonical { IfOk result (λ copy. IsCanonical K.order V.eq (C.items copy)) }
     {
         self.in_form();
-        let stored = self.stored.clone()?;
-        known_items::<K, V, C>(&stored);
-        Ok(RangeMap {
-            stored,
-            alloc: self.alloc,
-            item: PhantomData,
-        })
+        map_of(self.alloc, clones_of(self)?)
     }
 }
