@@ -22,6 +22,7 @@ mod in_place;
 mod insert;
 mod insert_disconnected;
 mod into_iter;
+mod kept;
 mod len;
 mod levels;
 mod lookup;

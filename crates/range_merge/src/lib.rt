@@ -13,4 +13,5 @@
 
 pub mod asking;
 pub mod comparing;
+pub mod cutting;
 pub mod merged;

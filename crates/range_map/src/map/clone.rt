@@ -22,7 +22,7 @@ fn clones_of<K: PartialEnum + Clone, V: Eq + Clone, C: Storage<Item<AnyRange<K>,
     while let Some(item) = items.next() {
         let copy = item.clone()?;
         inner::known(&copy.key);
-        copies.push(copy)?;
+        copies.push_reserved(copy);
     }
     Ok(copies)
 }

@@ -6,7 +6,9 @@ ghost use Rattle.range_merge.specs.Combining.{AreCombined};
 ghost use Rattle.range_map.specs.Overlays.{IsCopyOfValue, IsOverlaid, IsRestricted, IsSecondOrFirst, IsWithout, MayOverlay, first_where};
 ghost use Rattle.range_runs.specs.Canonical.{IsCanonical};
 
+use crate::inner::build::map_of;
 use crate::map::RangeMap;
+use crate::map::kept::{share, subtract};
 use range_algebra::any::AnyRange;
 use range_edit::error::MapError;
 use range_keys::traits::PartialEnum;
@@ -153,7 +155,9 @@ impl<K: PartialEnum + Clone, V: Eq + Clone, C: Storage<Item<AnyRange<K>, V>>> Ra
             (C.items new)) }
         ensures canonical { IfOk result (λ new. IsCanonical K.order V.eq (C.items new)) }
     {
-        self.kept_where(other, true)
+        let mut answers = Vec::new(self.alloc);
+        share(&mut answers, self, other)?;
+        Ok(map_of(self.alloc, answers)?)
     }
 
     /// A map that binds just those keys of this one that the other map does not bind, each as this
@@ -179,6 +183,8 @@ impl<K: PartialEnum + Clone, V: Eq + Clone, C: Storage<Item<AnyRange<K>, V>>> Ra
             (C.items new)) }
         ensures canonical { IfOk result (λ new. IsCanonical K.order V.eq (C.items new)) }
     {
-        self.kept_where(other, false)
+        let mut answers = Vec::new(self.alloc);
+        subtract(&mut answers, self, other)?;
+        Ok(map_of(self.alloc, answers)?)
     }
 }
