@@ -22,6 +22,7 @@ There may also be a line
     room 0..9             where standard output takes no more bytes than that, for each number of
                           the range
     closed                where nobody reads standard output any more
+    memory 40             where the program may have no more than so many MB of memory
 
 `\r`, `\x00` and the like stand for a byte, `\\` for a backslash, `\200{[}` for what is in the braces
 so many times, and a `\` at the end of a line takes that end away.
@@ -55,6 +56,7 @@ class Conversation:
     times: int = 1
     breaks: bool = False
     closed: bool = False
+    memory: int = 0
     rooms: list = dataclasses.field(default_factory=lambda: [None])
 
     def input(self):
@@ -90,7 +92,7 @@ def of_file(file):
             found[-1].lines.append((bytes_of(rest + b"\n"), b""))
         elif word == b"stderr":
             found[-1].errors += bytes_of(rest + b"\n")
-        elif word in (b"status", b"times"):
+        elif word in (b"status", b"times", b"memory"):
             setattr(found[-1], word.decode(), int(rest))
         elif word in (b"breaks", b"closed"):
             setattr(found[-1], word.decode(), True)
@@ -139,6 +141,8 @@ def play(program, talk, kind, room):
     def limit():
         resource.setrlimit(resource.RLIMIT_FSIZE, (size, size))
         resource.setrlimit(resource.RLIMIT_CPU, (CPU_SECONDS, CPU_SECONDS))
+        if talk.memory:
+            resource.setrlimit(resource.RLIMIT_AS, (talk.memory << 20, talk.memory << 20))
 
     how = {"preexec_fn": limit, "restore_signals": False, "stderr": subprocess.PIPE, "timeout": SECONDS}
     folder = program.parent.parent
@@ -161,8 +165,8 @@ def play_built(folder):
 
 
 def play_unproved(folder):
-    """Plays them once, with a program built without a proof, but for those with a stream that fails."""
-    talks = [it for it in of_crate(folder) if not it.breaks and not it.closed and it.rooms == [None]]
+    """Plays them once, with a program built without a proof, but for those with a stream that fails or a limit."""
+    talks = [it for it in of_crate(folder) if not it.breaks and not it.closed and not it.memory and it.rooms == [None]]
     files = [it.relative_to(folder) for it in sorted(folder.glob("data/*"))]
     flags = [word for it in files for word in ("--data", f"{it}={it}")]
     ended = cases(folder, {talk.name: (talk.input(), talk.words) for talk in talks}, flags)
